@@ -1,0 +1,4 @@
+pub mod Calls
+pub mod Connections
+pub mod Faults
+pub mod Memory

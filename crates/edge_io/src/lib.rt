@@ -1,0 +1,32 @@
+//! The edge of the program: traits for where bytes come from, where they go, how connections
+//! arrive and what time it is, with implementations in memory and over the operating system.
+//! A contract says which bytes moved where an object tells them, and that a failure comes only
+//! with a counted fault. What the system's input, output and clock really give is left to them.
+#![tactic(auto)]
+
+mod calls;
+mod clock;
+mod fault;
+mod fixed_clock;
+mod listener;
+mod memory_listener;
+mod memory_sink;
+mod memory_source;
+mod read_edge;
+mod sink;
+mod source;
+mod system_clock;
+mod write_edge;
+
+pub use clock::Clock;
+pub use fault::{Failed, SinkFault};
+pub use fixed_clock::FixedClock;
+pub use listener::Listener;
+pub use memory_listener::MemoryListener;
+pub use memory_sink::MemorySink;
+pub use memory_source::MemorySource;
+pub use read_edge::ReadEdge;
+pub use sink::Sink;
+pub use source::Source;
+pub use system_clock::SystemClock;
+pub use write_edge::WriteEdge;

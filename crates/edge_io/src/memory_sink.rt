@@ -1,0 +1,95 @@
+use crate::calls::Calls;
+use crate::fault::{Failed, SinkFault};
+use crate::sink::Sink;
+use std::alloc::{AllocError, Global};
+use std::marker::Model;
+
+/// A sink in memory, with writes that fail by their number.
+#[derive(Drop)]
+pub struct MemorySink {
+    bytes: Vec<u8>,
+    calls: Calls,
+}
+
+impl Model for MemorySink {
+    ghost use Rattle.edge_io.specs.Memory.{Store};
+
+    ghost Value = { Store };
+
+    ghost view = { λ s. record { held = s.bytes.items; calls = s.calls } };
+}
+
+impl MemorySink {
+    ghost use Rattle.std.specs.Prelude.{◌≡◌, [], IfOk};
+
+    /// A sink that holds nothing, whose writes with a number in `failing`, counted from 1, fail.
+    pub fn new(alloc: Global, failing: &[u64]) -> Result<MemorySink, AllocError>
+        ensures held { IfOk result (λ s. s.held ≡ []) }
+        ensures calls { IfOk result (λ s. s.calls ≡ record { failing = failing.now; made = 0; faults = 0 }) }
+    {
+        Ok(MemorySink {
+            bytes: Vec::new(alloc),
+            calls: Calls::new(alloc, failing)?,
+        })
+    }
+
+    /// The bytes taken so far.
+    pub fn bytes(&self) -> &[u8]
+        ensures { result.now ≡ self.now.held }
+    {
+        &self.bytes
+    }
+}
+
+impl Sink for MemorySink {
+    ghost use Rattle.std.specs.Prelude.{◌≡◌, ◌<◌, ◌↔◌, length, Some, IfOk, IsTrue};
+    ghost use Rattle.std.specs.Io.{WritesAtMost};
+    ghost use Rattle.std.specs.Io.KnownBytes.{WriteAppends};
+    ghost use Rattle.edge_io.specs.Calls.{after_call, fails_next};
+    ghost use Rattle.edge_io.specs.Faults.{HasCauseOf};
+
+    ghost held = { λ s. Some s.held };
+
+    ghost faults = { λ s. s.calls.faults };
+
+    fn write(&mut self, piece: &[u8]) -> Result<usize, SinkFault>
+        ensures bound { WritesAtMost result piece.now }
+        ensures moves { IfOk result (λ n. 0 < length piece.now → 0 < n) }
+        ensures bytes { WriteAppends (Some self.old.held) (Some self.new.held) result piece.now }
+        ensures cause { HasCauseOf self.old.calls.faults self.new.calls.faults result SinkFault.Failed }
+        ensures want { result ≡ Err SinkFault.Want → self.new.calls.faults ≡ self.old.calls.faults }
+        ensures whole { IfOk result (λ n. n ≡ length piece.now) }
+        ensures fails { (result ≡ Err SinkFault.Failed) ↔ IsTrue (fails_next self.old.calls) }
+        ensures calls { self.new.calls ≡ after_call self.old.calls }
+    {
+        match self.calls.count_next() {
+            Ok(()) => {}
+            Err(Failed) => return Err(SinkFault::Failed),
+        }
+        match self.bytes.extend_from_slice(piece) {
+            Ok(()) => Ok(piece.len()),
+            Err(AllocError) => Err(SinkFault::Want),
+        }
+    }
+}
+
+#[cfg(test)]
+mod tests {
+    use super::*;
+
+    #[test]
+    fn takes_whole_pieces_and_fails_by_number(rt: HostRuntime) -> Result<(), AllocError> {
+        for length in [1, 7, 65_536] {
+            let mut piece = Vec::new(rt.alloc());
+            piece.resize(length, b'x')?;
+            let mut sink = MemorySink::new(rt.alloc(), &[2])?;
+            assert_eq!(rt; sink.write(&piece), Ok(length));
+            assert_eq!(rt; sink.write(&piece), Err(SinkFault::Failed));
+            assert_eq!(rt; sink.bytes(), piece.as_slice());
+            assert_eq!(rt; sink.write(b""), Ok(0));
+            assert_eq!(rt; sink.write(b"end"), Ok(3));
+            assert_eq!(rt; &sink.bytes()[length..], b"end".as_slice());
+        }
+        Ok(())
+    }
+}

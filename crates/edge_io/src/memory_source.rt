@@ -1,0 +1,129 @@
+ghost use Rattle.std.specs.Prelude.{◌≡◌, ◌++◌, min, length, take, drop};
+
+use crate::calls::Calls;
+use crate::fault::Failed;
+use crate::source::Source;
+use std::alloc::{AllocError, Global};
+use std::marker::Model;
+
+/// Bytes in memory as a source, with reads that fail by their number and pieces of a given size.
+#[derive(Drop)]
+pub struct MemorySource {
+    bytes: Vec<u8>,
+    at: usize,
+    piece: usize,
+    calls: Calls,
+}
+
+impl Model for MemorySource {
+    ghost use Rattle.std.specs.Prelude.{◌<◌, ◌≤◌, drop, vec_len};
+    ghost use Rattle.edge_io.specs.Memory.{Supply};
+
+    ghost Value = { Supply };
+
+    ghost view = { λ s. record { left = drop s.at s.bytes.items; piece = s.piece; calls = s.calls } };
+
+    ghost invariant = { λ s. (s.at ≤ vec_len s.bytes) × (0 < s.piece) };
+}
+
+impl MemorySource {
+    ghost use Rattle.std.specs.Prelude.{◌≡◌, ◌≤◌, IfOk};
+
+    /// A source of `bytes` whose reads with a number in `failing`, counted from 1, fail.
+    pub fn new(alloc: Global, bytes: &[u8], failing: &[u64]) -> Result<MemorySource, AllocError>
+        ensures left { IfOk result (λ s. s.left ≡ bytes.now) }
+        ensures piece { IfOk result (λ s. s.piece ≡ usize.MAX) }
+        ensures calls { IfOk result (λ s. s.calls ≡ record { failing = failing.now; made = 0; faults = 0 }) }
+    {
+        Ok(MemorySource {
+            bytes: Vec::from_slice(alloc, bytes)?,
+            at: 0,
+            piece: usize::MAX,
+            calls: Calls::new(alloc, failing)?,
+        })
+    }
+
+    /// The same source, whose reads hand out at most `n` bytes each.
+    pub fn with_piece(mut self, n: usize) -> MemorySource
+        requires { 1 ≤ n }
+        ensures { result ≡ record { left = self.left; piece = n; calls = self.calls } }
+    {
+        self.piece = n;
+        self
+    }
+}
+
+impl Source for MemorySource {
+    ghost use Rattle.std.specs.Prelude.{◌≡◌, min, length, Some, IfOk, is_err};
+    ghost use Rattle.std.specs.Io.{ReadsAtMost};
+    ghost use Rattle.std.specs.Io.KnownBytes.{ReadConsumes};
+    ghost use Rattle.edge_io.specs.Calls.{after_call, fails_next};
+    ghost use Rattle.edge_io.specs.Faults.{HasCause};
+
+    ghost left = { λ s. Some s.left };
+
+    ghost faults = { λ s. s.calls.faults };
+
+    fn read(&mut self, into: &mut [u8]) -> Result<usize, Failed>
+        ensures bound { ReadsAtMost result into.new }
+        ensures bytes { ReadConsumes (Some self.old.left) (Some self.new.left) result into.new }
+        ensures cause { HasCause self.old.calls.faults self.new.calls.faults result }
+        ensures count { IfOk result (λ n. n ≡ min (min (length into.new) (length self.old.left)) self.old.piece) }
+        ensures fails { is_err result ≡ fails_next self.old.calls }
+        ensures calls { self.new.calls ≡ after_call self.old.calls }
+        ensures piece { self.new.piece ≡ self.old.piece }
+    {
+        self.calls.count_next()?;
+        let n = copy_front(&self.bytes[self.at..], into, self.piece);
+        self.at += n;
+        Ok(n)
+    }
+}
+
+// Copies the front of `from` to that of `into`: what both have room for, and at most `most` bytes.
+fn copy_front(from: &[u8], into: &mut [u8], most: usize) -> usize
+    ensures count { result ≡ min (min (length into.new) (length from.now)) most }
+    ensures front { from.now ≡ take result into.new ++ drop result from.now }
+{
+    let n = into.len().min(from.len()).min(most);
+    into[..n].copy_from_slice(&from[..n]);
+    n
+}
+
+#[cfg(test)]
+mod tests {
+    use super::*;
+
+    const TEXT: &[u8] = b"abcdefghijklmnopqrstuvwxyz";
+
+    #[test]
+    fn hands_out_pieces(rt: HostRuntime) -> Result<(), AllocError> {
+        let rows = [
+            (1, [1, 1, 1, 1]),
+            (7, [7, 7, 7, 5]),
+            (65_536, [10, 10, 6, 0]),
+        ];
+        for (piece, counts) in rows {
+            let mut source = MemorySource::new(rt.alloc(), TEXT, &[])?.with_piece(piece);
+            let mut into = [0; 10];
+            let mut text = Vec::new(rt.alloc());
+            for count in counts {
+                assert_eq!(rt; source.read(&mut into), Ok(count), "in pieces of {piece}");
+                text.extend_from_slice(&into[..count])?;
+            }
+            assert!(rt; TEXT.starts_with(&text), "in pieces of {piece}");
+        }
+        Ok(())
+    }
+
+    #[test]
+    fn fails_by_number(rt: HostRuntime) -> Result<(), AllocError> {
+        let mut source = MemorySource::new(rt.alloc(), b"abc", &[3, 1])?.with_piece(2);
+        let mut into = [0; 9];
+        for answer in [Err(Failed), Ok(2), Err(Failed), Ok(1), Ok(0), Ok(0)] {
+            assert_eq!(rt; source.read(&mut into), answer);
+        }
+        assert_eq!(rt; &into[..2], b"cb".as_slice());
+        Ok(())
+    }
+}

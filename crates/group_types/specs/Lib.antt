@@ -1,0 +1,4 @@
+pub mod Dimensions
+pub mod Shape
+pub mod Key
+pub mod Hash

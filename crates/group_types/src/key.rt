@@ -1,0 +1,95 @@
+ghost use Rattle.std.specs.Prelude.{◌≡◌, IfOk};
+ghost use Rattle.std.specs.Result.{IsErrOf};
+
+use crate::key_limits::is_key;
+use bytes::Bytes;
+use std::alloc::{AllocError, Global};
+use std::marker::Model;
+
+/// Why bytes are no key here.
+#[derive(Clone, Copy, Debug, PartialEq, Eq)]
+pub enum KeyFault {
+    BadKey,
+    Want,
+}
+
+/// A key of memcached: 1 to 250 bytes without control characters and spaces.
+#[derive(Debug, Drop, PartialEq, Eq, PartialOrd, Ord, Hash)]
+pub struct Key {
+    bytes: Bytes,
+}
+
+impl Model for Key {
+    ghost use Rattle.std.specs.Prelude.{ℕ, List};
+    ghost use Rattle.group_types.specs.Key.{IsKey};
+
+    ghost Value = { List ℕ };
+
+    ghost view = { λ k. k.bytes };
+
+    ghost invariant = { λ k. IsKey k.bytes };
+
+    ghost inverse = { λ bytes. record { bytes = bytes } };
+}
+
+impl Key {
+    ghost use Rattle.group_types.specs.Key.{IsKey};
+
+    pub fn read(alloc: Global, bytes: &[u8]) -> Result<Key, KeyFault>
+        ensures key { IfOk result (λ key. key ≡ bytes.now) }
+        ensures within { IfOk result (λ key. IsKey key) }
+        ensures bad { IsErrOf result KeyFault.BadKey → ¬ (IsKey bytes.now) }
+        ensures refused { ¬ (IsKey bytes.now) → IsErrOf result KeyFault.BadKey }
+    {
+        if !is_key(bytes) {
+            return Err(KeyFault::BadKey);
+        }
+        match Bytes::copy_from_slice(alloc, bytes) {
+            Ok(bytes) => Ok(Key { bytes }),
+            Err(AllocError) => Err(KeyFault::Want),
+        }
+    }
+
+    /// The bytes of the key.
+    pub fn bytes(&self) -> &[u8]
+        ensures value { result.now ≡ self.now }
+        ensures within { IsKey self.now }
+    {
+        self.bytes.as_slice()
+    }
+}
+
+impl Clone for Key {
+    ghost is_clone = { λ key copy. copy ≡ key };
+
+    fn clone(&self) -> Result<Key, AllocError> {
+        Ok(Key {
+            bytes: self.bytes.clone()?,
+        })
+    }
+}
+
+#[cfg(test)]
+mod tests {
+    use super::*;
+    use crate::hash::home;
+    use crate::process::Partition;
+    use std::test::Fail;
+
+    #[test]
+    fn reads_keys_and_finds_their_homes(rt: HostRuntime) -> Result<(), Fail> {
+        for (text, k, partition) in [
+            (b"a", 2, 0),
+            (b"b", 2, 1),
+            (b"c", 2, 0),
+            (b"g", 3, 0),
+            (b"a", 3, 1),
+            (b"c", 3, 2),
+        ] {
+            let key = Key::read(rt.alloc(), text)?.clone()?;
+            assert_eq!(rt; key.bytes(), text.as_slice());
+            assert_eq!(rt; home(&key, k), Partition(partition));
+        }
+        Ok(())
+    }
+}

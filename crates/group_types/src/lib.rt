@@ -1,0 +1,21 @@
+//! The small types that every part of a coding group speaks of: its shape, the names of its
+//! processes, keys, payloads and runs. Each contract says which values there are: a `Shape` and a
+//! `Key` are within their limits, and `home` is FNV-1a modulo the number of partitions. What the
+//! group does with them is left to the crates above.
+#![tactic(auto)]
+
+pub mod hash;
+pub mod key;
+pub mod key_limits;
+pub mod payload;
+pub mod process;
+pub mod run;
+pub mod shape;
+
+pub use hash::home;
+pub use key::{Key, KeyFault};
+pub use key_limits::is_key;
+pub use payload::Payload;
+pub use process::{Partition, ProcessId, Rank};
+pub use run::Run;
+pub use shape::{BadShape, Field, Shape};

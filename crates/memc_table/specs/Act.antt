@@ -1,0 +1,17 @@
+use Rattle.std.specs.Prelude.{ℕ, List}
+use Rattle.memc_table.specs.declared.act.Act.{Act}
+use Rattle.memc_table.specs.declared.act.Act.TheVariants.{Get, Set, Add, Replace, Cas, Delete, Touch, Append, Prepend, Incr, Decr}
+
+-- the key that is asked
+abbrev pub key_of : Act → List ℕ
+key_of (Get key) = key
+key_of (Set key _ _ _) = key
+key_of (Add key _ _ _) = key
+key_of (Replace key _ _ _) = key
+key_of (Cas key _ _ _ _) = key
+key_of (Delete key) = key
+key_of (Touch key _) = key
+key_of (Append key _) = key
+key_of (Prepend key _) = key
+key_of (Incr key _) = key
+key_of (Decr key _) = key
