@@ -4,6 +4,7 @@
 //! group does with them is left to the crates above.
 #![tactic(auto)]
 
+pub mod byte_list;
 pub mod hash;
 pub mod key;
 pub mod key_limits;
@@ -12,6 +13,7 @@ pub mod process;
 pub mod run;
 pub mod shape;
 
+pub use byte_list::ByteList;
 pub use hash::home;
 pub use key::{Key, KeyFault};
 pub use key_limits::is_key;

@@ -1,7 +1,9 @@
-ghost use Rattle.std.specs.Prelude.{◌≡◌, ◌≤◌, ◌<◌, ◌+◌, ◌^◌, ◌++◌, IfOk, Option, option_copied};
+ghost use Rattle.std.specs.Prelude.{◌≡◌, ◌≤◌, ◌<◌, ◌+◌, ◌^◌, ◌++◌, IfOk, option_copied};
 ghost use Rattle.std.specs.Fmt.{decimal};
 ghost use Rattle.memc_table.specs.Ruling.{ruling_of, anew, touched, changed, joined, counted, raised, lowered};
 ghost use Rattle.memc_table.specs.Numeral.{number_of};
+ghost use Rattle.memc_table.specs.declared.ruling.Ruling.TheVariants.{Accepted};
+ghost use Rattle.memc_table.specs.declared.reply.Reply.TheVariants.{Deleted};
 
 use crate::act::Act;
 use crate::expiry::until;
@@ -26,83 +28,81 @@ pub fn rule(
 ) -> Result<Ruling, AllocError>
     ensures { IfOk result (λ ruling. ruling ≡ ruling_of op.now.moment number op.now.act (option_copied live.entry)) }
 {
-    let now = op.now();
-    match (op.act(), live) {
-        (Act::Get { .. }, None) => Ok(Ruling::Refused(Reply::Miss)),
-        (Act::Get { .. }, Some(held)) => Ok(Ruling::Refused(Reply::Value(held.item.clone()?))),
-        (
-            Act::Set {
-                flags,
-                expiry,
-                value,
-                ..
-            },
-            _,
-        )
-        | (
-            Act::Add {
-                flags,
-                expiry,
-                value,
-                ..
-            },
-            None,
-        )
-        | (
-            Act::Replace {
-                flags,
-                expiry,
-                value,
-                ..
-            },
-            Some(_),
-        ) => store(now, number, *flags, *expiry, value),
-        (Act::Add { .. }, Some(_))
-        | (Act::Replace { .. }, None)
-        | (Act::Append { .. }, None)
-        | (Act::Prepend { .. }, None) => { Ok(Ruling::Refused(Reply::NotStored)) }
-        (
-            Act::Cas {
-                flags,
-                expiry,
-                cas,
-                value,
-                ..
-            },
-            Some(held),
-        ) => {
-            if held.item.cas == *cas {
-                store(now, number, *flags, *expiry, value)
-            } else {
-                Ok(Ruling::Refused(Reply::Exists))
-            }
+    match live {
+        None => rule_absent(op, number),
+        Some(held) => rule_present(alloc, op, number, held),
+    }
+}
+
+fn rule_absent(op: &Op, number: u64) -> Result<Ruling, AllocError>
+    ensures { IfOk result (λ ruling. ruling ≡ ruling_of op.now.moment number op.now.act None) }
+{
+    match op.act() {
+        Act::Get { .. } => Ok(Ruling::Refused(Reply::Miss)),
+        Act::Set {
+            flags,
+            expiry,
+            value,
+            ..
         }
-        (Act::Delete { .. }, Some(_)) => Ok(Ruling::Accepted {
-            reply: Reply::Deleted,
-            leaves: None,
-        }),
-        (Act::Touch { expiry, .. }, Some(held)) => touch(now, held, *expiry),
-        (Act::Append { value, .. }, Some(held)) => join(
-            alloc,
-            number,
-            held,
-            held.item.value.bytes(),
-            value.bytes(),
-        ),
-        (Act::Prepend { value, .. }, Some(held)) => join(
-            alloc,
-            number,
-            held,
-            value.bytes(),
-            held.item.value.bytes(),
-        ),
-        (Act::Incr { by, .. }, Some(held)) => raise(alloc, number, held, *by),
-        (Act::Decr { by, .. }, Some(held)) => lower(alloc, number, held, *by),
-        (Act::Cas { .. }, None)
-        | (Act::Delete { .. }, None)
-        | (Act::Touch { .. }, None)
-        | (Act::Incr { .. }, None)
-        | (Act::Decr { .. }, None) => { Ok(Ruling::Refused(Reply::NotFound)) }
+        | Act::Add {
+            flags,
+            expiry,
+            value,
+            ..
+        } => store(op.now(), number, *flags, *expiry, value),
+        Act::Replace { .. } | Act::Append { .. } | Act::Prepend { .. } => {
+            Ok(Ruling::Refused(Reply::NotStored))
+        }
+        Act::Cas { .. }
+        | Act::Delete { .. }
+        | Act::Touch { .. }
+        | Act::Incr { .. }
+        | Act::Decr { .. } => Ok(Ruling::Refused(Reply::NotFound)),
+    }
+}
+
+fn rule_present(alloc: Global, op: &Op, number: u64, held: &Holding) -> Result<Ruling, AllocError>
+    ensures { IfOk result (λ ruling. ruling ≡ ruling_of op.now.moment number op.now.act (Some held.now)) }
+{
+    let own = held.item.value.bytes();
+    match op.act() {
+        Act::Get { .. } => Ok(Ruling::Refused(Reply::Value(held.item.clone()?))),
+        Act::Cas { cas, .. } if held.item.cas != *cas => Ok(Ruling::Refused(Reply::Exists)),
+        Act::Set {
+            flags,
+            expiry,
+            value,
+            ..
+        }
+        | Act::Replace {
+            flags,
+            expiry,
+            value,
+            ..
+        }
+        | Act::Cas {
+            flags,
+            expiry,
+            value,
+            ..
+        } => store(op.now(), number, *flags, *expiry, value),
+        Act::Add { .. } => Ok(Ruling::Refused(Reply::NotStored)),
+        Act::Delete { .. } => Ok(delete()),
+        Act::Touch { expiry, .. } => touch(op.now(), held, *expiry),
+        Act::Append { value, .. } => join(alloc, number, held, own, value.bytes()),
+        Act::Prepend { value, .. } => join(alloc, number, held, value.bytes(), own),
+        Act::Incr { by, .. } => raise(alloc, number, held, *by),
+        Act::Decr { by, .. } => lower(alloc, number, held, *by),
+    }
+}
+
+fn delete() -> Ruling
+    ensures { result ≡ Accepted Deleted None }
+{
+    Ruling::Accepted {
+        reply: Reply::Deleted,
+        leaves: None,
     }
 }
 
@@ -175,20 +175,20 @@ fn join(
     })
 }
 
-fn raise(alloc: Global, number_now: u64, held: &Holding, by: u64) -> Result<Ruling, AllocError>
-    ensures { IfOk result (λ ruling. ruling ≡ raised number_now held.now by (number_of held.now.item.value)) }
+fn raise(alloc: Global, update: u64, held: &Holding, by: u64) -> Result<Ruling, AllocError>
+    ensures { IfOk result (λ ruling. ruling ≡ raised update held.now by (number_of held.now.item.value)) }
 {
     match number(held.item.value.bytes()) {
-        Some(value) => count(alloc, number_now, held, value.wrapping_add(by)),
+        Some(value) => count(alloc, update, held, value.wrapping_add(by)),
         None => Ok(Ruling::Refused(Reply::NotNumber)),
     }
 }
 
-fn lower(alloc: Global, number_now: u64, held: &Holding, by: u64) -> Result<Ruling, AllocError>
-    ensures { IfOk result (λ ruling. ruling ≡ lowered number_now held.now by (number_of held.now.item.value)) }
+fn lower(alloc: Global, update: u64, held: &Holding, by: u64) -> Result<Ruling, AllocError>
+    ensures { IfOk result (λ ruling. ruling ≡ lowered update held.now by (number_of held.now.item.value)) }
 {
     match number(held.item.value.bytes()) {
-        Some(value) => count(alloc, number_now, held, value.saturating_sub(by)),
+        Some(value) => count(alloc, update, held, value.saturating_sub(by)),
         None => Ok(Ruling::Refused(Reply::NotNumber)),
     }
 }

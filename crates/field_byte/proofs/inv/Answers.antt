@@ -1,0 +1,5 @@
+use Rattle.field_byte.proofs.Logarithms.{inverse_by_log}
+use Rattle.field_byte.proofs.inv.Goals as goal
+
+pub returns : goal.returns
+returns c = let by_log = inverse_by_log c.args.a c.ranges.a.fits c.requires in cc

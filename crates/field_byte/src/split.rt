@@ -1,0 +1,100 @@
+ghost use Rattle.std.specs.Prelude.{◌≡◌, ◌<◌};
+ghost use Rattle.field_byte.specs.Field.{product};
+ghost use Rattle.field_byte.specs.Halves.{products_of_nibbles};
+
+use std::marker::Model;
+
+/// One coefficient, prepared to be multiplied with many bytes: its products with the low and with
+/// the high four bits of a byte. Contracts see the coefficient alone.
+#[derive(Drop)]
+pub struct Split {
+    low: [u8; 16],
+    high: [u8; 16],
+}
+
+impl Model for Split {
+    ghost use Rattle.std.specs.Prelude.{ℕ, slice_index};
+    ghost use Rattle.field_byte.specs.Halves.{AreHalves};
+
+    ghost Value = { ℕ };
+
+    ghost view = { λ s. slice_index s.low 1 };
+
+    ghost invariant = { λ s. AreHalves (slice_index s.low 1) s.low s.high };
+}
+
+// At each number of four bits the sum of those of four bytes that its bits name.
+macro_rules! sums {
+    ($a:expr, $b:expr, $c:expr, $d:expr) => {
+        [
+            0, $a, $b, $a ^ $b, $c, $a ^ $c, $b ^ $c, $a ^ $b ^ $c,
+            $d, $a ^ $d, $b ^ $d, $a ^ $b ^ $d, $c ^ $d, $a ^ $c ^ $d, $b ^ $c ^ $d, $a ^ $b ^ $c ^ $d,
+        ]
+    };
+}
+
+// The product with 2.
+#[inline(always)]
+fn double(a: u8) -> u8
+    ensures { result ≡ product a 2 }
+{
+    (a << 1) ^ (a >> 7) * 0x1D
+}
+
+impl Split {
+    #[inline(always)]
+    pub fn of(coef: u8) -> Split
+        ensures { result ≡ coef }
+    {
+        let by_2 = double(coef);
+        let by_4 = double(by_2);
+        let by_8 = double(by_4);
+        let by_16 = double(by_8);
+        let by_32 = double(by_16);
+        let by_64 = double(by_32);
+        let by_128 = double(by_64);
+        Split {
+            low: sums!(coef, by_2, by_4, by_8),
+            high: sums!(by_16, by_32, by_64, by_128),
+        }
+    }
+
+    /// The products with 0 to 15.
+    #[inline(always)]
+    pub fn low(&self) -> &[u8; 16]
+        ensures products { result.now ≡ products_of_nibbles self.now 1 }
+        ensures byte { self.now < 256 }
+    {
+        &self.low
+    }
+
+    /// The products with 0, 16, 32 and so on to 240.
+    #[inline(always)]
+    pub fn high(&self) -> &[u8; 16]
+        ensures { result.now ≡ products_of_nibbles self.now 16 }
+    {
+        &self.high
+    }
+
+    /// The product of the coefficient and `b`.
+    pub fn mul(&self, b: u8) -> u8
+        ensures { result ≡ product self.now b }
+    {
+        self.low[(b & 15) as usize] ^ self.high[(b >> 4) as usize]
+    }
+}
+
+#[cfg(test)]
+mod tests {
+    use super::*;
+    use std::test::Fail;
+
+    #[test]
+    fn products_of_single_bits(rt: HostRuntime) -> Result<(), Fail> {
+        let split = Split::of(0x8E);
+        assert_eq!(rt; split.mul(0x02), 0x01);
+        assert_eq!(rt; split.mul(0x10), 0x08);
+        assert_eq!(rt; Split::of(0xF4).mul(0x03), 0x01);
+        Ok(())
+    }
+}

@@ -1,0 +1,5 @@
+pub mod Tables
+pub mod Updates
+pub mod Losses
+pub mod Takeovers
+pub mod TwoLost

@@ -1,0 +1,6 @@
+pub mod Script
+pub mod Tables
+pub mod Updates
+pub mod Losses
+pub mod Takeovers
+pub mod TwoLost

@@ -1,0 +1,119 @@
+-- Rows that decode lost blocks. Each is a script, by lines, and what it writes.
+use Rattle.std.specs.Prelude.{pos, [], ◌∷◌, codes}
+use Rattle.group_types.specs.declared.process.ProcessId.TheVariants.{DataNode, ParityNode}
+use Rattle.memc_table.specs.declared.act.Act.TheVariants.{Get, Set}
+use Rattle.memc_table.specs.declared.event.Event.TheVariants.{Collect, Deliver, Fail, Flush}
+use Rattle.group_rows.specs.Script.{Do, Drain, Show, ask, shape, writes}
+
+-- the code by hand
+abbrev pub CodeByHand : Type 0
+CodeByHand = writes (shape 2 1 4 16) (
+    ask 0 (DataNode 0) (Set (codes "a") 0 (pos 0) (65 ∷ [])) ∷
+    ask 1 (DataNode 1) (Set (codes "b") 0 (pos 0) (66 ∷ [])) ∷
+    Drain ∷
+    Show (ParityNode 0) 0 2 ∷
+    Do (Flush (DataNode 0)) ∷
+    Do (Flush (DataNode 1)) ∷
+    Drain ∷
+    Show (ParityNode 0) 0 2 ∷
+    Show (DataNode 1) 0 2 ∷
+    Do (Fail (DataNode 1) 0) ∷
+    ask 1 (ParityNode 0) (Get (codes "b")) ∷
+    Drain ∷
+    ask 1 (ParityNode 0) (Get (codes "b")) ∷
+    Drain ∷
+    ask 1 (ParityNode 0) (Get (codes "b")) ∷ [])
+    (
+    codes "ticket 1" ∷
+    codes "ticket 1" ∷
+    codes "= 0.0 set a 0 41 stored" ∷
+    codes "= 1.0 set b 0 42 stored" ∷
+    codes "drained 4" ∷
+    codes "shown 0,0 0000" ∷
+    codes "done" ∷
+    codes "done" ∷
+    codes "drained 2" ∷
+    codes "shown 1,1 6000" ∷
+    codes "shown 1 4200" ∷
+    codes "done" ∷
+    codes "moved" ∷
+    codes "drained 2" ∷
+    codes "retry block 0" ∷
+    codes "drained 3" ∷
+    codes "reply value 0 1 42" ∷
+    codes "= 1.3 get b value 0 1 42" ∷ [])
+
+-- an update is settled, its settling isn't sent, and its head fails
+abbrev pub SettledUnsent : Type 0
+SettledUnsent = writes (shape 2 2 4 16) (
+    ask 0 (DataNode 0) (Set (codes "a") 0 (pos 0) (65 ∷ [])) ∷
+    Drain ∷
+    Do (Collect 0 0 (DataNode 0)) ∷
+    Do (Fail (DataNode 0) 0) ∷
+    ask 1 (ParityNode 0) (Get (codes "a")) ∷
+    Do (Deliver (DataNode 0) (ParityNode 0)) ∷
+    ask 1 (ParityNode 0) (Get (codes "a")) ∷
+    Drain ∷
+    Show (ParityNode 0) 0 1 ∷
+    ask 1 (ParityNode 0) (Get (codes "a")) ∷
+    Drain ∷
+    ask 1 (ParityNode 0) (Get (codes "a")) ∷ [])
+    (
+    codes "ticket 1" ∷
+    codes "= 0.0 set a 0 41 stored" ∷
+    codes "drained 4" ∷
+    codes "reply stored" ∷
+    codes "done" ∷
+    codes "moved" ∷
+    codes "done" ∷
+    codes "retry pending 0 1" ∷
+    codes "drained 4" ∷
+    codes "shown 1,0 ae" ∷
+    codes "retry block 0" ∷
+    codes "drained 3" ∷
+    codes "reply value 0 1 41" ∷
+    codes "= 1.3 get a value 0 1 41" ∷ [])
+
+-- an update comes to a row between a mark and the end of the session
+abbrev pub MarkedRow : Type 0
+MarkedRow = writes (shape 3 1 1 16) (
+    ask 0 (DataNode 1) (Set (codes "a") 0 (pos 0) (16 ∷ [])) ∷
+    Drain ∷
+    Do (Flush (DataNode 1)) ∷
+    Drain ∷
+    Do (Fail (DataNode 1) 0) ∷
+    Drain ∷
+    ask 0 (ParityNode 0) (Get (codes "a")) ∷
+    Do (Deliver (ParityNode 0) (DataNode 0)) ∷
+    ask 1 (DataNode 0) (Set (codes "g") 0 (pos 0) (7 ∷ [])) ∷
+    Do (Deliver (DataNode 0) (ParityNode 0)) ∷
+    Do (Deliver (DataNode 0) (ParityNode 0)) ∷
+    Do (Deliver (DataNode 0) (ParityNode 0)) ∷
+    Do (Deliver (ParityNode 0) (DataNode 0)) ∷
+    Do (Flush (DataNode 0)) ∷
+    Do (Deliver (DataNode 0) (ParityNode 0)) ∷
+    Show (ParityNode 0) 0 1 ∷
+    Drain ∷
+    ask 0 (ParityNode 0) (Get (codes "a")) ∷ [])
+    (
+    codes "ticket 1" ∷
+    codes "= 0.0 set a 0 10 stored" ∷
+    codes "drained 2" ∷
+    codes "done" ∷
+    codes "drained 1" ∷
+    codes "done" ∷
+    codes "drained 3" ∷
+    codes "retry block 0" ∷
+    codes "done" ∷
+    codes "ticket 1" ∷
+    codes "done" ∷
+    codes "done" ∷
+    codes "done" ∷
+    codes "done" ∷
+    codes "= 1.0 set g 0 07 stored" ∷
+    codes "done" ∷
+    codes "done" ∷
+    codes "shown 1,1,0 0f" ∷
+    codes "drained 3" ∷
+    codes "reply value 0 1 10" ∷
+    codes "= 0.2 get a value 0 1 10" ∷ [])

@@ -1,0 +1,17 @@
+pub mod Lists
+pub mod Names
+pub mod Replica
+pub mod Free
+pub mod Code
+pub mod Process
+pub mod Applying
+pub mod Deciding
+pub mod Heading
+pub mod Sessions
+pub mod Asking
+pub mod Receiving
+pub mod World
+pub mod Draining
+pub mod Meaning
+pub mod Headline
+pub mod Locality

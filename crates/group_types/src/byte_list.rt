@@ -1,0 +1,51 @@
+ghost use Rattle.std.specs.Prelude.{◌≡◌, IfOk};
+
+use std::alloc::{AllocError, Global};
+use std::marker::Model;
+
+/// Bytes that have one owner and move from place to place, where a `Payload` is shared.
+#[derive(Debug, Drop)]
+pub struct ByteList {
+    bytes: Vec<u8>,
+}
+
+impl Model for ByteList {
+    ghost use Rattle.std.specs.Prelude.{ℕ, List};
+
+    ghost Value = { List ℕ };
+
+    ghost view = { λ list. list.bytes.items };
+}
+
+impl ByteList {
+    /// A list of its own with these bytes.
+    pub fn of(alloc: Global, bytes: &[u8]) -> Result<ByteList, AllocError>
+        ensures { IfOk result (λ list. list ≡ bytes.now) }
+    {
+        let bytes = Vec::from_slice(alloc, bytes)?;
+        Ok(ByteList { bytes })
+    }
+
+    /// The bytes, in order.
+    pub fn bytes(&self) -> &[u8]
+        ensures { result.now ≡ self.now }
+    {
+        &self.bytes
+    }
+}
+
+impl From<Vec<u8>> for ByteList {
+    ghost from_gives = { λ bytes list. list ≡ bytes.items };
+
+    fn from(bytes: Vec<u8>) -> ByteList {
+        ByteList { bytes }
+    }
+}
+
+impl From<ByteList> for Vec<u8> {
+    ghost from_gives = { λ list bytes. bytes.items ≡ list };
+
+    fn from(list: ByteList) -> Vec<u8> {
+        list.bytes
+    }
+}

@@ -1,0 +1,185 @@
+//! An index of items: a finite map from keys to slots, with a set of keys that are ready.
+//! Its contract says what a look-up of each key gives after each call, and that an entry is put at a
+//! ready key without memory. What a slot refers to is left to the caller.
+#![tactic(auto)]
+
+ghost use Rattle.std.specs.Prelude.{true, ◌≡◌, [], IsTrue, IsSome, IfOk, OnOk, OnErr, option_copied, ◌||◌, ◌&&◌, not, is_some, Some, None, if◌then◌else◌};
+ghost use Rattle.item_index.specs.Keys.{slot_of, is_ready, count_of, IsListing, CopiesEqual};
+
+use indexmap::IndexMap;
+pub use list::SlotList;
+pub use slot::Slot;
+use std::alloc::{AllocError, Global};
+use std::hash::Hash;
+use std::marker::Model;
+
+mod list;
+mod slot;
+
+/// Items by key. A key that has an entry is ready.
+#[derive(Debug, Drop)]
+pub struct Index<K: Eq + Hash> {
+    slots: IndexMap<K, Option<Slot>>,
+    alloc: Global,
+}
+
+impl<K: Eq + Hash> Model for Index<K> {
+    ghost use Rattle.std.specs.Prelude.{List, Option};
+    ghost use Rattle.item_index.specs.declared.slot.Slot.{Slot};
+
+    ghost Value = { List (K × Option Slot) };
+
+    ghost view = { λ index. index.slots.entries };
+}
+
+impl<K: Eq + Hash + Clone> Index<K> {
+    /// No entries, and no key is ready.
+    pub fn new(alloc: Global) -> Self
+        ensures { result ≡ [] }
+    {
+        Self {
+            slots: IndexMap::new(alloc),
+            alloc,
+        }
+    }
+
+    /// The entry of the key.
+    pub fn get(&self, key: &K) -> Option<&Slot>
+        ensures { option_copied result ≡ slot_of K.eq self.now key.now }
+    {
+        self.slots.get(key)?.as_ref()
+    }
+
+    /// Makes the key ready.
+    pub fn prepare(&mut self, key: &K) -> Result<(), AllocError>
+        requires copies { CopiesEqual K.is_clone }
+        ensures slots { (q : K) → slot_of K.eq self.new q ≡ slot_of K.eq self.old q }
+        ensures ready { OnOk result ((q : K) → is_ready K.eq self.new q ≡ (K.eq key.now q || is_ready K.eq self.old q)) }
+        ensures err { OnErr result (self.new ≡ self.old) }
+    {
+        if !self.slots.contains_key(key) {
+            self.slots.insert(key.clone()?, None)?;
+        }
+        Ok(())
+    }
+
+    /// Gives the key this entry. It takes no memory.
+    pub fn put(&mut self, key: &K, slot: Slot)
+        requires { is_ready K.eq self.old key.now ≡ true }
+        ensures slots { (q : K) → slot_of K.eq self.new q ≡ (if K.eq key.now q then Some slot else slot_of K.eq self.old q) }
+        ensures ready { (q : K) → is_ready K.eq self.new q ≡ is_ready K.eq self.old q }
+    {
+        match self.slots.get_mut(key) {
+            Some(place) => *place = Some(slot),
+            None => unreachable!(),
+        }
+    }
+
+    /// Takes the entry of the key away. A ready key stays ready.
+    pub fn remove(&mut self, key: &K)
+        ensures slots { (q : K) → slot_of K.eq self.new q ≡ (if K.eq key.now q then None else slot_of K.eq self.old q) }
+        ensures ready { (q : K) → is_ready K.eq self.new q ≡ is_ready K.eq self.old q }
+    {
+        if let Some(place) = self.slots.get_mut(key) {
+            *place = None;
+        }
+    }
+
+    /// Ends the readiness of the key where it has no entry.
+    pub fn tidy(&mut self, key: &K)
+        ensures slots { (q : K) → slot_of K.eq self.new q ≡ slot_of K.eq self.old q }
+        ensures ready { (q : K) → is_ready K.eq self.new q
+            ≡ (if K.eq key.now q then is_some (slot_of K.eq self.old q) else is_ready K.eq self.old q) }
+    {
+        if self.get(key).is_none() {
+            self.slots.swap_remove(key);
+        }
+    }
+
+    /// How many keys have an entry, counted one by one.
+    pub fn count(&self) -> usize
+        ensures { result ≡ count_of self.now }
+    {
+        self.slots.values().filter(|slot| slot.is_some()).count()
+    }
+
+    /// A copy of all entries.
+    pub fn entries(&self) -> Result<SlotList<K>, AllocError>
+        requires copies { CopiesEqual K.is_clone }
+        ensures { IfOk result (IsListing K.eq self.now) }
+    {
+        let mut pairs = Vec::new(self.alloc);
+        'pairs: for (key, slot) in self.slots.iter() {
+            if let Some(slot) = slot {
+                pairs.push((key.clone()?, *slot))?;
+            }
+        }
+        Ok(SlotList::new(pairs))
+    }
+}
+
+#[cfg(test)]
+mod tests {
+    use super::*;
+    use bytes::Bytes;
+    use std::test::Fail;
+
+    #[derive(Debug, Drop, Clone, PartialEq, Eq, Hash)]
+    struct Name {
+        bytes: Bytes,
+    }
+
+    impl Model for Name {
+        ghost use Rattle.std.specs.Prelude.{ℕ, List};
+
+        ghost Value = { List ℕ };
+
+        ghost view = { λ name. name.bytes };
+
+        ghost inverse = { λ bytes. record { bytes = bytes } };
+    }
+
+    fn name_of(alloc: Global, bytes: &[u8]) -> Result<Name, AllocError> {
+        Ok(Name {
+            bytes: Bytes::copy_from_slice(alloc, bytes)?,
+        })
+    }
+
+    #[test]
+    fn lists_each_entry_once(rt: HostRuntime) -> Result<(), Fail> {
+        let alloc = rt.alloc();
+        let mut index = Index::new(alloc);
+        let (first, second) = (name_of(alloc, b"a")?, name_of(alloc, b"b")?);
+        let slot = Slot {
+            at: 3,
+            len: 4,
+            flags: 5,
+            cas: 6,
+            until: Some(7),
+        };
+        index.prepare(&first)?;
+        index.prepare(&second)?;
+        index.put(&first, slot);
+        index.put(&second, slot);
+        index.put(
+            &first,
+            Slot {
+                until: None,
+                ..slot
+            },
+        );
+        assert_eq!(rt;
+            index.get(&first),
+            Some(&Slot {
+                until: None,
+                ..slot
+            })
+        );
+        assert_eq!(rt; index.entries()?.as_slice().len(), 2);
+        index.remove(&first);
+        index.tidy(&first);
+        assert_eq!(rt; index.get(&first), None);
+        assert_eq!(rt; index.count(), 1);
+        Ok(())
+    }
+}

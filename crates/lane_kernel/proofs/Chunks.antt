@@ -1,0 +1,96 @@
+-- What a loop over bytes or vectors has written.
+use Rattle.std.proofs.Common.{◌≡◌, ◌≢◌, ℕ, ◌+◌, ◌-◌, ◌<◌, ◌≤◌, List, length, get_or, set, bit_xor, inl, inr, sym, ap, ◌∙◌, refl, arith, get_or-set_other, get_or-set_same, length-set}
+use Rattle.std.specs.Simd.Lanes.{chunk, put_chunk}
+use Rattle.std.proofs.lemmas.Bool.{cases_lt}
+use Rattle.std.proofs.lemmas.Grind.{same_number_lists}
+use Rattle.std.proofs.lemmas.Simd.{length-chunk, length-put_chunk, get_or-chunk, get_or-put_chunk_below, get_or-put_chunk_at, get_or-put_chunk_above}
+use Rattle.field_byte.specs.Vectors.{add_bytes, scale}
+use Rattle.field_byte.proofs.Vectors.{length-add_bytes, length-scale, get_or-add_bytes, chunk-add_bytes, chunk-scale}
+
+-- before the place at, now is as whole, and from it on as old
+pub record Written (at : ℕ) (old whole now : List ℕ) : Type 0 where
+  pub long : length now ≡ length old
+  pub done : (k : ℕ) → k < at → get_or now k 0 ≡ get_or whole k 0
+  pub left : (k : ℕ) → at ≤ k → get_or now k 0 ≡ get_or old k 0
+
+pub none_written : (old whole : List ℕ) → Written 0 old whole old
+none_written old whole = record { long = refl; done = λ k below. absurd (omega arith); left = λ k above. refl }
+
+pub byte_written : (at : ℕ) (old whole now : List ℕ) (x : ℕ) → at < length old → x ≡ get_or whole at 0 → Written at old whole now → Written (at + 1) old whole (set now at x)
+byte_written at old whole now x within is before = record {
+  long = length-set now at x ∙ before.long;
+  done = λ k below. elim (cases_lt k at) [
+    | inl earlier ↦ let other : k ≢ at = omega arith in rw get_or-set_other (before.done k earlier)
+    | inr here ↦
+        let same : k ≡ at = omega arith in
+        let in_now : at < length now = omega (arith, before.long) in
+        ap (λ j. get_or (set now at x) j 0) same ∙ ((rw get_or-set_same is) ∙ ap (λ j. get_or whole j 0) (sym same))
+  ];
+  left = λ k above. let other : k ≢ at = omega arith in rw get_or-set_other (before.left k (omega arith));
+}
+
+pub byte_added : (at : ℕ) (old terms now : List ℕ) (x : ℕ) → length old ≡ length terms → at < length old → x ≡ bit_xor (get_or now at 0) (get_or terms at 0)
+    → Written at old (add_bytes old terms) now → Written (at + 1) old (add_bytes old terms) (set now at x)
+byte_added at old terms now x same within is before =
+    byte_written at old (add_bytes old terms) now x within
+    (is ∙ (ap (λ y. bit_xor y (get_or terms at 0)) (before.left at (omega arith)) ∙ sym (get_or-add_bytes old terms at same))) before
+
+chunk_left : (at n : ℕ) (old whole now : List ℕ) → at + n ≤ length old → Written at old whole now → chunk at n now ≡ chunk at n old
+chunk_left at n old whole now within before =
+    let now_long = length-chunk at n now (omega (arith, before.long)) in
+    same_number_lists _ _ (now_long ∙ sym (length-chunk at n old within)) (λ k below.
+    let lane : k < n = omega arith in
+    get_or-chunk at n now k 0 lane ∙ (before.left (at + k) (omega arith) ∙ sym (get_or-chunk at n old k 0 lane)))
+
+vector_done : (at n : ℕ) (whole now sum : List ℕ) → at + n ≤ length now → length whole ≡ length now → sum ≡ chunk at n whole → ((k : ℕ) → k < at → get_or now k 0 ≡ get_or whole k 0)
+    → (k : ℕ) → k < at + n → get_or (put_chunk at now sum) k 0 ≡ get_or whole k 0
+vector_done at n whole now sum within same is done k below =
+    let wide : length sum ≡ n = ap length is ∙ length-chunk at n whole (omega arith) in
+    elim (cases_lt k at) [
+      | inl earlier ↦ get_or-put_chunk_below at now sum k 0 earlier ∙ done k earlier
+      | inr here ↦
+          let lane : k - at < n = omega arith in
+          let place : k ≡ at + (k - at) = omega arith in
+          ap (λ j. get_or (put_chunk at now sum) j 0) place
+          ∙ (get_or-put_chunk_at at now sum (k - at) 0 (omega arith) (omega arith)
+          ∙ (ap (λ l. get_or l (k - at) 0) is ∙ (get_or-chunk at n whole (k - at) 0 lane ∙ ap (λ j. get_or whole j 0) (sym place))))
+    ]
+
+vector_written : (at n : ℕ) (old whole now sum : List ℕ) → at + n ≤ length old → length whole ≡ length old → sum ≡ chunk at n whole → Written at old whole now → Written (at + n) old whole (put_chunk at now sum)
+vector_written at n old whole now sum within same is before =
+    let wide : length sum ≡ n = ap length is ∙ length-chunk at n whole (omega arith) in
+    record {
+      long = length-put_chunk at now sum ∙ before.long;
+      done = vector_done at n whole now sum (omega (arith, before.long)) (same ∙ sym before.long) is before.done;
+      left = λ k above. get_or-put_chunk_above at now sum k 0 (omega arith) ∙ before.left k (omega arith);
+    }
+
+pub all_written : (at : ℕ) (old whole now : List ℕ) → length old ≤ at → length whole ≡ length old → Written at old whole now → now ≡ whole
+all_written at old whole now over same written = same_number_lists now whole (written.long ∙ sym same) (λ k below. written.done k (omega (arith, written.long)))
+
+module _ (coef : ℕ) (src old : List ℕ) (same : length src ≡ length old) where
+  abbrev pub sums : List ℕ
+  sums = add_bytes old (scale coef src)
+
+  pub scaled : length old ≡ length (scale coef src)
+  scaled = sym (length-scale coef src ∙ same)
+
+  pub length-sums : length sums ≡ length old
+  length-sums = length-add_bytes old (scale coef src) scaled
+
+  sum_of_chunks : (at n : ℕ) → add_bytes (chunk at n old) (scale coef (chunk at n src)) ≡ chunk at n sums
+  sum_of_chunks at n = sym (chunk-add_bytes at n old (scale coef src) scaled ∙ ap (add_bytes (chunk at n old)) (chunk-scale coef at n src))
+
+  -- a vector's sum goes to its place
+  pub product_written : (at n : ℕ) (now sum : List ℕ) → at + n ≤ length old → sum ≡ add_bytes (chunk at n now) (scale coef (chunk at n src)) → Written at old sums now → Written (at + n) old sums (put_chunk at now sum)
+  product_written at n now sum within is before =
+      let unread = chunk_left at n old sums now within before in
+      vector_written at n old sums now sum within length-sums
+      (is ∙ (ap (λ l. add_bytes l (scale coef (chunk at n src))) unread ∙ sum_of_chunks at n)) before
+
+  -- the last vector, summed at first, closes what the others left
+  pub last_written : (at end n : ℕ) (now last : List ℕ) → end + n ≡ length old → end ≤ at → last ≡ add_bytes (chunk end n old) (scale coef (chunk end n src)) → Written at old sums now → put_chunk end now last ≡ sums
+  last_written at end n now last at_end reached is before =
+      same_number_lists _ sums (length-put_chunk end now last ∙ (before.long ∙ sym length-sums)) (λ k below.
+      vector_done end n sums now last (omega (arith, before.long)) (length-sums ∙ sym before.long) (is ∙ sum_of_chunks end n) (λ j earlier. before.done j (omega arith)) k
+      (omega (arith, before.long, length-put_chunk end now last)))

@@ -1,0 +1,119 @@
+//! The outgoing links of a process: one list of messages per target, in the order of sending.
+//! Its contract says what each call leaves in the list of its target, that every other list stays,
+//! and how many more messages fit without memory. What a message means is left to the caller.
+#![tactic(auto)]
+
+ghost use Rattle.std.specs.Prelude.{◌≡◌, ℕ, ◌-◌, ◌<◌, ◌≤◌, ◌==◌, [], ◌∷◌, ◌++◌, length, take, drop, replicate, slice_get, IfOk, OnOk, option_copied};
+ghost use Rattle.link_core.specs.Outgoing.{link_to, empty_link, with_link};
+
+use link::Link;
+use std::alloc::{AllocError, Global};
+use std::marker::Model;
+
+mod link;
+
+/// The links of one process to all targets.
+#[derive(Drop)]
+pub struct Links<M> {
+    links: Vec<Link<M>>,
+}
+
+impl<M> Model for Links<M> {
+    ghost use Rattle.std.specs.Prelude.{List};
+    ghost use Rattle.link_core.specs.Outgoing as outgoing;
+
+    ghost Value = { List (outgoing.Link M) };
+
+    ghost view = { λ links. links.links.items };
+}
+
+impl<M: Drop> Links<M> {
+    /// Empty links to `targets` targets, without room.
+    pub fn new(alloc: Global, targets: u32) -> Result<Self, AllocError>
+        ensures { IfOk result (λ links. links ≡ replicate targets empty_link) }
+    {
+        let mut links = Vec::with_capacity(alloc, targets as usize)?;
+        'targets: for _ in 0..targets {
+            links.push(Link::new(alloc))?;
+        }
+        Ok(Self { links })
+    }
+
+    /// Makes room for `each` messages to every target.
+    pub fn reserve(&mut self, each: u32) -> Result<(), AllocError>
+        ensures many { length self.new ≡ length self.old }
+        ensures messages { (to : ℕ) → (link_to self.new to).messages ≡ (link_to self.old to).messages }
+        ensures spare { (to : ℕ) → (link_to self.old to).spare ≤ (link_to self.new to).spare }
+        ensures ok { OnOk result ((to : ℕ) → to < length self.new → each ≤ (link_to self.new to).spare) }
+    {
+        'targets: for to in 0..self.links.len() {
+            self.links[to].reserve(each as usize)?;
+        }
+        Ok(())
+    }
+
+    /// Adds a message behind those to this target. It takes no memory.
+    pub fn send(&mut self, to: u32, message: M)
+        requires target { to < length self.old }
+        requires room { 0 < (link_to self.old to).spare }
+        ensures { self.new ≡ with_link self.old to ((link_to self.old to).messages ++ message ∷ []) ((link_to self.old to).spare - 1) }
+    {
+        self.links[to as usize].send(message);
+    }
+
+    /// The first message to this target.
+    pub fn peek(&self, to: u32) -> Option<&M>
+        requires { to < length self.now }
+        ensures { option_copied result ≡ slice_get (link_to self.now to).messages 0 }
+    {
+        self.links[to as usize].peek()
+    }
+
+    /// Takes the first message to this target.
+    pub fn pop(&mut self, to: u32) -> Option<M>
+        requires { to < length self.old }
+        ensures first { result ≡ slice_get (link_to self.old to).messages 0 }
+        ensures rest { self.new ≡ with_link self.old to (drop 1 (link_to self.old to).messages) (link_to self.old to).spare }
+    {
+        self.links[to as usize].pop()
+    }
+
+    /// Keeps the first `keep` messages to this target, all of them if there are fewer.
+    pub fn cut(&mut self, to: u32, keep: u32)
+        requires { to < length self.old }
+        ensures { self.new ≡ with_link self.old to (take keep (link_to self.old to).messages) (link_to self.old to).spare }
+    {
+        self.links[to as usize].cut(keep as usize);
+    }
+
+    /// Whether no message waits for this target.
+    pub fn is_empty(&self, to: u32) -> bool
+        requires { to < length self.now }
+        ensures { result ≡ (length (link_to self.now to).messages == 0) }
+    {
+        self.links[to as usize].is_empty()
+    }
+}
+
+#[cfg(test)]
+mod tests {
+    use super::*;
+    use std::test::Fail;
+
+    #[test]
+    fn keeps_the_order_of_each_target(rt: HostRuntime) -> Result<(), Fail> {
+        let mut links = Links::new(rt.alloc(), 2)?;
+        links.reserve(3)?;
+        links.send(1, 7u32);
+        links.send(1, 8);
+        links.send(0, 9);
+        links.send(1, 10);
+        assert_eq!(rt; links.peek(1), Some(&7));
+        assert_eq!(rt; links.pop(1), Some(7));
+        links.cut(1, 1);
+        assert_eq!(rt; links.pop(1), Some(8));
+        assert_eq!(rt; links.pop(1), None);
+        assert_eq!(rt; (links.is_empty(0), links.is_empty(1)), (false, true));
+        Ok(())
+    }
+}

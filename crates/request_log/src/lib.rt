@@ -1,0 +1,214 @@
+//! A log of updates with consecutive numbers, above the number up to which they are applied.
+//! Its contract says which updates the log holds after each call, and how many more it takes without
+//! memory. What an update does is left to the caller.
+#![tactic(auto)]
+
+ghost use Rattle.std.specs.Prelude.{◌≡◌, ℕ, ◌+◌, ◌-◌, ◌<◌, ◌≤◌, ◌==◌, max, [], ◌∷◌, ◌++◌, length, drop, find, IfSome, IfNone, OnOk, OnErr, option_copied};
+ghost use Rattle.std.specs.Option.{option_map};
+ghost use Rattle.std.specs.VecDeque.Iter.{deque_iter_rest, deque_iter_steps};
+ghost use Rattle.std.specs.Iterator.Runs.{YieldsRefsInOrder};
+ghost use Rattle.request_log.specs.Logged.{last_of, find_last, IsNumbered};
+
+pub use numbering::Numbering;
+use std::alloc::{AllocError, Global};
+use std::collections::{VecDeque, vec_deque};
+use std::marker::Model;
+use std::mem;
+pub use taken::Taken;
+
+mod numbering;
+mod taken;
+
+/// The updates above the applied number, in the order of their numbers.
+#[derive(Drop)]
+pub struct Log<N: Numbering> {
+    updates: VecDeque<N::Item>,
+    applied: u64,
+    spare: usize,
+}
+
+impl<N: Numbering> Model for Log<N> {
+    ghost use Rattle.std.specs.Prelude.{ℕ, ◌+◌, ◌≤◌};
+    ghost use Rattle.std.specs.VecDeque.{deque_len, deque_capacity};
+    ghost use Rattle.request_log.specs.Logged.{Logged, IsNumbered};
+
+    ghost Value = { Logged N.Item };
+
+    ghost view = { λ log. record { applied = log.applied; updates = log.updates.items; spare = log.spare } };
+
+    ghost invariant = { λ log. (deque_len log.updates + log.spare ≤ deque_capacity log.updates) × IsNumbered N.number_of log.applied log.updates.items };
+}
+
+impl<N: Numbering> Log<N> {
+    /// An empty log, with nothing applied.
+    pub fn new(alloc: Global) -> Self
+        ensures applied { result.applied ≡ 0 }
+        ensures updates { result.updates ≡ [] }
+        ensures spare { result.spare ≡ 0 }
+    {
+        Self {
+            updates: VecDeque::new(alloc),
+            applied: 0,
+            spare: 0,
+        }
+    }
+
+    /// Makes room for `n` updates.
+    pub fn reserve(&mut self, n: u32) -> Result<(), AllocError>
+        ensures applied { self.new.applied ≡ self.old.applied }
+        ensures updates { self.new.updates ≡ self.old.updates }
+        ensures ok { OnOk result (self.new.spare ≡ max self.old.spare n) }
+        ensures err { OnErr result (self.new.spare ≡ self.old.spare) }
+    {
+        self.updates.reserve(n as usize)?;
+        self.spare = self.spare.max(n as usize);
+        Ok(())
+    }
+
+    /// Adds an update at the end. It takes no memory.
+    pub fn push(&mut self, update: N::Item)
+        requires next { N.number_of update ≡ last_of self.old + 1 }
+        requires room { 0 < self.old.spare }
+        ensures applied { self.new.applied ≡ self.old.applied }
+        ensures updates { self.new.updates ≡ self.old.updates ++ update ∷ [] }
+        ensures spare { self.new.spare ≡ self.old.spare - 1 }
+    {
+        self.spare -= 1;
+        match self.updates.push_back(update) {
+            Ok(()) => {}
+            Err(_) => unreachable!(),
+        }
+    }
+
+    /// The number up to which updates are applied.
+    pub fn applied(&self) -> u64
+        ensures { result ≡ self.now.applied }
+    {
+        self.applied
+    }
+
+    /// The number of the last update, or the applied number where the log is empty.
+    pub fn last(&self) -> u64
+        ensures { result ≡ last_of self.now }
+    {
+        match self.updates.back() {
+            Some(update) => N::number(update),
+            None => self.applied,
+        }
+    }
+
+    /// Hands out the first update, which is then applied.
+    pub fn apply_next(&mut self) -> Option<N::Item>
+        ensures updates { IfSome result (λ update. self.old.updates ≡ update ∷ self.new.updates) }
+        ensures applied { IfSome result (λ _. self.new.applied ≡ self.old.applied + 1) }
+        ensures empty { IfNone result (self.old.updates ≡ []) }
+        ensures none { IfNone result (self.new ≡ self.old) }
+        ensures spare { self.new.spare ≡ self.old.spare }
+    {
+        let update = self.updates.pop_front()?;
+        self.applied = N::number(&update);
+        Some(update)
+    }
+
+    /// Replaces the updates by those of `list` that are above the applied number, and hands back the
+    /// ones that stood here. The numbers of `list` run from `base + 1` on. It leaves no room.
+    pub fn adopt(&mut self, base: u64, list: Taken<N::Item>) -> Taken<N::Item>
+        requires base { base ≤ self.old.applied }
+        requires numbers { IsNumbered N.number_of base list }
+        requires reach { self.old.applied ≤ base + length list }
+        ensures applied { self.new.applied ≡ self.old.applied }
+        ensures updates { self.new.updates ≡ drop (self.old.applied - base) list }
+        ensures handed { result ≡ self.old.updates }
+        ensures spare { self.new.spare ≡ 0 }
+    {
+        let mut kept = VecDeque::from_vec(list.into_vec());
+        'applied: for _ in base..self.applied {
+            kept.pop_front();
+        }
+        self.spare = 0;
+        Taken::new(mem::replace(&mut self.updates, kept).into_vec())
+    }
+
+    /// The update of this number, if the log has it.
+    pub fn get(&self, number: u64) -> Option<&N::Item>
+        ensures { option_copied result ≡ find (λ update. N.number_of update == number) self.now.updates }
+    {
+        if number <= self.applied {
+            return None;
+        }
+        self.updates.get((number - self.applied - 1) as usize)
+    }
+
+    /// The number of the last update on this key, if there is one.
+    pub fn holds_key(&self, key: &N::Key) -> Option<u64>
+        ensures { result ≡ option_map N.number_of (find_last (λ update. N.Key.eq (N.key_of update) key.now) self.now.updates) }
+    {
+        'updates: for index in (0..self.updates.len()).rev() {
+            let update = &self.updates[index];
+            if N::key(update) == key {
+                return Some(N::number(update));
+            }
+        }
+        None
+    }
+
+    /// The updates in the order of their numbers.
+    pub fn iter(&self) -> vec_deque::Iter<'_, N::Item>
+        ensures rest { deque_iter_rest result ≡ self.now.updates }
+        ensures runs { YieldsRefsInOrder (deque_iter_steps {X = N.Item}) deque_iter_rest }
+    {
+        self.updates.iter()
+    }
+}
+
+#[cfg(test)]
+mod tests {
+    use super::*;
+    use std::test::Fail;
+
+    #[derive(Clone, Copy, Debug, PartialEq, Eq)]
+    struct Step {
+        number: u64,
+        key: u32,
+    }
+
+    struct Steps;
+
+    impl Numbering for Steps {
+        type Item = Step;
+
+        type Key = u32;
+
+        ghost number_of = { λ step. step.number };
+
+        ghost key_of = { λ step. step.key };
+
+        fn number(item: &Step) -> u64 {
+            item.number
+        }
+
+        fn key(item: &Step) -> &u32 {
+            &item.key
+        }
+    }
+
+    #[test]
+    fn adopts_what_is_above_the_applied_number(rt: HostRuntime) -> Result<(), Fail> {
+        let mut log = Log::<Steps>::new(rt.alloc());
+        log.reserve(3)?;
+        log.push(Step { number: 1, key: 7 });
+        log.push(Step { number: 2, key: 8 });
+        log.push(Step { number: 3, key: 7 });
+        assert_eq!(rt; log.holds_key(&7), Some(3));
+        assert_eq!(rt; log.apply_next(), Some(Step { number: 1, key: 7 }));
+        let mut list = Vec::new(rt.alloc());
+        list.push(Step { number: 1, key: 7 })?;
+        list.push(Step { number: 2, key: 9 })?;
+        let handed = log.adopt(0, Taken::new(list));
+        assert_eq!(rt; handed.as_slice().len(), 2);
+        assert_eq!(rt; log.get(2), Some(&Step { number: 2, key: 9 }));
+        assert_eq!(rt; log.get(3), None);
+        assert_eq!(rt; (log.applied(), log.last()), (1, 2));
+        Ok(())
+    }
+}

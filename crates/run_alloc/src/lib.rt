@@ -1,0 +1,151 @@
+//! Free runs of addresses: an allocator that gives out the shortest free run that serves a length.
+//! Contracts see the set of free addresses and the room for later calls, never the runs that are
+//! kept. What the addresses hold is left to the caller.
+#![tactic(auto)]
+
+ghost use Rattle.std.specs.Prelude.{◌≡◌, ℕ, ◌+◌, ◌<◌, ◌≤◌, ◌||◌, ◌&&◌, nat_lt, not, IfOk, OnOk, OnErr, MatchOption, MatchResult};
+ghost use Rattle.run_alloc.specs.Free.{is_free, in_run, AllFree, NoneFree, IsPlace, NoPlace};
+
+use runs::{Run, carve, join, place_of, shortest};
+use std::alloc::{AllocError, Global};
+use std::fmt;
+use std::marker::Model;
+
+mod runs;
+
+/// No free run has the length that was asked for.
+#[derive(Clone, Copy, Debug, PartialEq, Eq)]
+pub struct NoRun;
+
+impl fmt::Display for NoRun {
+    fn fmt<W: fmt::Write>(&self, f: &mut fmt::Formatter<W>) -> fmt::Result {
+        f.write_str("no free run is long enough")
+    }
+}
+
+/// The free addresses of a space, which begins with all of them free.
+#[derive(Debug, Drop)]
+pub struct FreeRuns {
+    runs: Vec<Run>,
+    size: u32,
+}
+
+impl Model for FreeRuns {
+    ghost use Rattle.std.specs.Prelude.{◌-◌, ◌+◌, ◌<◌, ◌^◌, vec_len, vec_capacity};
+    ghost use Rattle.run_alloc.specs.Free.{Space, space_code};
+
+    ghost Value = { Space };
+
+    ghost coded = { space_code };
+
+    ghost use Rattle.run_alloc.specs.Runs.{free_set, IsSpread};
+
+    ghost view = { λ r. record { size = r.size; free = free_set r.runs.items; spare = vec_capacity r.runs - vec_len r.runs } };
+
+    ghost invariant = { λ r. IsSpread 0 r.runs.items (r.size + 1) };
+}
+
+impl FreeRuns {
+    /// A space of `size` addresses.
+    pub fn new(alloc: Global, size: u32) -> Result<Self, AllocError>
+        ensures size { IfOk result (λ space. space.size ≡ size) }
+        ensures free { IfOk result (λ space. (a : ℕ) → is_free space a ≡ nat_lt a size) }
+    {
+        let mut runs = Vec::new(alloc);
+        if size > 0 {
+            runs.push(Run { at: 0, len: size })?;
+        }
+        Ok(Self { runs, size })
+    }
+
+    /// Makes room for `n` calls of `give` or `take_at`.
+    pub fn reserve(&mut self, n: u32) -> Result<(), AllocError>
+        ensures size { self.new.size ≡ self.old.size }
+        ensures free { self.new.free ≡ self.old.free }
+        ensures spare { self.old.spare ≤ self.new.spare }
+        ensures ok { OnOk result (n ≤ self.new.spare) }
+    {
+        self.runs.reserve(n as usize)
+    }
+
+    /// The address that `take` would give.
+    pub fn fits(&self, len: u32) -> Option<u32>
+        requires { 0 < len }
+        ensures { MatchOption result (NoPlace self.now.size (is_free self.now) len)
+            (IsPlace self.now.size (is_free self.now) len) }
+    {
+        let place = shortest(&self.runs, len)?;
+        Some(self.runs[place].at)
+    }
+
+    /// Takes the first `len` addresses of the shortest free run that has as many, the lowest on a
+    /// tie, and gives the first of them.
+    pub fn take(&mut self, len: u32) -> Result<u32, NoRun>
+        requires { 0 < len }
+        ensures place { MatchResult result (IsPlace self.old.size (is_free self.old) len)
+            (λ _. NoPlace self.old.size (is_free self.old) len) }
+        ensures taken { IfOk result (λ at. (a : ℕ) → is_free self.new a ≡ (is_free self.old a && not (in_run at len a))) }
+        ensures none { OnErr result (self.new.free ≡ self.old.free) }
+        ensures size { self.new.size ≡ self.old.size }
+        ensures spare { self.old.spare ≤ self.new.spare }
+    {
+        let Some(place) = shortest(&self.runs, len) else {
+            return Err(NoRun);
+        };
+        let at = self.runs[place].at;
+        carve(&mut self.runs, place, at, len);
+        Ok(at)
+    }
+
+    /// Takes the run of `len` addresses from `at` on. A run of no addresses changes nothing.
+    pub fn take_at(&mut self, at: u32, len: u32)
+        requires free { AllFree (is_free self.old) at len }
+        requires room { 0 < self.old.spare }
+        ensures taken { (a : ℕ) → is_free self.new a ≡ (is_free self.old a && not (in_run at len a)) }
+        ensures size { self.new.size ≡ self.old.size }
+        ensures spare { self.old.spare ≤ self.new.spare + 1 }
+    {
+        if len > 0 {
+            let place = place_of(&self.runs, at) - 1;
+            carve(&mut self.runs, place, at, len);
+        }
+    }
+
+    /// Gives back the run of `len` addresses from `at` on. A run of no addresses changes nothing.
+    pub fn give(&mut self, at: u32, len: u32)
+        requires inside { at + len ≤ self.old.size }
+        requires taken { NoneFree (is_free self.old) at len }
+        requires room { 0 < self.old.spare }
+        ensures given { (a : ℕ) → is_free self.new a ≡ (is_free self.old a || in_run at len a) }
+        ensures size { self.new.size ≡ self.old.size }
+        ensures spare { self.old.spare ≤ self.new.spare + 1 }
+    {
+        if len > 0 {
+            join(&mut self.runs, at, len);
+        }
+    }
+}
+
+#[cfg(test)]
+mod tests {
+    use super::*;
+    use std::test::Fail;
+
+    #[test]
+    fn takes_the_shortest_run_that_serves(rt: HostRuntime) -> Result<(), Fail> {
+        let mut space = FreeRuns::new(rt.alloc(), 16)?;
+        assert_eq!(rt; space.take(10), Ok(0));
+        assert_eq!(rt; space.take(6), Ok(10));
+        assert_eq!(rt; space.take(1), Err(NoRun));
+        space.reserve(2)?;
+        space.give(0, 10);
+        assert_eq!(rt; space.take(7), Ok(0));
+        space.take_at(8, 1);
+        assert_eq!(rt; space.fits(1), Some(7));
+        assert_eq!(rt;
+            format!(in rt.alloc(); "{NoRun}")?.as_str(),
+            "no free run is long enough"
+        );
+        Ok(())
+    }
+}

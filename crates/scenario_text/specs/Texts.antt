@@ -1,0 +1,96 @@
+use Rattle.std.specs.Prelude.{ℕ, zero, suc, ℤ, pos, negsuc, ◌==◌, List, [], ◌∷◌, ◌++◌, codes, if◌then◌else◌}
+use Rattle.std.specs.Fmt.{decimal, signed_decimal}
+use Rattle.hex.specs.Hex.{encode_lower}
+use Rattle.memc_table.specs.declared.act.Act.{Act}
+use Rattle.memc_table.specs.declared.act.Act.TheVariants.{Get, Set, Add, Replace, Cas, Delete, Touch, Append, Prepend, Incr, Decr}
+use Rattle.memc_table.specs.declared.entry.Entry.{Entry}
+use Rattle.memc_table.specs.declared.event.Answer.{Answer}
+use Rattle.memc_table.specs.declared.event.Answer.TheVariants as answered
+use Rattle.memc_table.specs.declared.event.Cause.{Cause}
+use Rattle.memc_table.specs.declared.event.Cause.TheVariants.{Pending, Block}
+use Rattle.memc_table.specs.declared.reply.Reply.{Reply}
+use Rattle.memc_table.specs.declared.reply.Reply.TheVariants.{Value, Miss, Stored, NotStored, Exists, NotFound, Deleted, Touched, Number, NotNumber, TooLarge}
+
+-- a value: lower-case hexadecimal digits, or `-` for no bytes
+abbrev pub value_text : List ℕ → List ℕ
+value_text [] = codes "-"
+value_text (b ∷ bs) = encode_lower (b ∷ bs)
+
+-- a number word with the space before it
+abbrev pub next_number : ℕ → List ℕ
+next_number n = codes " " ++ decimal n
+
+-- a reply
+abbrev pub reply_text : Reply → List ℕ
+reply_text (Value item) = codes "value" ++ next_number item.flags ++ next_number item.cas ++ codes " " ++ value_text item.value
+reply_text (Number n) = codes "number " ++ decimal n
+reply_text Miss = codes "miss"
+reply_text Stored = codes "stored"
+reply_text NotStored = codes "not_stored"
+reply_text Exists = codes "exists"
+reply_text NotFound = codes "not_found"
+reply_text Deleted = codes "deleted"
+reply_text Touched = codes "touched"
+reply_text NotNumber = codes "not_number"
+reply_text TooLarge = codes "too_large"
+
+-- why a call has to be asked again
+abbrev pub cause_text : Cause → List ℕ
+cause_text (Pending partition number) = codes "retry pending" ++ next_number partition.0 ++ next_number number
+cause_text (Block block) = codes "retry block " ++ decimal block
+
+-- an answer
+abbrev pub answer_text : Answer → List ℕ
+answer_text (answered.Reply reply) = codes "reply " ++ reply_text reply
+answer_text (answered.Ticket number) = codes "ticket " ++ decimal number
+answer_text (answered.Retry cause) = cause_text cause
+answer_text (answered.Stale call) = codes "stale " ++ decimal call
+answer_text answered.NotYet = codes "not_yet"
+answer_text answered.NoSpace = codes "no_space"
+answer_text answered.Moved = codes "moved"
+answer_text answered.Lost = codes "lost"
+answer_text answered.Down = codes "down"
+answer_text answered.Idle = codes "idle"
+answer_text answered.Stranger = codes "stranger"
+answer_text answered.Done = codes "done"
+answer_text answered.AlreadyDead = codes "already_dead"
+answer_text answered.Gone = codes "gone"
+
+-- an exptime behind a value, where it is not 0
+abbrev pub expiry_text : ℤ → List ℕ
+expiry_text (pos e) = if e == 0 then [] else codes " " ++ signed_decimal (pos e)
+expiry_text (negsuc e) = codes " " ++ signed_decimal (negsuc e)
+
+-- an op's name and its key, and then its flags
+abbrev pub flagged_text : List ℕ → List ℕ → ℕ → List ℕ
+flagged_text name key flags = name ++ key ++ next_number flags
+
+-- words, and then a value and its exptime
+abbrev pub stored_text : List ℕ → ℤ → List ℕ → List ℕ
+stored_text front expiry value = front ++ codes " " ++ value_text value ++ expiry_text expiry
+
+-- an op in script form
+abbrev pub act_text : Act → List ℕ
+act_text (Get key) = codes "get " ++ key
+act_text (Set key flags expiry value) = stored_text (flagged_text (codes "set ") key flags) expiry value
+act_text (Add key flags expiry value) = stored_text (flagged_text (codes "add ") key flags) expiry value
+act_text (Replace key flags expiry value) = stored_text (flagged_text (codes "replace ") key flags) expiry value
+act_text (Cas key flags expiry cas value) = stored_text (flagged_text (codes "cas ") key flags ++ next_number cas) expiry value
+act_text (Delete key) = codes "delete " ++ key
+act_text (Touch key expiry) = codes "touch " ++ key ++ (codes " " ++ signed_decimal expiry)
+act_text (Append key value) = stored_text (codes "append " ++ key) (pos 0) value
+act_text (Prepend key value) = stored_text (codes "prepend " ++ key) (pos 0) value
+act_text (Incr key by) = codes "incr " ++ key ++ next_number by
+act_text (Decr key by) = codes "decr " ++ key ++ next_number by
+
+-- the moment of a call, where it is not 0
+abbrev pub moment_text : ℕ → List ℕ
+moment_text moment = if moment == 0 then [] else codes " @" ++ decimal moment
+
+-- the name of a call and its moment, at the head of a line of the log
+abbrev pub name_text : ℕ → ℕ → ℕ → List ℕ
+name_text caller call moment = codes "= " ++ decimal caller ++ (codes "." ++ decimal call) ++ moment_text moment ++ codes " "
+
+-- an entry of the log
+abbrev pub entry_text : Entry → List ℕ
+entry_text entry = name_text entry.caller entry.call entry.op.moment ++ act_text entry.op.act ++ codes " " ++ reply_text entry.reply
