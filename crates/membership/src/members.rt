@@ -1,0 +1,138 @@
+ghost use Rattle.std.specs.Prelude.{ℕ, ◌≡◌, ◌≢◌, ◌↔◌, ◌<◌, ◌≤◌, ◌+◌, Bool, true, false, List, length, replicate, IsTrue, IfSome, IfNone, OnOk, OnErr, is_err};
+ghost use Rattle.membership.specs.Members.{count_dead};
+
+use group_types::{Partition, ProcessId, Shape};
+use std::marker::Model;
+
+/// The process was known dead before.
+#[derive(Clone, Copy, Debug, PartialEq, Eq)]
+pub struct AlreadyDead;
+
+/// The processes of a group that are known dead: a small value that is copied.
+#[derive(Clone, Copy, Debug)]
+pub struct Members {
+    shape: Shape,
+    data_dead: [bool; 16],
+    parity_dead: [bool; 4],
+}
+
+impl Model for Members {
+    ghost use Rattle.membership.specs.Members.{Membership};
+
+    ghost Value = { Membership };
+
+    ghost view = { λ m. record { shape = m.shape; data_dead = m.data_dead; parity_dead = m.parity_dead } };
+
+    ghost inverse = { λ m. record { shape = m.shape; data_dead = m.data_dead; parity_dead = m.parity_dead } };
+}
+
+impl Members {
+    ghost use Rattle.membership.specs.Members.{Membership, IsMember, knows_dead, with_dead, lost_of, of_rank, IsHead, NoHead};
+
+    /// A group in which no process is known dead.
+    pub fn new(shape: Shape) -> Members
+        ensures { result ≡ record { shape = shape; data_dead = replicate 16 false; parity_dead = replicate 4 false } }
+    {
+        Members {
+            shape,
+            data_dead: [false; 16],
+            parity_dead: [false; 4],
+        }
+    }
+
+    /// Whether the process is known dead.
+    pub fn is_dead(&self, p: ProcessId) -> bool
+        ensures { result ≡ knows_dead self.now p }
+    {
+        let word = match p {
+            ProcessId::DataNode(d) => self.data_dead.get(d as usize),
+            ProcessId::ParityNode(i) => self.parity_dead.get(i as usize),
+        };
+        word == Some(&true)
+    }
+
+    /// Notes that a process is dead, unless that is known.
+    pub fn fail(&mut self, p: ProcessId) -> Result<(), AlreadyDead>
+        requires { IsMember self.old.shape p }
+        ensures known { is_err result ≡ knows_dead self.old p }
+        ensures ok { OnOk result (self.new ≡ with_dead self.old p) }
+        ensures err { OnErr result (self.new ≡ self.old) }
+    {
+        if self.is_dead(p) {
+            return Err(AlreadyDead);
+        }
+        match p {
+            ProcessId::DataNode(d) => self.data_dead[d as usize] = true,
+            ProcessId::ParityNode(i) => self.parity_dead[i as usize] = true,
+        }
+        Ok(())
+    }
+
+    /// How many processes are known dead.
+    pub fn lost(&self) -> u32
+        ensures { result ≡ lost_of self.now }
+    {
+        count(&self.data_dead) + count(&self.parity_dead)
+    }
+
+    /// Whether the group is down: more than m processes are dead.
+    pub fn is_down(&self) -> bool
+        ensures { IsTrue result ↔ (self.now.shape.m < lost_of self.now) }
+    {
+        self.shape.m() < self.lost()
+    }
+
+    /// The process of lowest rank in the partition that isn't known dead, if there is one.
+    pub fn head_of(&self, d: Partition) -> Option<ProcessId>
+        ensures some { IfSome result (λ p. (r : ℕ) × (p ≡ of_rank d.0 r) × IsHead self.now d.0 r) }
+        ensures none { IfNone result (NoHead self.now d.0) }
+    {
+        let first = ProcessId::DataNode(d.0);
+        if !self.is_dead(first) {
+            return Some(first);
+        }
+        'ranks: for i in 0..self.shape.m() {
+            let next = ProcessId::ParityNode(i);
+            if !self.is_dead(next) {
+                return Some(next);
+            }
+        }
+        None
+    }
+}
+
+fn count(words: &[bool]) -> u32
+    requires { length words.now ≤ 16 }
+    ensures value { result ≡ count_dead words.now }
+    ensures few { result ≤ length words.now }
+{
+    let mut dead = 0;
+    'words: for &word in words {
+        if word {
+            dead += 1;
+        }
+    }
+    dead
+}
+
+#[cfg(test)]
+mod tests {
+    use super::*;
+    use std::test::Fail;
+
+    #[test]
+    fn the_next_rank_heads_a_lost_partition(rt: HostRuntime) -> Result<(), Fail> {
+        if let Ok(shape) = Shape::new(2, 2, 4, 16) {
+            let mut members = Members::new(shape);
+            assert_eq!(rt; members.head_of(Partition(1)), Some(ProcessId::DataNode(1)));
+            assert_eq!(rt; members.fail(ProcessId::DataNode(1)), Ok(()));
+            assert_eq!(rt; members.fail(ProcessId::DataNode(1)), Err(AlreadyDead));
+            assert_eq!(rt;
+                members.head_of(Partition(1)),
+                Some(ProcessId::ParityNode(0))
+            );
+            assert_eq!(rt; members.lost(), 1);
+        }
+        Ok(())
+    }
+}
