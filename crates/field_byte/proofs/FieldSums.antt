@@ -13,10 +13,10 @@ unfolding field_sum
 sum_same zero f g same = refl
 sum_same (suc n) f g same = ap₂ bit_xor (sum_same n f g (λ k below. same k (omega arith))) (same n (omega arith))
 
-pub sum_byte : (n : ℕ) (f : ℕ → ℕ) → ((k : ℕ) → f k < 256) → field_sum n f < 256
+pub sum_byte : (n : ℕ) (f : ℕ → ℕ) → ((k : ℕ) → k < n → f k < 256) → field_sum n f < 256
 unfolding field_sum
 sum_byte zero f bytes = omega arith
-sum_byte (suc n) f bytes = sum_lt _ _ (sum_byte n f bytes) (bytes n)
+sum_byte (suc n) f bytes = sum_lt _ _ (sum_byte n f (λ k below. bytes k (omega arith))) (bytes n (omega arith))
 
 pub sum_of_zeros : (n : ℕ) (f : ℕ → ℕ) → ((k : ℕ) → k < n → f k ≡ 0) → field_sum n f ≡ 0
 unfolding field_sum
@@ -43,16 +43,19 @@ sum_of_sums zero f g = refl
 sum_of_sums (suc n) f g = ap (λ x. bit_xor x (bit_xor (f n) (g n))) (sum_of_sums n f g) ∙ sum_swap (field_sum n f) (field_sum n g) (f n) (g n)
 
 -- a factor goes into each term
-pub sum_times_l : (n c : ℕ) (f : ℕ → ℕ) → c < 256 → ((k : ℕ) → f k < 256) → product c (field_sum n f) ≡ field_sum n (λ k. product c (f k))
+pub sum_times_l : (n c : ℕ) (f : ℕ → ℕ) → c < 256 → ((k : ℕ) → k < n → f k < 256) → product c (field_sum n f) ≡ field_sum n (λ k. product c (f k))
 unfolding field_sum
 sum_times_l zero c f c_byte bytes = product_zero_r c
 sum_times_l (suc n) c f c_byte bytes =
-    product_sum_r c _ _ c_byte (sum_byte n f bytes) (bytes n) ∙ ap (λ x. bit_xor x (product c (f n))) (sum_times_l n c f c_byte bytes)
+    let before = λ (k : ℕ) (below : k < n). bytes k (omega arith) in
+    product_sum_r c _ _ c_byte (sum_byte n f before) (bytes n (omega arith)) ∙ ap (λ x. bit_xor x (product c (f n))) (sum_times_l n c f c_byte before)
 
-pub sum_times_r : (n c : ℕ) (f : ℕ → ℕ) → ((k : ℕ) → f k < 256) → product (field_sum n f) c ≡ field_sum n (λ k. product (f k) c)
+pub sum_times_r : (n c : ℕ) (f : ℕ → ℕ) → ((k : ℕ) → k < n → f k < 256) → product (field_sum n f) c ≡ field_sum n (λ k. product (f k) c)
 unfolding field_sum
 sum_times_r zero c f bytes = product_zero_l c
-sum_times_r (suc n) c f bytes = product_sum_l _ _ c (sum_byte n f bytes) (bytes n) ∙ ap (λ x. bit_xor x (product (f n) c)) (sum_times_r n c f bytes)
+sum_times_r (suc n) c f bytes =
+    let before = λ (k : ℕ) (below : k < n). bytes k (omega arith) in
+    product_sum_l _ _ c (sum_byte n f before) (bytes n (omega arith)) ∙ ap (λ x. bit_xor x (product (f n) c)) (sum_times_r n c f before)
 
 -- the order of two sums is free
 pub sum_of_rows : (m n : ℕ) (f : ℕ → ℕ → ℕ) → field_sum m (λ i. field_sum n (f i)) ≡ field_sum n (λ j. field_sum m (λ i. f i j))

@@ -1,11 +1,14 @@
 -- A product from the products with both halves of a byte.
-use Rattle.std.proofs.Common.{map, pow_mono, ◌+◌, ◌∷◌, [], ◌^◌, ◌≤◌, add-zero, zero-mul, ◌≡◌, ℕ, ◌*◌, ◌/◌, ◌%◌, ◌<◌, Bool, true, ◌==◌, List, get_or, bit_xor, bit_and, sym, ap, ap₂, ◌∙◌, refl, arith}
+use Rattle.std.proofs.Common.{replicate, map, pow_mono, ◌+◌, ◌∷◌, [], ◌^◌, ◌≤◌, add-zero, zero-mul, ◌≡◌, ℕ, ◌*◌, ◌/◌, ◌%◌, ◌<◌, Bool, true, ◌==◌, List, get_or, bit_xor, bit_and, sym, ap, ap₂, ◌∙◌, refl, arith}
 use Rattle.std.proofs.lemmas.Bool.{agree_below, agree_below_at, eqb-true}
 use Rattle.std.proofs.lemmas.List.{get_or-map}
 use Rattle.std.proofs.lemmas.Nat.{and_mask, xor_block, pow_pos, shl_below}
 use Rattle.field_byte.specs.Field.{product_of_bits, product}
 use Rattle.field_byte.specs.Halves.{nibbles, products_of_nibbles, AreHalves}
-use Rattle.field_byte.proofs.Products.{product_assoc, product_sum_r, product_zero_r}
+use Rattle.std.specs.Int.Bits.{and_zero_r, xor_zero_l, xor_zero_r}
+use Rattle.std.specs.Simd.Lanes.{zip2}
+use Rattle.field_byte.specs.declared.split.TheConstants.{HAS_1, HAS_2, HAS_4, HAS_8}
+use Rattle.field_byte.proofs.Products.{product_lt, product_one_r, product_assoc, product_sum_r, product_zero_r}
 
 abbrev always : ℕ → Bool
 always n = true
@@ -65,14 +68,56 @@ sums_by_bits : (p : ℕ → ℕ) → p 0 ≡ 0 → ((j k : ℕ) → j < 16 → k
 sums_by_bits p none sum =
     cc (none, sum 1 2 (omega arith) (omega arith), sum 1 4 (omega arith) (omega arith), sum 2 4 (omega arith) (omega arith), sum 3 4 (omega arith) (omega arith), sum 1 8 (omega arith) (omega arith), sum 2 8 (omega arith) (omega arith), sum 3 8 (omega arith) (omega arith), sum 4 8 (omega arith) (omega arith), sum 5 8 (omega arith) (omega arith), sum 6 8 (omega arith) (omega arith), sum 7 8 (omega arith) (omega arith))
 
+-- all bits are kept, or none
+kept : (a : ℕ) → a < 256 → bit_and a 255 ≡ a
+kept a byte = and_mask a 8 ∙ omega arith
+
+abbrev pub masked : ℕ → ℕ → ℕ → ℕ → List ℕ
+masked a b c d =
+    zip2 bit_xor (zip2 bit_xor (zip2 bit_xor (zip2 bit_and (replicate 16 a) HAS_1) (zip2 bit_and (replicate 16 b) HAS_2)) (zip2 bit_and (replicate 16 c) HAS_4)) (zip2 bit_and (replicate 16 d) HAS_8)
+
+masked_sums : (a b c d : ℕ) → a < 256 → b < 256 → c < 256 → d < 256 → masked a b c d ≡ sums_of_four a b c d
+masked_sums a b c d a_byte b_byte c_byte d_byte = simp (kept a a_byte, kept b b_byte, kept c c_byte, kept d d_byte, and_zero_r, xor_zero_l, xor_zero_r)
+
 shifted_byte : (k shift : ℕ) → k < 16 → shift ≤ 4 → k * 2 ^ shift < 256
 shifted_byte k shift below small =
     let bound = shl_below k 4 shift below in
     let top : 2 ^ (4 + shift) ≤ 2 ^ 8 = pow_mono {i = 4 + shift} {j = 8} (omega arith) in omega arith
 
--- the sums of the products with one bit are the products with all numbers of four bits
-pub sums_are_products : (coef shift : ℕ) → coef < 256 → shift ≤ 4
+sums_are_products : (coef shift : ℕ) → coef < 256 → shift ≤ 4
     → sums_of_four (product coef (1 * 2 ^ shift)) (product coef (2 * 2 ^ shift)) (product coef (4 * 2 ^ shift)) (product coef (8 * 2 ^ shift)) ≡ products_of_nibbles coef (2 ^ shift)
 sums_are_products coef shift byte small = sums_by_bits (λ k. product coef (k * 2 ^ shift)) (ap (product coef) (zero-mul (2 ^ shift)) ∙ product_zero_r coef) (λ j k j_below k_below.
     let shifted : bit_xor (j * 2 ^ shift) (k * 2 ^ shift) ≡ bit_xor j k * 2 ^ shift = simp add-zero at (xor_block shift j k 0 0 (pow_pos shift) (pow_pos shift)) in
     ap (product coef) (sym shifted) ∙ product_sum_r coef (j * 2 ^ shift) (k * 2 ^ shift) byte (shifted_byte j shift j_below small) (shifted_byte k shift k_below small))
+
+-- the sums of the products with one bit are the products with all numbers of four bits
+pub masked_are_products : (coef shift a b c d : ℕ) → coef < 256 → shift ≤ 4
+    → a ≡ product coef (1 * 2 ^ shift) → b ≡ product coef (2 * 2 ^ shift) → c ≡ product coef (4 * 2 ^ shift) → d ≡ product coef (8 * 2 ^ shift)
+    → masked a b c d ≡ products_of_nibbles coef (2 ^ shift)
+masked_are_products coef shift a b c d byte small a_is b_is c_is d_is =
+    let product_byte = λ (k : ℕ). product_lt coef k byte in
+    masked_sums a b c d (omega (arith, product_byte (1 * 2 ^ shift))) (omega (arith, product_byte (2 * 2 ^ shift))) (omega (arith, product_byte (4 * 2 ^ shift))) (omega (arith, product_byte (8 * 2 ^ shift)))
+    ∙ ((λ i. sums_of_four (a_is i) (b_is i) (c_is i) (d_is i)) ∙ sums_are_products coef shift byte small)
+
+-- the two tables of a coefficient, made of its doubles
+pub are_halves : (coef by_2 by_4 by_8 by_16 by_32 by_64 by_128 : ℕ) → coef < 256
+    → by_2 ≡ product coef 2 → by_4 ≡ product by_2 2 → by_8 ≡ product by_4 2 → by_16 ≡ product by_8 2 → by_32 ≡ product by_16 2 → by_64 ≡ product by_32 2 → by_128 ≡ product by_64 2
+    → AreHalves coef (masked coef by_2 by_4 by_8) (masked by_16 by_32 by_64 by_128)
+are_halves coef by_2 by_4 by_8 by_16 by_32 by_64 by_128 byte is_2 is_4 is_8 is_16 is_32 is_64 is_128 =
+    let p1 = sym (product_one_r coef byte) in
+    let p2 = doubled coef 1 coef by_2 byte (omega arith) p1 is_2 in
+    let p4 = doubled coef 2 by_2 by_4 byte (omega arith) p2 is_4 in
+    let p8 = doubled coef 4 by_4 by_8 byte (omega arith) p4 is_8 in
+    let p16 = doubled coef 8 by_8 by_16 byte (omega arith) p8 is_16 in
+    let p32 = doubled coef 16 by_16 by_32 byte (omega arith) p16 is_32 in
+    let p64 = doubled coef 32 by_32 by_64 byte (omega arith) p32 is_64 in
+    let p128 = doubled coef 64 by_64 by_128 byte (omega arith) p64 is_128 in
+    record {
+      byte = byte;
+      low = masked_are_products coef 0 coef by_2 by_4 by_8 byte (omega arith) p1 p2 p4 p8;
+      high = masked_are_products coef 4 by_16 by_32 by_64 by_128 byte (omega arith) p16 p32 p64 p128;
+    }
+
+-- the product with 1 is the coefficient
+pub coef_in_halves : (coef : ℕ) (lows highs : List ℕ) → AreHalves coef lows highs → get_or lows 1 0 ≡ coef
+coef_in_halves coef lows highs halves = ap (λ l. get_or l 1 0) halves.low ∙ product_one_r coef halves.byte

@@ -32,7 +32,12 @@ pub record IsLog (a log : ℕ) : Type 0 where
   pub power : power log ≡ a
   pub below : log < 255
 
-pub log_of_byte : (a : ℕ) → a < 256 → a ≢ 0 → IsLog a (slice_index LOG a)
+-- the logarithm of a byte but 0, for those above who cannot name the table
+unfoldable pub log : ℕ → ℕ
+log a = slice_index LOG a
+
+pub log_of_byte : (a : ℕ) → a < 256 → a ≢ 0 → IsLog a (log a)
+unfolding log
 log_of_byte a a_byte nonzero = let passed = agree_below_at log_test always 256 a logs_pass a_byte in record {
   power = grind (arith, nat_tests);
   below = grind (arith, nat_tests);
@@ -46,7 +51,8 @@ turn_passes : agree_below turn_test always 255 ≡ true
 unfolding product_of_bits product power
 turn_passes = refl
 
-pub log_of_power : (i : ℕ) → i < 255 → slice_index LOG (power i) ≡ i
+pub log_of_power : (i : ℕ) → i < 255 → log (power i) ≡ i
+unfolding log
 log_of_power i below = eqb-true _ _ (agree_below_at turn_test always 255 i turn_passes below)
 
 -- what 1 and 2 are as factors
@@ -91,7 +97,7 @@ power_suc : (n : ℕ) → power (suc n) ≡ double (power n)
 unfolding power
 power_suc n = double_is_product (power n) (power_lt n)
 
-power_zero : power zero ≡ 1
+pub power_zero : power zero ≡ 1
 unfolding power
 power_zero = refl
 
@@ -117,7 +123,7 @@ unfolding product_of_bits product power
 full_turn = refl
 
 -- a whole turn changes no power
-turn_more : (n : ℕ) → power (n + 255) ≡ power n
+pub turn_more : (n : ℕ) → power (n + 255) ≡ power n
 turn_more n = ap power (add_comm n 255) ∙ (sym (power_add 255 n) ∙ (ap (λ x. product x (power n)) full_turn ∙ product_one_l (power n) (power_lt n)))
 
 pub power_mod : (n : ℕ) → n < 510 → power (n % 255) ≡ power n

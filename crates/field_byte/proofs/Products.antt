@@ -1,12 +1,11 @@
 -- The laws of the product and of inverses, for bytes: what a proof above this crate cites.
-use Rattle.std.proofs.Common.{◌≡◌, ◌≢◌, ℕ, zero, suc, ◌+◌, ◌-◌, ◌<◌, ◌≤◌, ◌==◌, ◌⊎◌, bit_xor, slice_index, inl, inr, sym, ap, ap₂, ◌∙◌, add_comm, add_assoc, arith}
+use Rattle.std.proofs.Common.{◌≡◌, ◌≢◌, ℕ, zero, suc, ◌+◌, ◌-◌, ◌<◌, ◌≤◌, ◌==◌, ◌⊎◌, bit_xor, inl, inr, sym, ap, ap₂, ◌∙◌, add_comm, add_assoc, arith}
 use Rattle.std.proofs.lemmas.Bool.{cases_eq, eq-eqb, ne_eqb, cond_both}
 use Rattle.field_byte.specs.Field.{product, inverse_below, inverse, power}
-use Rattle.field_byte.specs.declared.tables.TheConstants.{LOG}
 use Rattle.field_byte.proofs.Sums.{sum_lt}
 use Rattle.field_byte.proofs.Doubling.{bits_lt, bits_sum, bits_zero_l, bits_zero_r}
 use Rattle.field_byte.proofs.Powers as powers
-use Rattle.field_byte.proofs.Powers.{IsLog, log_of_byte, power_add, power_lt, power_nonzero, full_turn}
+use Rattle.field_byte.proofs.Powers.{IsLog, log, log_of_byte, power_add, power_lt, power_nonzero, full_turn}
 
 pub product_lt : (a b : ℕ) → a < 256 → product a b < 256
 unfolding product
@@ -25,10 +24,10 @@ unfolding product
 product_sum_l a b c a_byte b_byte = bits_sum 8 a b c a_byte b_byte
 
 -- a byte is 0 or a power
-pub as_power : (a : ℕ) → a < 256 → (a ≡ 0) ⊎ IsLog a (slice_index LOG a)
+pub as_power : (a : ℕ) → a < 256 → (a ≡ 0) ⊎ IsLog a (log a)
 as_power a a_byte = elim (cases_eq a 0) [ inl is_zero ↦ inl is_zero | inr nonzero ↦ inr (log_of_byte a a_byte nonzero) ]
 
-pub product_of_powers : (a b : ℕ) → IsLog a (slice_index LOG a) → IsLog b (slice_index LOG b) → product a b ≡ power (slice_index LOG a + slice_index LOG b)
+pub product_of_powers : (a b : ℕ) → IsLog a (log a) → IsLog b (log b) → product a b ≡ power (log a + log b)
 product_of_powers a b a_log b_log = ap₂ product (sym a_log.power) (sym b_log.power) ∙ power_add _ _
 
 pub product_comm : (a b : ℕ) → a < 256 → b < 256 → product a b ≡ product b a
@@ -36,7 +35,7 @@ product_comm a b a_byte b_byte = elim (as_power a a_byte) [
   | inl a_zero ↦ ap (λ x. product x b) a_zero ∙ (product_zero_l b ∙ (sym (product_zero_r b) ∙ ap (product b) (sym a_zero)))
   | inr a_log ↦ elim (as_power b b_byte) [
     | inl b_zero ↦ ap (product a) b_zero ∙ (product_zero_r a ∙ (sym (product_zero_l a) ∙ ap (λ x. product x a) (sym b_zero)))
-    | inr b_log ↦ product_of_powers a b a_log b_log ∙ (ap power (add_comm (slice_index LOG a) (slice_index LOG b)) ∙ sym (product_of_powers b a b_log a_log))
+    | inr b_log ↦ product_of_powers a b a_log b_log ∙ (ap power (add_comm (log a) (log b)) ∙ sym (product_of_powers b a b_log a_log))
   ]
 ]
 
@@ -57,7 +56,7 @@ product_assoc a b c a_byte b_byte c_byte = elim (as_power a a_byte) [
     | inl b_zero ↦ simp (b_zero, product_zero_l, product_zero_r)
     | inr b_log ↦ elim (as_power c c_byte) [
       | inl c_zero ↦ simp (c_zero, product_zero_r)
-      | inr c_log ↦ simp (a_log.power, b_log.power, c_log.power) at (associates (slice_index LOG a) (slice_index LOG b) (slice_index LOG c))
+      | inr c_log ↦ simp (a_log.power, b_log.power, c_log.power) at (associates (log a) (log b) (log c))
     ]
   ]
 ]
@@ -82,11 +81,11 @@ zero_factor a b a_byte b_byte is_zero = elim (cases_eq a 0) [
 ]
 
 -- the power that completes a turn is the inverse
-pub product_of_turn : (a : ℕ) → a < 256 → a ≢ 0 → product a (power (255 - slice_index LOG a)) ≡ 1
+pub product_of_turn : (a : ℕ) → a < 256 → a ≢ 0 → product a (power (255 - log a)) ≡ 1
 product_of_turn a a_byte nonzero =
-    let log = log_of_byte a a_byte nonzero in
-    let below : slice_index LOG a < 255 = log.below in
-    ap (λ x. product x (power (255 - slice_index LOG a))) (sym log.power) ∙ (power_add _ _ ∙ (ap power (omega arith) ∙ full_turn))
+    let a_log = log_of_byte a a_byte nonzero in
+    let below : log a < 255 = a_log.below in
+    ap (λ x. product x (power (255 - log a))) (sym a_log.power) ∙ (power_add _ _ ∙ (ap power (omega arith) ∙ full_turn))
 
 -- two inverses of one byte are the same
 pub same_inverse : (a b c : ℕ) → a < 256 → b < 256 → c < 256 → product a b ≡ 1 → product a c ≡ 1 → b ≡ c
@@ -101,9 +100,9 @@ found_below zero a b below inverts = absurd (omega arith)
 found_below (suc n) a b below inverts = elim (cases_eq (product a n) 1) [
   | inl here ↦ rw (eq-eqb (product a n) 1 here) here
   | inr other ↦
-    let earlier : b ≢ n = λ same. other (ap (product a) (sym same) ∙ inverts) in
-    rw (ne_eqb (product a n) 1 other) (found_below n a b (omega arith) inverts)
-  ]
+      let earlier : b ≢ n = λ same. other (ap (product a) (sym same) ∙ inverts) in
+      rw (ne_eqb (product a n) 1 other) (found_below n a b (omega arith) inverts)
+]
 
 inverse_below_lt : (n a : ℕ) → n ≤ 256 → inverse_below n a < 256
 unfolding inverse_below

@@ -38,6 +38,14 @@ get_or-scale coef [] k = sym (product_zero_r coef)
 get_or-scale coef (x ∷ xs) zero = refl
 get_or-scale coef (x ∷ xs) (suc k) = get_or-scale coef xs k
 
+-- what a kernel leaves at each place
+pub get_or-add_scaled : (coef : ℕ) (xs ys : List ℕ) (k : ℕ) → length xs ≡ length ys → get_or (add_bytes ys (scale coef xs)) k 0 ≡ bit_xor (get_or ys k 0) (product coef (get_or xs k 0))
+get_or-add_scaled coef xs ys k same =
+    get_or-add_bytes ys (scale coef xs) k (sym (length-scale coef xs ∙ same)) ∙ ap (bit_xor (get_or ys k 0)) (get_or-scale coef xs k)
+
+pub length-add_scaled : (coef : ℕ) (xs ys : List ℕ) → length xs ≡ length ys → length (add_bytes ys (scale coef xs)) ≡ length ys
+length-add_scaled coef xs ys same = length-add_bytes ys (scale coef xs) (sym (length-scale coef xs ∙ same))
+
 pub AreBytes-add_bytes : (xs ys : List ℕ) → length xs ≡ length ys → AreBytes xs → AreBytes ys → AreBytes (add_bytes xs ys)
 AreBytes-add_bytes xs ys same xs_bytes ys_bytes k = rw (get_or-add_bytes xs ys k same) (sum_lt _ _ (xs_bytes k) (ys_bytes k))
 

@@ -3,13 +3,14 @@ ghost use Rattle.field_byte.specs.Field.{product};
 ghost use Rattle.field_byte.specs.Halves.{products_of_nibbles};
 
 use std::marker::Model;
+use std::simd::prelude::*;
 
 /// One coefficient, prepared to be multiplied with many bytes: its products with the low and with
 /// the high four bits of a byte. Contracts see the coefficient alone.
 #[derive(Drop)]
 pub struct Split {
-    low: [u8; 16],
-    high: [u8; 16],
+    low: u8x16,
+    high: u8x16,
 }
 
 impl Model for Split {
@@ -23,13 +24,30 @@ impl Model for Split {
     ghost invariant = { λ s. AreHalves (slice_index s.low 1) s.low s.high };
 }
 
+// All bits at each number of four bits that has the bit, and none at the others.
+const HAS_1: [u8; 16] = [
+    0, 255, 0, 255, 0, 255, 0, 255, 0, 255, 0, 255, 0, 255, 0, 255,
+];
+
+const HAS_2: [u8; 16] = [
+    0, 0, 255, 255, 0, 0, 255, 255, 0, 0, 255, 255, 0, 0, 255, 255,
+];
+
+const HAS_4: [u8; 16] = [
+    0, 0, 0, 0, 255, 255, 255, 255, 0, 0, 0, 0, 255, 255, 255, 255,
+];
+
+const HAS_8: [u8; 16] = [
+    0, 0, 0, 0, 0, 0, 0, 0, 255, 255, 255, 255, 255, 255, 255, 255,
+];
+
 // At each number of four bits the sum of those of four bytes that its bits name.
 macro_rules! sums {
     ($a:expr, $b:expr, $c:expr, $d:expr) => {
-        [
-            0, $a, $b, $a ^ $b, $c, $a ^ $c, $b ^ $c, $a ^ $b ^ $c,
-            $d, $a ^ $d, $b ^ $d, $a ^ $b ^ $d, $c ^ $d, $a ^ $c ^ $d, $b ^ $c ^ $d, $a ^ $b ^ $c ^ $d,
-        ]
+        (u8x16::splat($a) & u8x16::from_array(HAS_1))
+            ^ (u8x16::splat($b) & u8x16::from_array(HAS_2))
+            ^ (u8x16::splat($c) & u8x16::from_array(HAS_4))
+            ^ (u8x16::splat($d) & u8x16::from_array(HAS_8))
     };
 }
 
@@ -61,26 +79,26 @@ impl Split {
 
     /// The products with 0 to 15.
     #[inline(always)]
-    pub fn low(&self) -> &[u8; 16]
-        ensures products { result.now ≡ products_of_nibbles self.now 1 }
+    pub fn low(&self) -> u8x16
+        ensures products { result ≡ products_of_nibbles self.now 1 }
         ensures byte { self.now < 256 }
     {
-        &self.low
+        self.low
     }
 
     /// The products with 0, 16, 32 and so on to 240.
     #[inline(always)]
-    pub fn high(&self) -> &[u8; 16]
-        ensures { result.now ≡ products_of_nibbles self.now 16 }
+    pub fn high(&self) -> u8x16
+        ensures { result ≡ products_of_nibbles self.now 16 }
     {
-        &self.high
+        self.high
     }
 
     /// The product of the coefficient and `b`.
     pub fn mul(&self, b: u8) -> u8
         ensures { result ≡ product self.now b }
     {
-        self.low[(b & 15) as usize] ^ self.high[(b >> 4) as usize]
+        self.low.to_array()[(b & 15) as usize] ^ self.high.to_array()[(b >> 4) as usize]
     }
 }
 
@@ -95,6 +113,17 @@ mod tests {
         assert_eq!(rt; split.mul(0x02), 0x01);
         assert_eq!(rt; split.mul(0x10), 0x08);
         assert_eq!(rt; Split::of(0xF4).mul(0x03), 0x01);
+        Ok(())
+    }
+
+    #[test]
+    fn split_products_are_products(rt: HostRuntime) -> Result<(), Fail> {
+        for coef in 0..=255u8 {
+            let split = Split::of(coef);
+            for b in 0..=255u8 {
+                assert_eq!(rt; split.mul(b), crate::mul(coef, b));
+            }
+        }
         Ok(())
     }
 }

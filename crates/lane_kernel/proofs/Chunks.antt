@@ -5,7 +5,7 @@ use Rattle.std.proofs.lemmas.Bool.{cases_lt}
 use Rattle.std.proofs.lemmas.Grind.{same_number_lists}
 use Rattle.std.proofs.lemmas.Simd.{length-chunk, length-put_chunk, get_or-chunk, get_or-put_chunk_below, get_or-put_chunk_at, get_or-put_chunk_above}
 use Rattle.field_byte.specs.Vectors.{add_bytes, scale}
-use Rattle.field_byte.proofs.Vectors.{length-add_bytes, length-scale, get_or-add_bytes, chunk-add_bytes, chunk-scale}
+use Rattle.field_byte.proofs.Vectors.{length-add_scaled, length-scale, get_or-add_bytes, chunk-add_bytes, chunk-scale}
 
 -- before the place at, now is as whole, and from it on as old
 pub record Written (at : ℕ) (old whole now : List ℕ) : Type 0 where
@@ -76,7 +76,7 @@ module _ (coef : ℕ) (src old : List ℕ) (same : length src ≡ length old) wh
   scaled = sym (length-scale coef src ∙ same)
 
   pub length-sums : length sums ≡ length old
-  length-sums = length-add_bytes old (scale coef src) scaled
+  length-sums = length-add_scaled coef src old same
 
   sum_of_chunks : (at n : ℕ) → add_bytes (chunk at n old) (scale coef (chunk at n src)) ≡ chunk at n sums
   sum_of_chunks at n = sym (chunk-add_bytes at n old (scale coef src) scaled ∙ ap (add_bytes (chunk at n old)) (chunk-scale coef at n src))

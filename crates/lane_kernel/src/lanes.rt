@@ -16,8 +16,8 @@ const FOUR_TIMES: [usize; 64] = [
 pub(crate) fn add_product_16(split: &Split, from: u8x16, to: u8x16) -> u8x16
     ensures { result ≡ add_bytes to (scale split.now from) }
 {
-    let low = u8x16::from_array(*split.low());
-    let high = u8x16::from_array(*split.high());
+    let low = split.low();
+    let high = split.high();
     let lows = low.swizzle_dyn_within::<16>(from & u8x16::splat(15));
     let highs = high.swizzle_dyn_within::<16>(from >> u8x16::splat(4));
     to ^ (lows ^ highs)
@@ -27,8 +27,8 @@ pub(crate) fn add_product_16(split: &Split, from: u8x16, to: u8x16) -> u8x16
 pub(crate) fn add_product_64(split: &Split, from: u8x64, to: u8x64) -> u8x64
     ensures { result ≡ add_bytes to (scale split.now from) }
 {
-    let low = u8x16::from_array(*split.low()).swizzle::<64>(FOUR_TIMES);
-    let high = u8x16::from_array(*split.high()).swizzle::<64>(FOUR_TIMES);
+    let low = split.low().swizzle::<64>(FOUR_TIMES);
+    let high = split.high().swizzle::<64>(FOUR_TIMES);
     let lows = low.swizzle_dyn_within::<16>(from & u8x64::splat(15));
     let highs = high.swizzle_dyn_within::<16>(from >> u8x64::splat(4));
     to ^ (lows ^ highs)

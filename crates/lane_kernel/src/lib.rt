@@ -4,7 +4,7 @@
 #![tactic(auto)]
 
 mod lanes;
-pub mod plain;
+mod plain;
 
 ghost use Rattle.std.specs.Prelude.{◌≡◌, length};
 ghost use Rattle.field_byte.specs.Vectors.{add_bytes, scale};

@@ -13,6 +13,6 @@ swizzle-highs c = high_ok 1 16 c.args.from refl c.fits-from.0 c.fits-from.1
 pub returns : goal.returns
 unfolding add_bytes
 returns c =
-    let lows = sixteen_products _ 1 _ c.low.ensures.products in
-    let highs = sixteen_products _ 16 _ c.high.ensures in
-    ap (zip2 bit_xor c.args.to) (products_looked_up 16 c.args.split.now c.args.from _ _ c.low.ensures.byte c.fits-from.0 c.fits-from.1 lows highs)
+    let lows = sixteen_products _ 1 _ c.low-low.ensures.products in
+    let highs = sixteen_products _ 16 _ c.high-high.ensures in
+    ap (zip2 bit_xor c.args.to) (products_looked_up 16 c.args.split.now c.args.from _ _ c.low-low.ensures.byte c.fits-from.0 c.fits-from.1 lows highs)
