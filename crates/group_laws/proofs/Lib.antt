@@ -1,3 +1,4 @@
 pub mod Lanes
 pub mod Receives
 pub mod Placing
+pub mod Issuing

@@ -43,7 +43,7 @@ ranks-bytes_after s d [] p = refl
 ranks-bytes_after s d (u ∷ us) p = ranks-bytes_after s d us _
 
 -- what a process has of a partition once it applied more
-replica_of-apply_to : (s : Dimensions) (d n : ℕ) (p : Process) → replica_of (apply_to s d n p) d ≡ applied_to n (replica_of p d)
+pub replica_of-apply_to : (s : Dimensions) (d n : ℕ) (p : Process) → replica_of (apply_to s d n p) d ≡ applied_to n (replica_of p d)
 replica_of-apply_to s d n p = at-put empty_replica empty_replica _ d (applied_to n (replica_of p d))
 
 rank-apply_to : (s : Dimensions) (d n : ℕ) (p : Process) → at 0 (apply_to s d n p).ranks d ≡ at 0 p.ranks d

@@ -1,3 +1,4 @@
 pub mod Lane
 pub mod Seen
 pub mod Placing
+pub mod Views
