@@ -1,1 +1,3 @@
+pub mod AsMap
 pub mod Listing
+pub mod Ready

@@ -1,1 +1,2 @@
+pub mod AsMap
 pub mod Keys

@@ -82,14 +82,16 @@ impl<N: Numbering> Log<N> {
 
     /// The number up to which updates are applied.
     pub fn applied(&self) -> u64
-        ensures { result ≡ self.now.applied }
+        ensures applied { result ≡ self.now.applied }
+        ensures numbered { IsNumbered N.number_of self.now.applied self.now.updates }
     {
         self.applied
     }
 
     /// The number of the last update, or the applied number where the log is empty.
     pub fn last(&self) -> u64
-        ensures { result ≡ last_of self.now }
+        ensures last { result ≡ last_of self.now }
+        ensures numbered { IsNumbered N.number_of self.now.applied self.now.updates }
     {
         match self.updates.back() {
             Some(update) => N::number(update),
@@ -101,6 +103,7 @@ impl<N: Numbering> Log<N> {
     pub fn apply_next(&mut self) -> Option<N::Item>
         ensures updates { IfSome result (λ update. self.old.updates ≡ update ∷ self.new.updates) }
         ensures applied { IfSome result (λ _. self.new.applied ≡ self.old.applied + 1) }
+        ensures number { IfSome result (λ update. self.new.applied ≡ N.number_of update) }
         ensures empty { IfNone result (self.old.updates ≡ []) }
         ensures none { IfNone result (self.new ≡ self.old) }
         ensures spare { self.new.spare ≡ self.old.spare }
@@ -156,6 +159,7 @@ impl<N: Numbering> Log<N> {
     pub fn iter(&self) -> vec_deque::Iter<'_, N::Item>
         ensures rest { deque_iter_rest result ≡ self.now.updates }
         ensures runs { YieldsRefsInOrder (deque_iter_steps {X = N.Item}) deque_iter_rest }
+        ensures numbered { IsNumbered N.number_of self.now.applied self.now.updates }
     {
         self.updates.iter()
     }
