@@ -2,3 +2,4 @@ pub mod Dimensions
 pub mod Shape
 pub mod Key
 pub mod Hash
+pub mod Pieces

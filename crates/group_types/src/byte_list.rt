@@ -1,4 +1,5 @@
 ghost use Rattle.std.specs.Prelude.{◌≡◌, IfOk};
+ghost use Rattle.std.specs.Borrow.{sem};
 
 use std::alloc::{AllocError, Global};
 use std::marker::Model;
@@ -18,6 +19,8 @@ impl Model for ByteList {
 }
 
 impl ByteList {
+    ghost use Rattle.group_types.specs.Pieces.{LendsBytes};
+
     /// A list of its own with these bytes.
     pub fn of(alloc: Global, bytes: &[u8]) -> Result<ByteList, AllocError>
         ensures { IfOk result (λ list. list ≡ bytes.now) }
@@ -31,6 +34,14 @@ impl ByteList {
         ensures { result.now ≡ self.now }
     {
         &self.bytes
+    }
+
+    /// The bytes, to write into; their number stays.
+    pub fn bytes_mut(&mut self) -> &mut [u8]
+        ensures* writes_back { sem 𝓛 (LendsBytes self.entry result) }
+        ensures value { result.now ≡ self.old }
+    {
+        self.bytes.as_mut_slice()
     }
 }
 
