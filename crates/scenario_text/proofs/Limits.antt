@@ -1,4 +1,4 @@
-use Rattle.std.proofs.Common.{◌≡◌, ℕ, ◌<◌, ◌≤◌, ◌==◌, ◌&&◌, nat_le, nat_lt, not, Bool, true, false, List, length, All, Some, None, refl, sym, ap, arith}
+use Rattle.std.proofs.Common.{◌≡◌, ℕ, ◌==◌, ◌&&◌, nat_lt, not, true, false, List, Some, None, refl, sym, ap, arith}
 use Rattle.std.proofs.lemmas.Bool.Decides.{nat_tests}
 use Rattle.std.proofs.lemmas.Grind.{common_steps}
 use Rattle.std.proofs.lemmas.List.Sums.{list_all-from_AllPass}
@@ -8,7 +8,7 @@ use Rattle.group_types.specs.Shape.{IsShape, IsFirstOutOfRange}
 use Rattle.group_types.specs.declared.shape.Field.{Field}
 use Rattle.group_types.specs.declared.shape.Field.TheVariants.{K, M, Block, Blocks}
 use Rattle.scenario_text.specs.Meaning.{is_shape, group_within}
-use Rattle.scenario_text.specs.Words.{is_key_word, key_of_word}
+use Rattle.scenario_text.specs.Words.{key_of_word}
 use Rattle.scenario_text.specs.declared.line.Line.TheVariants.{Group}
 
 key_byte_passes : (b : ℕ) → IsKeyByte b → (nat_lt 32 b && not (b == 127)) ≡ true

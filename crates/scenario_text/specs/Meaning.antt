@@ -1,4 +1,4 @@
-use Rattle.std.specs.Prelude.{ℕ, ◌<◌, ⊤, pos, ◌==◌, ◌^◌, ◌*◌, nat_le, ◌&&◌, Bool, true, List, [], ◌∷◌, codes, Option, Some, None, if◌then◌else◌}
+use Rattle.std.specs.Prelude.{ℕ, ◌<◌, ⊤, pos, ◌==◌, ◌^◌, nat_le, ◌&&◌, Bool, true, List, [], ◌∷◌, codes, Option, Some, None, if◌then◌else◌}
 use Rattle.std.specs.Int.{is_power_of_two}
 use Rattle.std.specs.Str.{bytes_eq}
 use Rattle.group_types.specs.Dimensions.{Dimensions, space_of}

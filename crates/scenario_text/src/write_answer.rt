@@ -36,7 +36,10 @@ fn write_cause(alloc: Global, cause: &Cause) -> Result<Vec<u8>, AllocError>
     match cause {
         Cause::Pending { partition, number } => {
             let front = format!(in alloc; "retry pending {}", partition.0)?;
-            joined(front.into_bytes(), format!(in alloc; " {number}")?.as_bytes())
+            joined(
+                front.into_bytes(),
+                format!(in alloc; " {number}")?.as_bytes(),
+            )
         }
         Cause::Block { block } => Ok(format!(in alloc; "retry block {block}")?.into_bytes()),
     }

@@ -1,0 +1,54 @@
+use Rattle.std.specs.Prelude.{◌≡◌, ℕ, nat_lt, List, [], ◌++◌, codes, Option, Some, None, ◌⊎◌, if◌then◌else◌, length}
+use Rattle.std.specs.Fmt.{decimal}
+use Rattle.edge_io.specs.Faults.{Rose}
+use Rattle.scenario_play.specs.Script.{first_fault}
+use Rattle.scenario_play.specs.declared.status.Status.{Status}
+use Rattle.scenario_play.specs.declared.status.Status.TheVariants.{Done, BadWords, BadLine, TooLong, ReadFault, WriteFault, Want}
+
+-- the number with which the program ends
+abbrev pub number_of_status : Status → ℕ
+number_of_status Done = 0
+number_of_status BadWords = 1
+number_of_status (BadLine _) = 2
+number_of_status TooLong = 4
+number_of_status ReadFault = 6
+number_of_status WriteFault = 7
+number_of_status Want = 9
+
+-- the last line, of a bad line what stands before its number
+abbrev pub text_of_status : Status → List ℕ
+text_of_status Done = []
+text_of_status BadWords = codes "fault: words\n"
+text_of_status (BadLine _) = codes "fault: line "
+text_of_status TooLong = codes "fault: length\n"
+text_of_status ReadFault = codes "fault: read\n"
+text_of_status WriteFault = []
+text_of_status Want = codes "fault: memory\n"
+
+-- the last line that is written at a status
+abbrev pub last_line : Status → List ℕ
+last_line (BadLine n) = codes "fault: line " ++ decimal n ++ codes "\n"
+last_line Done = text_of_status Done
+last_line BadWords = text_of_status BadWords
+last_line TooLong = text_of_status TooLong
+last_line ReadFault = text_of_status ReadFault
+last_line WriteFault = text_of_status WriteFault
+last_line Want = text_of_status Want
+
+-- the most bytes that a script has
+abbrev pub longest_script : ℕ
+longest_script = 16777216
+
+-- what is told of a script with this first fault
+abbrev pub told_of : Option ℕ → Status
+told_of None = Done
+told_of (Some n) = BadLine n
+
+-- what is told of a script
+abbrev pub told : List ℕ → Status
+told text = if nat_lt longest_script (length text) then TooLong else told_of (first_fault text)
+
+-- a status is the one that is to be told, or there was no memory, or an object counted a fault
+abbrev pub IsTold : Status → ℕ → ℕ → ℕ → ℕ → Status → Type 0
+IsTold wanted read_before read_now written_before written_now status =
+    (status ≡ wanted) ⊎ (status ≡ Want) ⊎ ((status ≡ ReadFault) × Rose read_before read_now) ⊎ ((status ≡ WriteFault) × Rose written_before written_now)

@@ -1,0 +1,54 @@
+ghost use Rattle.std.specs.Prelude.{◌≡◌};
+
+/// How a command ended.
+#[derive(Clone, Copy, Debug, PartialEq, Eq)]
+pub enum Status {
+    /// All the work was done.
+    Done,
+    /// The words name no command.
+    BadWords,
+    /// The number of the first line, from 1, that is no script line.
+    BadLine(u64),
+    /// The input has more bytes than its limit.
+    TooLong,
+    /// The source counted a fault.
+    ReadFault,
+    /// The sink counted a fault.
+    WriteFault,
+    /// There was no memory.
+    Want,
+}
+
+impl Status {
+    ghost use Rattle.scenario_play.specs.Status.{number_of_status, text_of_status};
+
+    /// The number with which the program ends.
+    pub fn number(self) -> u8
+        ensures { result ≡ number_of_status self }
+    {
+        self.row().0
+    }
+
+    /// The last line that is written, with its end: of `BadLine` what stands before the number, and
+    /// nothing where no line is written.
+    pub(crate) fn text(self) -> &'static str
+        ensures { result.now ≡ text_of_status self }
+    {
+        self.row().1
+    }
+
+    fn row(self) -> (u8, &'static str)
+        ensures number { result.0 ≡ number_of_status self }
+        ensures text { result.1.now ≡ text_of_status self }
+    {
+        match self {
+            Status::Done => (0, ""),
+            Status::BadWords => (1, "fault: words\n"),
+            Status::BadLine(_) => (2, "fault: line "),
+            Status::TooLong => (4, "fault: length\n"),
+            Status::ReadFault => (6, "fault: read\n"),
+            Status::WriteFault => (7, ""),
+            Status::Want => (9, "fault: memory\n"),
+        }
+    }
+}
