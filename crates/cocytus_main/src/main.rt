@@ -12,12 +12,19 @@ use std::alloc::AllocError;
 use std::process::ExitCode;
 use std::{env, io};
 
-fn main(rt: HostRuntime) -> io::Result<ExitCode> {
-    let mut words = env::args(&rt)?;
-    words.next();
-    let words: Vec<String> = words.collect(rt.alloc())?;
-    let status = match MemoryListener::new(rt.alloc(), Vec::new(rt.alloc()), &[]) {
-        Ok(mut listener) => run_program(
+fn main(rt: HostRuntime) -> ExitCode {
+    // Arguments that are no text name no command: they count as no words.
+    let words = match env::args(&rt) {
+        Ok(mut words) => {
+            words.next();
+            words.collect(rt.alloc())
+        }
+        Err(error) if error.kind() == io::ErrorKind::OutOfMemory => Err(AllocError),
+        Err(_) => Ok(Vec::new(rt.alloc())),
+    };
+    let listener = MemoryListener::new(rt.alloc(), Vec::new(rt.alloc()), &[]);
+    let status = match (words, listener) {
+        (Ok(words), Ok(mut listener)) => run_program(
             &rt,
             rt.alloc(),
             &words,
@@ -26,7 +33,7 @@ fn main(rt: HostRuntime) -> io::Result<ExitCode> {
             &mut listener,
             &SystemClock::new(&rt),
         ),
-        Err(AllocError) => Status::Want,
+        _ => Status::Want,
     };
-    Ok(ExitCode::from(status.number()))
+    ExitCode::from(status.number())
 }
