@@ -50,15 +50,19 @@ abbrev pub for_each : List ℕ → (ℕ → Process → Made) → Process → Ma
 for_each [] f p = quiet p
 for_each (x ∷ xs) f p = and_then (f x p) (for_each xs f)
 
+-- the replica of partition d at a process
 abbrev pub replica_of : Process → ℕ → Replica
 replica_of p d = at empty_replica p.replicas d
 
+-- the head of partition d at a process, if it heads it
 abbrev pub head_at : Process → ℕ → Option Head
 head_at p d = at None p.heads d
 
+-- the process with another replica of partition d
 abbrev pub with_replica : ℕ → Replica → Process → Process
 with_replica d r p = record p { replicas = put empty_replica p.replicas d r }
 
+-- the process with another head of partition d
 abbrev pub with_head : ℕ → Option Head → Process → Process
 with_head d h p = record p { heads = put None p.heads d h }
 

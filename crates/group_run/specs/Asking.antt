@@ -45,6 +45,7 @@ outcome_of reply.Deleted = ends.Deleted
 outcome_of reply.Touched = ends.Touched
 outcome_of _ = ends.Stored
 
+-- the reply that an outcome is handed out as
 abbrev pub reply_from : Outcome → Reply
 reply_from ends.Stored = reply.Stored
 reply_from ends.Deleted = reply.Deleted
@@ -56,10 +57,12 @@ pub record Oldest : Type 0 where
   pub partition : ℕ
   pub number : ℕ
 
+-- the oldest inherited update of one partition that is unfinished here
 abbrev pub inherited_here : Process → ℕ → Option Head → Option Oldest
 inherited_here p d None = None
 inherited_here p d (Some h) = if nat_lt (replica_of p d).applied h.inherited then Some (record { partition = d; number = (replica_of p d).applied + 1 }) else None
 
+-- the same of the lowest of some partitions that has one
 abbrev pub oldest_inherited : Process → List ℕ → Option Oldest
 oldest_inherited p [] = None
 oldest_inherited p (d ∷ ds) = elim (inherited_here p d (head_at p d)) [ Some o ↦ Some o | None ↦ oldest_inherited p ds ]
@@ -161,6 +164,7 @@ ask_head s name op d p (Some h) = act_on s name op d h p (decide_read s d h op p
 abbrev pub ask_process : Dimensions → CallName → Asked → Process → Handed
 ask_process s name op p = ask_head s name op (home_of (key_of op.act) s.k) p (head_at p (home_of (key_of op.act) s.k))
 
+-- the held call is this one
 abbrev pub is_call : ℕ → ℕ → Held → Bool
 is_call caller call h = h.caller == caller && h.call == call
 
@@ -170,10 +174,12 @@ hand_out d h held p = if nat_le held.number (replica_of p d).applied
     then only (says.Reply (reply_from held.outcome)) (with_head d (Some (record h { held = filter (λ x. not (is_call held.caller held.call x)) h.held })) p)
     else only says.NotYet p
 
+-- the call among those that a head holds
 abbrev pub held_call : ℕ → ℕ → Option Head → Option Held
 held_call caller call None = None
 held_call caller call (Some h) = first (is_call caller call) h.held
 
+-- the call is handed out where this head holds it
 abbrev pub hand_out_at : ℕ → Option Head → Option Held → Process → Option Handed
 hand_out_at d None held p = None
 hand_out_at d (Some h) None p = None

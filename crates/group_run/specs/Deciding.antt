@@ -30,10 +30,12 @@ pub data Decision : Type 0 where
   NeedsBytes : Run → Decision
   Issues : Option Run → Option Run → Reply → Option Holding → Decision
 
+-- the act is a get
 abbrev pub is_get : Act → Bool
 is_get (Get _) = true
 is_get _ = false
 
+-- the act is a touch
 abbrev pub is_touch : Act → Bool
 is_touch (Touch _ _) = true
 is_touch _ = false
@@ -68,6 +70,7 @@ is_blind len (Value _) = len == 0
 is_blind len NotNumber = len == 0 || nat_lt 20 len
 is_blind len _ = true
 
+-- how many bytes an item has, 0 where there is none
 abbrev pub length_of : Option Slot → ℕ
 length_of None = 0
 length_of (Some slot) = slot.run.len
@@ -92,6 +95,7 @@ abbrev pub stored_value : Act → Option Holding → Option (List ℕ)
 stored_value act None = None
 stored_value act (Some h) = if is_touch act then None else Some h.item.value
 
+-- the run that an update gives back: that of the item, and none of a touch
 abbrev pub run_freed : Act → Option Slot → Option Run
 run_freed act None = None
 run_freed act (Some slot) = if is_touch act then None else Some slot.run
@@ -124,6 +128,7 @@ abbrev pub decide_settled : ℕ → Replica → Asked → Option Slot → Option
 decide_settled space r op slot (Some reply) bytes = Answers reply
 decide_settled space r op slot None bytes = decide_reading space r op slot (run_needed op slot) bytes
 
+-- the decision once it is known what the op has to wait for
 abbrev pub decide_waiting : ℕ → Replica → Asked → Option Slot → Option ℕ → Option (List ℕ) → Decision
 decide_waiting space r op slot (Some n) bytes = Retries n
 decide_waiting space r op slot None bytes =

@@ -32,10 +32,12 @@ abbrev pub next_from : World → ℕ → Option ℕ → Option Event
 next_from w x None = None
 next_from w x (Some y) = Some (Deliver (process_at w.shape x) (process_at w.shape y))
 
+-- the first delivery from one of these places
 abbrev pub next_among : World → List ℕ → Option Event
 next_among w [] = None
 next_among w (x ∷ xs) = elim (next_from w x (next_target w x (range 0 (w.shape.k + w.shape.m)))) [ Some e ↦ Some e | None ↦ next_among w xs ]
 
+-- the next delivery of a group that is drained
 abbrev pub next_delivery : World → Option Event
 next_delivery w = next_among w (range 0 (w.shape.k + w.shape.m))
 

@@ -14,9 +14,11 @@ use Rattle.group_run.specs.Names.{same_process}
 use Rattle.group_run.specs.Process.{Process, Head}
 use Rattle.group_run.specs.Replica.{last_of, up_to}
 
+-- a rank by its number
 abbrev pub rank : ℕ → Rank
 rank r = record { 0 = r }
 
+-- a partition by its number
 abbrev pub partition : ℕ → Partition
 partition d = record { 0 = d }
 
@@ -55,6 +57,7 @@ abbrev pub judge_head : Dimensions → ℕ → Process → Option Head → Made
 judge_head s d p None = quiet p
 judge_head s d p (Some h) = settle_to s d (least_acked h (last_of (replica_of p d)) (other_parities s p)) p
 
+-- a process judges the acknowledgements of partition d, if it heads it
 abbrev pub judge : Dimensions → ℕ → Process → Made
 judge s d p = judge_head s d p (head_at p d)
 

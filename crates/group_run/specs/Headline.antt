@@ -42,6 +42,7 @@ abbrev pub IsRunFrom : World → List Event → Type 0
 IsRunFrom w [] = Unit {0}
 IsRunFrom w (e ∷ es) = MayCome w e × IsRunFrom (step w e).world es
 
+-- a list of events that may come from the start on
 abbrev pub IsRun : Dimensions → List Event → Type 0
 IsRun s es = IsRunFrom (opening s) es
 
@@ -50,11 +51,12 @@ pub record OneLog (s : Dimensions) (es : List Event) : Type 0 where
   pub legal : IsLegal s.k (after s es).log
   pub within : AnswersWithin s.k (turns_of s es)
 
--- the log, cut after the n-th update of partition d
+-- how many updates are still to come behind an entry that is one, or isn't
 abbrev pub left_after : Bool → ℕ → ℕ
 left_after true n = n
 left_after false n = suc n
 
+-- the first entries of a log, up to the n-th update of partition d
 abbrev pub cut_after : ℕ → ℕ → ℕ → List Entry → List Entry
 cut_after k d n [] = []
 cut_after k d zero (e ∷ es) = []
@@ -68,10 +70,12 @@ table_at w d n = table_of (empty_table w.shape.k) (cut_after w.shape.k d n w.log
 abbrev pub run_after : Logged → Option Run → Option Run
 run_after u old = elim u.item [ None ↦ None | Some _ ↦ elim u.run [ None ↦ old | Some run ↦ Some run ] ]
 
+-- the run of a key after an update, which changes it only where it is on that key
 abbrev pub run_unless : Bool → Logged → Option Run → Option Run
 run_unless true u old = run_after u old
 run_unless false u old = old
 
+-- the run of a key after updates, in order
 abbrev pub run_on : List ℕ → Option Run → List Logged → Option Run
 run_on key old [] = old
 run_on key old (u ∷ us) = run_on key (run_unless (same_key (key_of u.entry.op.act) key) u old) us
@@ -102,6 +106,7 @@ pub record KeepsAll (w : World) (d : ℕ) (r : Replica) : Type 0 where
   pub items : IsSettled w d r
   pub log : (j : ℕ) (u : Logged) (v : Update) → slice_get r.log j ≡ Some v → slice_get (updates_of w d) (r.applied + j) ≡ Some u → IsLogged u v
 
+-- no logged update is undone, at any living process
 pub record NotUndone (w : World) : Type 0 where
   pub at_data : (d : ℕ) → d < w.shape.k → Lives w (DataNode d) → KeepsAll w d (replica_of (node_of w (DataNode d)).process d)
   pub all_applied : (d : ℕ) → d < w.shape.k → Lives w (DataNode d) → (replica_of (node_of w (DataNode d)).process d).applied ≡ count_logged w d
@@ -141,6 +146,7 @@ pub record IsWritten (w : World) (d n : ℕ) (run : Run) (h : Holding) : Type 0 
   pub long : run.len ≡ length h.item.value
   pub apart : (key : List ℕ) (other : Run) → run_on key None (take n (updates_of w d)) ≡ Some other → AreApart run other
 
+-- every update that has a run is written at it
 abbrev pub ValuesWritten : World → Type 0
 ValuesWritten w = (d n : ℕ) (u : Logged) (run : Run) → d < w.shape.k → slice_get (updates_of w d) n ≡ Some u → u.run ≡ Some run → (h : Holding) × (u.item ≡ Some h) × IsWritten w d n run h
 

@@ -43,10 +43,12 @@ pub record Logged : Type 0 where
 abbrev pub is_update_of : ℕ → ℕ → Entry → Bool
 is_update_of k d entry = if accepts entry.reply then home_of (key_of entry.op.act) k == d else false
 
+-- the run of the next update, if it has one
 abbrev pub run_at : List (Option Run) → Option Run
 run_at [] = None
 run_at (run ∷ _) = run
 
+-- the runs that are left behind an entry
 abbrev pub runs_left : Bool → List (Option Run) → List (Option Run)
 runs_left true runs = drop 1 runs
 runs_left false runs = runs

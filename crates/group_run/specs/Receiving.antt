@@ -56,6 +56,7 @@ abbrev pub takes_over : Process → ℕ → ProcessId → Bool
 takes_over p d (DataNode _) = false
 takes_over p d (ParityNode i) = not (there (head_at p d)) && knows_dead p (DataNode d) && all (λ j. knows_dead p (ParityNode j)) (range 0 i)
 
+-- the partition is taken over
 abbrev pub taken_over : Dimensions → ℕ → Process → Made
 taken_over s d p =
     let r : ℕ = number_of_parity p.name + 1 in
@@ -63,10 +64,12 @@ taken_over s d p =
     let q : Process = with_head d (Some head) (record p { ranks = put 0 p.ranks d r }) in
     and_then (sending (to_parities (other_parities s q) (tells.Adopt (rank r) (partition d) (replica_of p d).applied (replica_of p d).log)) q) (judge s d)
 
+-- it is taken over where that is due
 abbrev pub take_over_when : Bool → Dimensions → ℕ → Process → Made
 take_over_when true s d p = taken_over s d p
 take_over_when false s d p = quiet p
 
+-- a partition is taken over where all of lower rank are known to be dead
 abbrev pub take_over_if : Dimensions → ℕ → Process → Made
 take_over_if s d p = take_over_when (takes_over p d p.name) s d p
 

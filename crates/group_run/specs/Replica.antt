@@ -32,6 +32,7 @@ pub record Replica : Type 0 where
   pub log : List Update
   pub kept : List (Option Kept)
 
+-- the replica at the start
 abbrev pub empty_replica : Replica
 empty_replica = record { items = []; applied = 0; log = []; kept = [] }
 

@@ -31,6 +31,7 @@ block_in s block space = take s.block (drop (block * s.block) space)
 abbrev pub is_block : ℕ → ℕ → Rebuilt → Bool
 is_block d block b = b.partition == d && b.block == block
 
+-- the rebuilt block of a partition, if there is one
 abbrev pub rebuilt_block : Process → ℕ → ℕ → Option Rebuilt
 rebuilt_block p d block = first (is_block d block) p.rebuilt
 
@@ -68,6 +69,7 @@ gathered_when false s g p = record p { sessions = without_session g.number p.ses
 abbrev pub gathered : Dimensions → Gathering → Process → Process
 gathered s g p = gathered_when (is_complete s g) s g p
 
+-- the open session of a number, if there is one
 abbrev pub open_session : Process → ℕ → Option Gathering
 open_session p number = first (λ g. g.number == number) p.sessions
 
@@ -81,12 +83,15 @@ abbrev pub row_comes : Dimensions → ℕ → List ℕ → Option Gathering → 
 row_comes s i bytes None p = p
 row_comes s i bytes (Some g) p = gathered s (record g { rows_in = g.rows_in ++ record { number = i; bytes = bytes } ∷ [] }) p
 
+-- the copy is of this session
 abbrev pub is_copy : ℕ → ℕ → Copy → Bool
 is_copy leader number copy = copy.leader == leader && copy.number == number
 
+-- a row's copy for a session, if there is one
 abbrev pub copy_of : Process → ℕ → ℕ → Option Copy
 copy_of p leader number = first (is_copy leader number) p.copies
 
+-- the copies but the one of a session
 abbrev pub without_copy : ℕ → ℕ → List Copy → List Copy
 without_copy leader number copies = filter (λ c. not (is_copy leader number c)) copies
 
@@ -134,6 +139,7 @@ mark_comes s leader number r block d n p = mark_when (accepts_mark p leader numb
 abbrev pub lost_of : Dimensions → Process → List ℕ
 lost_of s p = filter (λ d. knows_dead p (DataNode d)) (range 0 s.k)
 
+-- the data processes that aren't known to be dead
 abbrev pub left_of : Dimensions → Process → List ℕ
 left_of s p = filter (λ d. not (knows_dead p (DataNode d))) (range 0 s.k)
 
@@ -147,6 +153,7 @@ leader_marks s leader number block p l = map
     (λ i. record { to = ParityNode i; message = tells.Mark (session_of leader number) (rank (at 0 p.ranks l)) block (partition l) (replica_of p l).applied })
     (filter (λ i. not (i == leader)) (rows_of s p))
 
+-- the leader's marks for all lost partitions, in order
 abbrev pub all_marks : Dimensions → ℕ → ℕ → ℕ → Process → List ℕ → List Sent
 all_marks s leader number block p [] = []
 all_marks s leader number block p (l ∷ ls) = leader_marks s leader number block p l ++ all_marks s leader number block p ls

@@ -45,6 +45,7 @@ pub record Treated : Type 0 where
   pub settled : List Settlement
   pub issued : Bool
 
+-- an answer that leaves the node as it is
 abbrev pub unchanged : Answer → Node → Treated
 unchanged answer node = record { node = node; answer = answer; settled = []; issued = false }
 
@@ -56,15 +57,19 @@ treated s node handed = record { node = node_after s handed.made node; answer = 
 abbrev pub if_up : Node → Treated → Treated
 if_up node treat = if node.down then unchanged says.Down node else (if node.dead then unchanged says.Lost node else treat)
 
+-- a call is asked at a node
 abbrev pub ask_node : Dimensions → CallName → Asked → Node → Treated
 ask_node s name op node = if_up node (treated s node (ask_process s name op node.process))
 
+-- a call is collected at a node
 abbrev pub collect_node : Dimensions → ℕ → ℕ → Node → Treated
 collect_node s caller call node = if_up node (treated s node (collect_from caller call node.process (range 0 s.k)))
 
+-- a node tells how far it has settled
 abbrev pub flush_node : Dimensions → Node → Treated
 flush_node s node = if_up node (treated s node (record { made = sending (tell_stables s node.process (range 0 s.k)) node.process; answer = says.Done; issued = false }))
 
+-- a call is traced at a node
 abbrev pub trace_node : Dimensions → ℕ → ℕ → ℕ → Node → Treated
 trace_node s caller call d node = if_up node (unchanged (fate_of s caller call d node.process (head_at node.process d)) node)
 
@@ -88,6 +93,7 @@ deliver_first s from to sender receiver (message ∷ rest) =
       receiver = record { node = node_after s made receiver; answer = says.Done; settled = made.settled; issued = false };
     }
 
+-- a delivery from one node to another, unless the group is down
 abbrev pub deliver_nodes : Dimensions → ProcessId → ProcessId → Node → Node → Delivered
 deliver_nodes s from to sender receiver = if receiver.down
     then record { sender = sender; receiver = unchanged says.Down receiver }
@@ -103,9 +109,11 @@ abbrev pub links_cut : ProcessId → ℕ → List (List Message) → List (List 
 links_cut x keep [] = []
 links_cut x keep (link ∷ links) = (take keep link ++ tells.Notice x ∷ []) ∷ links_cut x keep links
 
+-- a node whose process dies
 abbrev pub node_failed : Dimensions → ProcessId → ℕ → Node → Node
 node_failed s x keep node = record node { dead = true; links = links_cut x keep (map (at [] node.links) (range 0 (s.k + s.m))) }
 
+-- a node that is told whether the group is down
 abbrev pub with_down : Bool → Node → Node
 with_down down node = record node { down = down }
 
@@ -161,9 +169,11 @@ pub record Moved : Type 0 where
   pub settled : List Settlement
   pub issued : Bool
 
+-- the nodes where one is changed
 abbrev pub moved_one : World → ProcessId → Treated → Moved
 moved_one w p t = record { nodes = with_node w p t.node; answer = t.answer; settled = t.settled; issued = t.issued }
 
+-- the nodes where two are changed, the sender and then the receiver
 abbrev pub moved_two : World → ProcessId → ProcessId → Delivered → Moved
 moved_two w from to d = record {
   nodes = put (opening_node w.shape to) (with_node w from d.sender) (place_of w.shape to) d.receiver.node;
@@ -178,6 +188,7 @@ failed_nodes w p keep =
     let nodes : List Node = with_node w p (node_failed w.shape p keep (node_of w p)) in
     map (with_down (nat_lt w.shape.m (count_dead nodes))) nodes
 
+-- the nodes after a failure, which a dead process has no more of
 abbrev pub moved_all : World → ProcessId → ℕ → Moved
 moved_all w p keep = if (node_of w p).dead
     then record { nodes = w.nodes; answer = says.AlreadyDead; settled = []; issued = false }
@@ -280,6 +291,7 @@ abbrev pub world_after : World → List Event → World
 world_after w [] = w
 world_after w (e ∷ es) = world_after (step w e).world es
 
+-- the turns of events, from a group on
 abbrev pub turns_from : World → List Event → List Turn
 turns_from w [] = []
 turns_from w (e ∷ es) = (step w e).turn ∷ turns_from (step w e).world es
@@ -288,6 +300,7 @@ turns_from w (e ∷ es) = (step w e).turn ∷ turns_from (step w e).world es
 abbrev pub after : Dimensions → List Event → World
 after s es = world_after (opening s) es
 
+-- the turns of a run
 abbrev pub turns_of : Dimensions → List Event → List Turn
 turns_of s es = turns_from (opening s) es
 
