@@ -113,202 +113,152 @@ fn hold(
 mod tests {
     use super::*;
     use crate::act::Act;
-    use crate::reply::Item;
     use group_types::Payload;
     use std::test::Fail;
 
-    /// One table of one partition that is asked in turn.
-    #[derive(Drop)]
-    struct Dialogue {
-        alloc: Global,
-        table: Table,
-    }
+    // An op on a key at a moment, with its exptime, cas number or amount, and its value; all flags
+    // are 7. Then the reply, with the cas number and the value of an item, or the number.
+    type Row = (
+        u64,
+        &'static str,
+        &'static str,
+        i64,
+        &'static str,
+        (&'static str, u64, &'static str),
+    );
 
-    impl Dialogue {
-        fn new(alloc: Global) -> Result<Dialogue, AllocError> {
-            let table = Table::new(alloc, 1)?;
-            Ok(Dialogue { alloc, table })
-        }
+    const COMPARED: [Row; 6] = [
+        (0, "set", "a", 0, "1", ("stored", 0, "")),
+        (0, "set", "a", 0, "2", ("stored", 0, "")),
+        (0, "cas", "a", 1, "3", ("exists", 0, "")),
+        (0, "cas", "a", 2, "3", ("stored", 0, "")),
+        (0, "get", "a", 0, "", ("value", 3, "3")),
+        (0, "cas", "z", 1, "4", ("not_found", 0, "")),
+    ];
 
-        fn ask(&mut self, now: u64, act: Act) -> Result<Option<Reply>, AllocError>
-            requires { now ≤ 2 ^ 62 }
-        {
-            let op = Op::new(now, act);
-            if self.table.count(op.act().key()) < 1 << 40 {
-                return Ok(Some(self.table.apply(&op)?));
-            }
-            Ok(None)
-        }
+    const REFUSED: [Row; 6] = [
+        (0, "set", "a", 0, "1", ("stored", 0, "")),
+        (0, "add", "a", 0, "5", ("not_stored", 0, "")),
+        (0, "replace", "z", 0, "5", ("not_stored", 0, "")),
+        (0, "delete", "z", 0, "", ("not_found", 0, "")),
+        (0, "delete", "a", 0, "", ("deleted", 0, "")),
+        (0, "get", "a", 0, "", ("miss", 0, "")),
+    ];
 
-        fn key(&self, text: &str) -> Result<Key, AllocError> {
-            match Key::read(self.alloc, text.as_bytes()) {
-                Ok(key) => Ok(key),
-                Err(_) => Err(AllocError),
-            }
-        }
+    const EXPIRED: [Row; 6] = [
+        (100, "set", "a", 10, "A", ("stored", 0, "")),
+        (109, "touch", "a", 5, "", ("touched", 0, "")),
+        (113, "get", "a", 0, "", ("value", 1, "A")),
+        (114, "get", "a", 0, "", ("miss", 0, "")),
+        (114, "add", "a", -1, "B", ("stored", 0, "")),
+        (114, "get", "a", 0, "", ("miss", 0, "")),
+    ];
 
-        fn value(&self, text: &str) -> Result<Payload, AllocError> {
-            Payload::of(self.alloc, text.as_bytes())
-        }
+    const COUNTED: [Row; 9] = [
+        (0, "set", "n", 0, "99", ("stored", 0, "")),
+        (0, "incr", "n", 1, "", ("number", 100, "")),
+        (0, "decr", "n", 200, "", ("number", 0, "")),
+        (0, "append", "n", 0, "x", ("stored", 0, "")),
+        (0, "incr", "n", 1, "", ("not_number", 0, "")),
+        (0, "get", "n", 0, "", ("value", 4, "0x")),
+        (0, "prepend", "z", 0, "A", ("not_stored", 0, "")),
+        (0, "set", "n", 0, "18446744073709551615", ("stored", 0, "")),
+        (0, "incr", "n", 2, "", ("number", 1, "")),
+    ];
 
-        fn found(&self, flags: u32, cas: u64, text: &str) -> Result<Option<Reply>, AllocError> {
-            let value = self.value(text)?;
-            Ok(Some(Reply::Value(Item { flags, cas, value })))
-        }
-
-        fn set(&self, flags: u32, expiry: i64, text: &str) -> Result<Act, AllocError> {
-            let (key, value) = (self.key("a")?, self.value(text)?);
-            Ok(Act::Set {
+    fn store(op: &str, key: Key, number: i64, value: Payload) -> Act {
+        let (flags, expiry) = (7, number);
+        match op {
+            "set" => Act::Set {
                 key,
                 flags,
                 expiry,
                 value,
-            })
-        }
-
-        fn cas(&self, key: &str, flags: u32, cas: u64, text: &str) -> Result<Act, AllocError> {
-            let (key, value) = (self.key(key)?, self.value(text)?);
-            Ok(Act::Cas {
+            },
+            "add" => Act::Add {
+                key,
+                flags,
+                expiry,
+                value,
+            },
+            "replace" => Act::Replace {
+                key,
+                flags,
+                expiry,
+                value,
+            },
+            "append" => Act::Append { key, value },
+            "prepend" => Act::Prepend { key, value },
+            _ => Act::Cas {
                 key,
                 flags,
                 expiry: 0,
-                cas,
+                cas: number.unsigned_abs(),
                 value,
-            })
-        }
-
-        fn get(&self) -> Result<Act, AllocError> {
-            Ok(Act::Get {
-                key: self.key("a")?,
-            })
+            },
         }
     }
 
-    #[test]
-    fn compares_the_cas_number(rt: HostRuntime) -> Result<(), Fail> {
-        let mut to = Dialogue::new(rt.alloc())?;
-        assert_eq!(rt; to.ask(0, to.set(0, 0, "1")?)?, Some(Reply::Stored));
-        assert_eq!(rt; to.ask(0, to.set(0, 0, "2")?)?, Some(Reply::Stored));
-        assert_eq!(rt; to.ask(0, to.cas("a", 0, 1, "3")?)?, Some(Reply::Exists));
-        assert_eq!(rt; to.ask(0, to.cas("a", 7, 2, "3")?)?, Some(Reply::Stored));
-        assert_eq!(rt; to.ask(0, to.get()?)?, to.found(7, 3, "3")?);
-        assert_eq!(rt; to.ask(0, to.cas("z", 0, 1, "4")?)?, Some(Reply::NotFound));
-        Ok(())
+    fn change(op: &str, key: Key, number: i64) -> Act {
+        let by = number.unsigned_abs();
+        match op {
+            "delete" => Act::Delete { key },
+            "touch" => Act::Touch {
+                key,
+                expiry: number,
+            },
+            "incr" => Act::Incr { key, by },
+            "decr" => Act::Decr { key, by },
+            _ => Act::Get { key },
+        }
+    }
+
+    fn told(reply: &Reply) -> (&str, u64, &[u8]) {
+        match reply {
+            Reply::Value(item) => ("value", item.cas, item.value.bytes()),
+            Reply::Miss => ("miss", 0, b""),
+            Reply::Stored => ("stored", 0, b""),
+            Reply::NotStored => ("not_stored", 0, b""),
+            Reply::Exists => ("exists", 0, b""),
+            Reply::NotFound => ("not_found", 0, b""),
+            Reply::Deleted => ("deleted", 0, b""),
+            Reply::Touched => ("touched", 0, b""),
+            Reply::Number(number) => ("number", *number, b""),
+            Reply::NotNumber => ("not_number", 0, b""),
+            Reply::TooLarge => ("too_large", 0, b""),
+        }
+    }
+
+    // Asks the rows of one table in turn, and gives the number of the first whose reply differs.
+    fn first_wrong(alloc: Global, rows: &[Row]) -> Result<Option<usize>, AllocError> {
+        let mut table = Table::new(alloc, 1)?;
+        for (at, (now, op, key, number, text, reply)) in rows.iter().enumerate() {
+            let Ok(key) = Key::read(alloc, key.as_bytes()) else {
+                return Ok(Some(at));
+            };
+            let act = if text.is_empty() {
+                change(op, key, *number)
+            } else {
+                store(op, key, *number, Payload::of(alloc, text.as_bytes())?)
+            };
+            let op = Op::new((*now).min(1 << 62), act);
+            if table.count(op.act().key()) >= 1 << 62 {
+                return Ok(Some(at));
+            }
+            let given = table.apply(&op)?;
+            if told(&given) != (reply.0, reply.1, reply.2.as_bytes()) {
+                return Ok(Some(at));
+            }
+        }
+        Ok(None)
     }
 
     #[test]
-    fn stores_and_deletes_where_it_may(rt: HostRuntime) -> Result<(), Fail> {
-        let mut to = Dialogue::new(rt.alloc())?;
-        assert_eq!(rt; to.ask(0, to.set(0, 0, "1")?)?, Some(Reply::Stored));
-        let (key, value) = (to.key("a")?, to.value("5")?);
-        let add = Act::Add {
-            key,
-            flags: 0,
-            expiry: 0,
-            value,
-        };
-        assert_eq!(rt; to.ask(0, add)?, Some(Reply::NotStored));
-        let (key, value) = (to.key("z")?, to.value("5")?);
-        let replace = Act::Replace {
-            key,
-            flags: 0,
-            expiry: 0,
-            value,
-        };
-        assert_eq!(rt; to.ask(0, replace)?, Some(Reply::NotStored));
-        assert_eq!(rt;
-            to.ask(0, Act::Delete { key: to.key("z")? })?,
-            Some(Reply::NotFound)
-        );
-        assert_eq!(rt;
-            to.ask(0, Act::Delete { key: to.key("a")? })?,
-            Some(Reply::Deleted)
-        );
-        assert_eq!(rt; to.ask(0, to.get()?)?, Some(Reply::Miss));
-        Ok(())
-    }
-
-    #[test]
-    fn forgets_what_has_expired(rt: HostRuntime) -> Result<(), Fail> {
-        let mut to = Dialogue::new(rt.alloc())?;
-        assert_eq!(rt; to.ask(100, to.set(0, 10, "A")?)?, Some(Reply::Stored));
-        let touch = Act::Touch {
-            key: to.key("a")?,
-            expiry: 5,
-        };
-        assert_eq!(rt; to.ask(109, touch)?, Some(Reply::Touched));
-        assert_eq!(rt; to.ask(113, to.get()?)?, to.found(0, 1, "A")?);
-        assert_eq!(rt; to.ask(114, to.get()?)?, Some(Reply::Miss));
-        let add = Act::Add {
-            key: to.key("a")?,
-            flags: 0,
-            expiry: -1,
-            value: to.value("B")?,
-        };
-        assert_eq!(rt; to.ask(114, add)?, Some(Reply::Stored));
-        assert_eq!(rt; to.ask(114, to.get()?)?, Some(Reply::Miss));
-        Ok(())
-    }
-
-    #[test]
-    fn counts_in_numerals(rt: HostRuntime) -> Result<(), Fail> {
-        let mut to = Dialogue::new(rt.alloc())?;
-        assert_eq!(rt; to.ask(0, to.set(0, 0, "99")?)?, Some(Reply::Stored));
-        assert_eq!(rt;
-            to.ask(
-                0,
-                Act::Incr {
-                    key: to.key("a")?,
-                    by: 1
-                }
-            )?,
-            Some(Reply::Number(100))
-        );
-        assert_eq!(rt;
-            to.ask(
-                0,
-                Act::Decr {
-                    key: to.key("a")?,
-                    by: 200
-                }
-            )?,
-            Some(Reply::Number(0))
-        );
-        let append = Act::Append {
-            key: to.key("a")?,
-            value: to.value("x")?,
-        };
-        assert_eq!(rt; to.ask(0, append)?, Some(Reply::Stored));
-        assert_eq!(rt;
-            to.ask(
-                0,
-                Act::Incr {
-                    key: to.key("a")?,
-                    by: 1
-                }
-            )?,
-            Some(Reply::NotNumber)
-        );
-        assert_eq!(rt; to.ask(0, to.get()?)?, to.found(0, 4, "0x")?);
-        let prepend = Act::Prepend {
-            key: to.key("z")?,
-            value: to.value("A")?,
-        };
-        assert_eq!(rt; to.ask(0, prepend)?, Some(Reply::NotStored));
-        assert_eq!(rt;
-            to.ask(0, to.set(0, 0, "18446744073709551615")?)?,
-            Some(Reply::Stored)
-        );
-        assert_eq!(rt;
-            to.ask(
-                0,
-                Act::Incr {
-                    key: to.key("a")?,
-                    by: 2
-                }
-            )?,
-            Some(Reply::Number(1))
-        );
+    fn answers_as_the_protocol_says(rt: HostRuntime) -> Result<(), Fail> {
+        assert_eq!(rt; first_wrong(rt.alloc(), &COMPARED)?, None);
+        assert_eq!(rt; first_wrong(rt.alloc(), &REFUSED)?, None);
+        assert_eq!(rt; first_wrong(rt.alloc(), &EXPIRED)?, None);
+        assert_eq!(rt; first_wrong(rt.alloc(), &COUNTED)?, None);
         Ok(())
     }
 }
