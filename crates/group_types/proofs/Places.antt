@@ -1,10 +1,10 @@
 -- Where a number stands in a list of pieces, and what writing into its piece leaves.
-use Rattle.std.proofs.Common.{◌≡◌, ◌≢◌, ℕ, zero, suc, ◌+◌, ◌<◌, ◌≤◌, ◌==◌, List, [], ◌∷◌, ◌++◌, length, take, drop, map, get_or, set, replicate, Contains, below_more, inl, inr, sym, ap, ◌∙◌, refl, arith, true, false}
+use Rattle.std.proofs.Common.{◌≡◌, ◌≢◌, ℕ, ◌+◌, ◌<◌, ◌≤◌, ◌==◌, List, [], ◌++◌, length, take, get_or, set, Contains, below_more, inl, inr, sym, ap, ◌∙◌, arith}
 use Rattle.std.specs.List.{position_or_len}
 use Rattle.std.proofs.lemmas.Bool.{eq-eqb, ne_eqb, eqb-true, cases_lt, true≢false}
-use Rattle.std.proofs.lemmas.List.{length-map, get_or-map, map-set, length-set, get_or-set_same, get_or-set_other, set-get_or, get_or_default, take_all, drop_all, append-nil}
+use Rattle.std.proofs.lemmas.List.{length-map, get_or-map, map-set, get_or-set_same, get_or-set_other, set-get_or, get_or_default, take_all, drop_all, append-nil}
 use Rattle.std.proofs.lemmas.List.Sums.{position_or_len_is, fails_before_first, passes_at_first}
-use Rattle.group_types.specs.Pieces.{numbers_of, place_of, piece_of, bytes_of, overwritten, with_bytes, zero_pieces}
+use Rattle.group_types.specs.Pieces.{numbers_of, place_of, piece_of, bytes_of, overwritten, with_bytes}
 use Rattle.group_types.specs.declared.piece_list.Piece.{Piece}
 
 -- none of the first n pieces has the number

@@ -1,0 +1,23 @@
+#!/bin/sh
+# Bytes per second of the code beside the kernel, by hand: sh bench/code.sh [PROCESSOR]
+# PROCESSOR is x86-64-v2, as the gate builds, unless another is named, as x86-64-v3.
+set -eu
+processor=${1:-x86-64-v2}
+here=$(cd "$(dirname "$0")" && pwd)
+top=$(dirname "$here")
+work=$(mktemp -d)
+trap 'rm -rf "$work"' EXIT
+mkdir -p "$work/crates"
+for name in group_types memc_table group_message vector_stamp field_byte run_alloc group_run lane_kernel field_matrix cauchy_code; do
+    cp -r "$top/crates/$name" "$work/crates/"
+    grep "^$name:" "$top/crates.txt" >> "$work/crates.txt"
+done
+mkdir -p "$work/crates/code_bench/src"
+cp "$here/code/main.rattle" "$work/crates/code_bench/src/main.rt"
+cp -r "$here/code/proofs" "$work/crates/code_bench/"
+echo 'code_bench: anyhow group_types group_run lane_kernel cauchy_code' >> "$work/crates.txt"
+(cd "$work/crates/code_bench" && rt run --cpu "$processor" > "$work/code.txt" 2> "$work/log.txt") || { tail -20 "$work/log.txt"; exit 1; }
+echo "GB/s of k = 4, m = 2, best of several runs, $processor: one product, one block's difference into both"
+echo "parities, four blocks into both, and two lost blocks from two rows and two known ones"
+awk 'BEGIN { printf "%9s %9s %9s %9s %9s\n", "bytes", "product", "delta", "encode", "decode" }
+    { printf "%9d %9.2f %9.2f %9.2f %9.2f\n", $1, $1 * $2 / $3, $1 * $2 / $4, 4 * $1 * $2 / $5, 2 * $1 / $6 }' "$work/code.txt"

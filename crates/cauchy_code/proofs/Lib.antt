@@ -1,0 +1,9 @@
+pub mod Terms
+pub mod Parts
+pub mod Partitions
+pub mod Recovery
+pub mod Solutions
+pub mod Cases
+pub mod Nodes
+pub mod Weights
+pub mod Machine

@@ -1,0 +1,60 @@
+//! The code of a coding group: each parity process keeps a sum of the partitions' bytes, with
+//! coefficients that are a Cauchy matrix over the field of `field_byte`. The contracts say which
+//! sum, and that lost columns are recovered from any rows as the only ones that agree with them;
+//! where the bytes stand is left to the crates above.
+#![tactic(auto)]
+
+mod column;
+mod decoding;
+mod square;
+
+ghost use Rattle.std.specs.Prelude.{◌≡◌, ◌+◌, ◌<◌, ◌≤◌, bit_xor, length};
+ghost use Rattle.field_byte.specs.Field.{product};
+ghost use Rattle.field_byte.specs.Vectors.{add_bytes, scale};
+ghost use Rattle.group_run.specs.Code.{coefficient};
+
+pub use decoding::decode;
+use field_byte::inv;
+use lane_kernel::mul_add_into;
+
+/// The coefficient of parity process `i` of `m` for partition `d`.
+pub fn coefficient(m: u32, i: u32, d: u32) -> u8
+    requires m { m ≤ 4 }
+    requires i { i < m }
+    requires d { d ≤ 15 }
+    ensures value { result ≡ coefficient m i d }
+    ensures inverts { product (bit_xor i (m + d)) result ≡ 1 }
+{
+    inv((i ^ (m + d)) as u8)
+}
+
+/// Adds what a difference in partition `d` makes in the bytes of parity process `i`, at the same
+/// addresses.
+pub fn add_delta(m: u32, i: u32, d: u32, delta: &[u8], into: &mut [u8])
+    requires m { m ≤ 4 }
+    requires i { i < m }
+    requires d { d ≤ 15 }
+    requires long { length delta.now ≡ length into.old }
+    ensures { into.new ≡ add_bytes into.old (scale (coefficient m i d) delta.now) }
+{
+    mul_add_into(coefficient(m, i, d), delta, into);
+}
+
+#[cfg(test)]
+mod tests {
+    use super::*;
+    use std::test::Fail;
+
+    #[test]
+    fn three_bytes_in_two_parity_processes(rt: HostRuntime) -> Result<(), Fail> {
+        let mut p0 = [0u8];
+        let mut p1 = [0u8];
+        for (d, byte) in [(0, 0x01), (1, 0x02), (2, 0x03)] {
+            add_delta(2, 0, d, &[byte], &mut p0);
+            add_delta(2, 1, d, &[byte], &mut p1);
+        }
+        assert_eq!(rt; p0, [0xB2]);
+        assert_eq!(rt; p1, [0x01]);
+        Ok(())
+    }
+}

@@ -1,0 +1,4 @@
+pub mod Places
+pub mod Unions
+pub mod Addresses
+pub mod Spaces

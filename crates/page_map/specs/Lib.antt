@@ -1,0 +1,4 @@
+pub mod Pages
+pub mod Order
+pub mod Loans
+pub mod Spaces

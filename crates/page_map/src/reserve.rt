@@ -1,0 +1,86 @@
+ghost use Rattle.std.specs.Prelude.{◌≡◌, ◌+◌, ◌-◌, ◌*◌, ◌<◌, ◌≤◌, None, IfOk, OnOk, OnErr, ℕ, replicate};
+ghost use Rattle.page_map.specs.Pages.{AreMissing, HasPage, HasPages, IsUnion, MakesZeros, SameDimensions, byte_in, made_in, page_in};
+
+use crate::Pages;
+use group_types::ByteList;
+use std::alloc::{AllocError, Global};
+
+impl Pages {
+    /// Makes the pages of the `len` addresses from `at` on that aren't there, all zero.
+    pub fn reserve(&mut self, at: u32, len: u32) -> Result<(), AllocError>
+        requires { at + len ≤ self.old.blocks * self.old.block }
+        ensures pages { OnOk result (MakesZeros self.old self.new at len) }
+        ensures there { OnOk result (HasPages self.new at len) }
+        ensures bytes { (a : ℕ) → byte_in self.new a ≡ byte_in self.old a }
+        ensures room { OnOk result (self.new.room ≡ self.old.room) }
+        ensures dimensions { SameDimensions self.old self.new }
+        ensures err { OnErr result (self.new ≡ self.old) }
+    {
+        let fresh = self.missing(at, len)?;
+        let room = self.room().checked_add(fresh.made()).ok_or(AllocError)?;
+        self.make_room(room)?;
+        self.add_all(fresh);
+        Ok(())
+    }
+
+    // A page of zeros for each block of the range that has none.
+    fn missing(&self, at: u32, len: u32) -> Result<Pages, AllocError>
+        requires { at + len ≤ self.now.blocks * self.now.block }
+        ensures missing { IfOk result (λ fresh. AreMissing self.now fresh at len) }
+        ensures long { 0 < self.now.block }
+    {
+        let block = self.block();
+        let mut fresh = Pages::new(self.alloc(), self.blocks(), block)?;
+        if len == 0 {
+            return Ok(fresh);
+        }
+        'numbers: for number in at / block..(at + len - 1) / block + 1 {
+            if !self.has(number) {
+                fresh.make_room(1)?;
+                fresh.place(number, zeros(self.alloc(), block)?);
+            }
+        }
+        Ok(fresh)
+    }
+
+    // Takes over the pages of others, of blocks that have none here.
+    fn add_all(&mut self, others: Pages)
+        requires apart { (b : ℕ) → HasPage others b → page_in self.old b ≡ None }
+        requires room { made_in others ≤ self.old.room }
+        requires dimensions { SameDimensions self.old others }
+        ensures pages { IsUnion others self.old self.new }
+        ensures room { self.new.room ≡ self.old.room - made_in others }
+        ensures dimensions { SameDimensions self.old self.new }
+    {
+        let mut others = others;
+        'pages: while let Some(page) = others.pop() {
+            self.place(page.number, page.bytes);
+        }
+    }
+}
+
+fn zeros(alloc: Global, len: u32) -> Result<ByteList, AllocError>
+    ensures { IfOk result (λ bytes. bytes ≡ replicate len 0) }
+{
+    Ok(ByteList::from(vec![in alloc; 0u8; len as usize]?))
+}
+
+#[cfg(test)]
+mod tests {
+    use super::*;
+    use std::test::Fail;
+
+    #[test]
+    fn makes_the_pages_of_a_range_alone(rt: HostRuntime) -> Result<(), Fail> {
+        let mut pages = Pages::new(rt.alloc(), 5, 16)?;
+        pages.reserve(0, 0)?;
+        assert_eq!(rt; pages.made(), 0);
+        pages.reserve(20, 29)?;
+        assert_eq!(rt; pages.made(), 3);
+        assert!(rt; !pages.has(0) && pages.has(1) && pages.has(2) && pages.has(3) && !pages.has(4));
+        assert_eq!(rt; pages.page(2), Some([0u8; 16].as_slice()));
+        pages.reserve(0, 80)?;
+        assert_eq!(rt; pages.made(), 5);
+        Ok(())
+    }
+}

@@ -1,0 +1,30 @@
+use Rattle.std.proofs.Common.{◌≡◌, ◌+◌, ◌*◌, ◌≤◌, length, subst, sym, ap, ap₂, ◌∙◌, arith}
+use Rattle.group_message.specs.declared.update.Body.{Body}
+use Rattle.group_message.specs.declared.update.Body.TheVariants.{Put}
+use Rattle.group_types.specs.declared.process.ProcessId.TheVariants.{ParityNode}
+use Rattle.group_run.specs.Code.{added_at, coefficient}
+use Rattle.group_run.specs.Applying.{space_added}
+use Rattle.field_byte.specs.Vectors.{scale}
+use Rattle.page_map.specs.Pages.{numbers_in}
+use Rattle.page_map.specs.Spaces.{bytes_of}
+use Rattle.page_map.proofs.Spaces.{all_found, bytes_added}
+use Rattle.parity_space.specs.Space.{Space, CanBeAdded}
+use Rattle.parity_space.proofs.space.ParitySpace.apply.Goals as goal
+
+pub add_product-requires-clause-there : goal.add_product-requires-clause-there
+add_product-requires-clause-there c =
+    let asked = subst (λ (s : Space). CanBeAdded s.shape s.made c.args.update.now.body) (sym c.self.view_is) c.requires.ready in
+    let ready = subst (λ (b : Body). CanBeAdded c.self.inside.shape (numbers_in c.self.inside.pages) b) c.in-Put.is asked in
+    let long : length c.bytes.result.now ≡ c.in-Put.run'.len = ap length c.bytes.ensures ∙ ready.1 in
+    all_found c.self.inside.pages c.self.inside.shape.block c.in-Put.run'.at (length c.bytes.result.now) c.self.invariant.2 (λ a from below. ready.2 a from (omega (arith, long)))
+
+pub returns-in-Put-clause-bytes : goal.returns-in-Put-clause-bytes
+returns-in-Put-clause-bytes c =
+    let asked = subst (λ (s : Space). CanBeAdded s.shape s.made c.args.update.now.body) (sym c.self.view_is) c.requires.ready in
+    let ready = subst (λ (b : Body). CanBeAdded c.self.inside.shape (numbers_in c.self.inside.pages) b) c.in-Put.is asked in
+    let pages = c.self.inside.pages in
+    let area : pages.blocks * pages.block ≡ c.self.inside.shape.blocks * c.self.inside.shape.block = ap₂ (λ x y. x * y) c.self.invariant.1 c.self.invariant.2 in
+    let long : length c.bytes.result.now ≡ c.in-Put.run'.len = ap length c.bytes.ensures ∙ ready.1 in
+    let coef = c.coefficient-coef.ensures ∙ ap (λ (s : Space). coefficient s.shape.m s.number c.args.d.0) (sym c.self.view_is) in
+    let added = bytes_added pages c.add_product.new.self c.in-Put.run'.at c.coefficient-coef.result c.bytes.result.now (omega (arith, ready.0, area, long)) c.add_product.ensures in
+    rw (← c.self.view_is, c.in-Put.is) (subst (λ sum. bytes_of c.add_product.new.self ≡ added_at c.in-Put.run'.at sum (bytes_of pages)) (ap₂ scale coef c.bytes.ensures) added)

@@ -1,0 +1,161 @@
+ghost use Rattle.std.specs.Prelude.{◌≡◌, ◌+◌, ◌*◌, ◌<◌, ◌≤◌, [], length, replicate, IfOk, OnOk, OnErr};
+ghost use Rattle.group_types.specs.Dimensions.{space_of};
+ghost use Rattle.group_types.specs.declared.process.ProcessId.TheVariants.{ParityNode};
+ghost use Rattle.group_run.specs.Code.{bytes_in, coefficient};
+ghost use Rattle.group_run.specs.Applying.{space_added};
+ghost use Rattle.page_map.specs.Spaces.{AllMade, LiesIn, MakesOnly};
+ghost use Rattle.parity_space.specs.Space.{CanBeAdded};
+
+use field_byte::inv;
+use group_message::{Body, Update};
+use group_types::{ByteList, Partition, Run, Shape};
+use page_map::Pages;
+use std::alloc::{AllocError, Global};
+use std::marker::Model;
+
+/// The bytes of a parity process. A page that isn't there reads as zeros.
+#[derive(Debug, Drop)]
+pub struct ParitySpace {
+    shape: Shape,
+    number: u32,
+    pages: Pages,
+}
+
+impl Model for ParitySpace {
+    ghost use Rattle.std.specs.Prelude.{◌≡◌, ◌<◌};
+    ghost use Rattle.parity_space.specs.Space.{Space, space_in};
+
+    ghost Value = { Space };
+
+    ghost view = { λ s. space_in s.shape s.number s.pages };
+
+    ghost invariant = { λ s. (s.number < s.shape.m) × (s.pages.blocks ≡ s.shape.blocks) × (s.pages.block ≡ s.shape.block) };
+}
+
+impl ParitySpace {
+    /// The space of parity process `number`, of zeros and with no page.
+    pub fn new(alloc: Global, shape: Shape, number: u32) -> Result<ParitySpace, AllocError>
+        requires { number < shape.m }
+        ensures shape { IfOk result (λ space. space.shape ≡ shape) }
+        ensures number { IfOk result (λ space. space.number ≡ number) }
+        ensures bytes { IfOk result (λ space. space.bytes ≡ replicate (space_of shape) 0) }
+        ensures made { IfOk result (λ space. space.made ≡ []) }
+    {
+        Ok(ParitySpace {
+            shape,
+            number,
+            pages: Pages::new(alloc, shape.blocks(), shape.block())?,
+        })
+    }
+
+    /// Makes the pages of the run that aren't there.
+    pub fn reserve(&mut self, run: Run) -> Result<(), AllocError>
+        requires { LiesIn run self.old.shape }
+        ensures shape { self.new.shape ≡ self.old.shape }
+        ensures number { self.new.number ≡ self.old.number }
+        ensures bytes { self.new.bytes ≡ self.old.bytes }
+        ensures ready { OnOk result (AllMade self.old.shape.block run self.new.made) }
+        ensures made { OnOk result (MakesOnly self.old.shape.block run self.old.made self.new.made) }
+        ensures err { OnErr result (self.new ≡ self.old) }
+    {
+        self.pages.reserve(run.at, run.len)
+    }
+
+    /// Adds the difference of an update of partition `d`, times its coefficient. It takes no memory.
+    pub fn apply(&mut self, d: Partition, update: &Update)
+        requires partition { d.0 < self.old.shape.k }
+        requires ready { CanBeAdded self.old.shape self.old.made update.now.body }
+        ensures shape { self.new.shape ≡ self.old.shape }
+        ensures number { self.new.number ≡ self.old.number }
+        ensures bytes { self.new.bytes ≡ space_added self.old.shape (ParityNode self.old.number) d.0 update.now.body self.old.bytes }
+        ensures made { self.new.made ≡ self.old.made }
+    {
+        match &update.body {
+            Body::Put { run, delta, .. } => {
+                let coef = self.coefficient(d);
+                self.pages.add_product(run.at, coef, delta.bytes());
+            }
+            Body::Remove | Body::Touch { .. } => {}
+        }
+    }
+
+    /// The bytes of the run.
+    pub fn range(&self, run: Run) -> Result<ByteList, AllocError>
+        requires { LiesIn run self.now.shape }
+        ensures bytes { IfOk result (λ bytes. bytes ≡ bytes_in run self.now.bytes) }
+        ensures length { IfOk result (λ bytes. length bytes ≡ run.len) }
+    {
+        let mut bytes = vec![in self.pages.alloc(); 0u8; run.len as usize]?;
+        self.pages.read_into(run.at, &mut bytes);
+        Ok(ByteList::from(bytes))
+    }
+
+    /// Reads the bytes of the run.
+    pub fn read_into(&self, run: Run, into: &mut [u8])
+        requires within { LiesIn run self.now.shape }
+        requires length { length into.old ≡ run.len }
+        ensures { into.new ≡ bytes_in run self.now.bytes }
+    {
+        self.pages.read_into(run.at, into);
+    }
+
+    // The entry of a Cauchy matrix, of the rows i and the columns m + d.
+    fn coefficient(&self, d: Partition) -> u8
+        requires { d.0 < self.now.shape.k }
+        ensures { result ≡ coefficient self.now.shape.m self.now.number d.0 }
+    {
+        inv((self.number ^ (self.shape.m() + d.0)) as u8)
+    }
+}
+
+#[cfg(test)]
+mod tests {
+    use super::*;
+    use group_message::Outcome;
+    use group_types::{Key, Payload};
+    use std::test::Fail;
+
+    #[test]
+    fn adds_the_product_across_the_ends_of_pages(rt: HostRuntime) -> Result<(), Fail> {
+        let shape = Shape::new(2, 2, 4, 16).map_err(|_| AllocError)?;
+        for len in [4u32, 19] {
+            let run = Run { at: 14, len };
+            let ones = vec![in rt.alloc(); 1u8; len as usize]?;
+            let delta = Payload::from_vec(ones)?;
+            let mut space = ParitySpace::new(rt.alloc(), shape, 1)?;
+            space.reserve(run)?;
+            let body = Body::Put {
+                flags: 0,
+                until: None,
+                run,
+                delta,
+            };
+            let update = update(rt.alloc(), body)?;
+            space.apply(Partition(0), &update);
+            // The inverse of 1 + (2 + 0) is F4.
+            for byte in space.range(run)?.bytes() {
+                assert_eq!(rt; *byte, 0xF4);
+            }
+            space.apply(Partition(0), &self::update(rt.alloc(), Body::Remove)?);
+            let mut read = [9u8; 2];
+            space.read_into(Run { at: 13, len: 2 }, &mut read);
+            assert_eq!(rt; read, [0, 0xF4]);
+        }
+        Ok(())
+    }
+
+    fn update(alloc: Global, body: Body) -> Result<Update, Fail>
+        ensures { IfOk result (λ update. update.body ≡ body) }
+    {
+        let key = Key::read(alloc, b"g").map_err(|_| AllocError)?;
+        Ok(Update {
+            number: 1,
+            caller: 0,
+            call: 1,
+            key,
+            body,
+            frees: None,
+            outcome: Outcome::Stored,
+        })
+    }
+}

@@ -1,0 +1,143 @@
+ghost use Rattle.std.specs.Prelude.{◌≡◌, ◌+◌, ◌*◌, ◌≤◌, [], length, replicate, IfOk, OnOk, OnErr};
+ghost use Rattle.group_types.specs.Dimensions.{space_of};
+ghost use Rattle.group_run.specs.Code.{added_at, bytes_in};
+ghost use Rattle.field_byte.specs.Vectors.{add_bytes};
+ghost use Rattle.page_map.specs.Pages.{HasPages, SameDimensions, numbers_in};
+ghost use Rattle.page_map.specs.Spaces.{AllMade, LiesIn, MakesOnly, bytes_of};
+
+use group_types::{ByteList, Payload, Run, Shape};
+use lane_kernel::xor_into;
+use page_map::Pages;
+use std::alloc::{AllocError, Global};
+use std::marker::Model;
+
+/// The bytes of a data process. A page that isn't there reads as zeros.
+#[derive(Debug, Drop)]
+pub struct ValueSpace {
+    shape: Shape,
+    pages: Pages,
+}
+
+impl Model for ValueSpace {
+    ghost use Rattle.std.specs.Prelude.{◌≡◌};
+    ghost use Rattle.value_space.specs.Space.{Space, space_in};
+
+    ghost Value = { Space };
+
+    ghost view = { λ s. space_in s.shape s.pages };
+
+    ghost invariant = { λ s. (s.pages.blocks ≡ s.shape.blocks) × (s.pages.block ≡ s.shape.block) };
+}
+
+impl ValueSpace {
+    /// A space of zeros, with no page.
+    pub fn new(alloc: Global, shape: Shape) -> Result<ValueSpace, AllocError>
+        ensures shape { IfOk result (λ space. space.shape ≡ shape) }
+        ensures bytes { IfOk result (λ space. space.bytes ≡ replicate (space_of shape) 0) }
+        ensures made { IfOk result (λ space. space.made ≡ []) }
+    {
+        Ok(ValueSpace {
+            shape,
+            pages: Pages::new(alloc, shape.blocks(), shape.block())?,
+        })
+    }
+
+    /// How many pages were made.
+    pub fn made(&self) -> u32
+        ensures { result ≡ length self.now.made }
+    {
+        self.pages.made()
+    }
+
+    /// Makes the pages of the run that aren't there.
+    pub fn reserve(&mut self, run: Run) -> Result<(), AllocError>
+        requires { LiesIn run self.old.shape }
+        ensures shape { self.new.shape ≡ self.old.shape }
+        ensures bytes { self.new.bytes ≡ self.old.bytes }
+        ensures ready { OnOk result (AllMade self.old.shape.block run self.new.made) }
+        ensures made { OnOk result (MakesOnly self.old.shape.block run self.old.made self.new.made) }
+        ensures err { OnErr result (self.new ≡ self.old) }
+    {
+        self.pages.reserve(run.at, run.len)
+    }
+
+    /// Adds a difference to the bytes of the run. It takes no memory.
+    pub fn apply(&mut self, run: Run, delta: &Payload)
+        requires within { LiesIn run self.old.shape }
+        requires length { length delta.now ≡ run.len }
+        requires ready { AllMade self.old.shape.block run self.old.made }
+        ensures shape { self.new.shape ≡ self.old.shape }
+        ensures bytes { self.new.bytes ≡ added_at run.at delta.now self.old.bytes }
+        ensures made { self.new.made ≡ self.old.made }
+    {
+        add(&mut self.pages, run.at, delta.bytes());
+    }
+
+    /// The bytes of the run.
+    pub fn copy(&self, run: Run) -> Result<ByteList, AllocError>
+        requires { LiesIn run self.now.shape }
+        ensures bytes { IfOk result (λ bytes. bytes ≡ bytes_in run self.now.bytes) }
+        ensures length { IfOk result (λ bytes. length bytes ≡ run.len) }
+    {
+        let mut bytes = vec![in self.pages.alloc(); 0u8; run.len as usize]?;
+        self.pages.read_into(run.at, &mut bytes);
+        Ok(ByteList::from(bytes))
+    }
+
+    /// What has to be added to the bytes of the run to make them this value.
+    pub fn delta_for(&self, run: Run, value: &Payload) -> Result<Payload, AllocError>
+        requires within { LiesIn run self.now.shape }
+        requires length { length value.now ≡ run.len }
+        ensures { IfOk result (λ delta. delta ≡ add_bytes value.now (bytes_in run self.now.bytes)) }
+    {
+        let mut bytes = Vec::from(self.copy(run)?);
+        xor_into(value.bytes(), &mut bytes);
+        Payload::from_vec(bytes)
+    }
+}
+
+fn add(pages: &mut Pages, at: u32, bytes: &[u8])
+    requires within { at + length bytes.now ≤ pages.old.blocks * pages.old.block }
+    requires there { HasPages pages.old at (length bytes.now) }
+    ensures bytes { bytes_of pages.new ≡ added_at at bytes.now (bytes_of pages.old) }
+    ensures made { numbers_in pages.new ≡ numbers_in pages.old }
+    ensures dimensions { SameDimensions pages.old pages.new }
+{
+    pages.add_product(at, 1, bytes);
+}
+
+#[cfg(test)]
+mod tests {
+    use super::*;
+    use std::test::Fail;
+
+    #[test]
+    fn one_byte_makes_one_page(rt: HostRuntime) -> Result<(), Fail> {
+        let shape = Shape::new(1, 0, 1024, 65_536).map_err(|_| AllocError)?;
+        let mut space = ValueSpace::new(rt.alloc(), shape)?;
+        assert_eq!(rt; space.made(), 0);
+        let run = Run { at: 0, len: 1 };
+        space.reserve(run)?;
+        space.apply(run, &Payload::of(rt.alloc(), b"g")?);
+        assert_eq!(rt; space.made(), 1);
+        assert_eq!(rt; space.copy(run)?.bytes(), b"g".as_slice());
+        Ok(())
+    }
+
+    #[test]
+    fn differences_cross_the_ends_of_pages(rt: HostRuntime) -> Result<(), Fail> {
+        let shape = Shape::new(1, 0, 4, 16).map_err(|_| AllocError)?;
+        for (at, value) in [(14, b"cart".as_slice()), (15, b"a lock of two pages")] {
+            let mut space = ValueSpace::new(rt.alloc(), shape)?;
+            let run = Run {
+                at,
+                len: value.len() as u32,
+            };
+            let delta = space.delta_for(run, &Payload::of(rt.alloc(), value)?)?;
+            space.reserve(run)?;
+            space.apply(run, &delta);
+            assert_eq!(rt; space.copy(run)?.bytes(), value);
+        }
+        Ok(())
+    }
+}
