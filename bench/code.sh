@@ -14,7 +14,8 @@ for name in group_types memc_table group_message vector_stamp field_byte run_all
 done
 mkdir -p "$work/crates/code_bench/src"
 cp "$here/code/main.rattle" "$work/crates/code_bench/src/main.rt"
-cp -r "$here/code/proofs" "$work/crates/code_bench/"
+mkdir -p "$work/crates/code_bench/proofs/main"
+cp "$here/code/answers" "$work/crates/code_bench/proofs/main/Answers.antt"
 echo 'code_bench: anyhow group_types group_run lane_kernel cauchy_code' >> "$work/crates.txt"
 (cd "$work/crates/code_bench" && rt run --cpu "$processor" > "$work/code.txt" 2> "$work/log.txt") || { tail -20 "$work/log.txt"; exit 1; }
 echo "GB/s of k = 4, m = 2, best of several runs, $processor: one product, one block's difference into both"
