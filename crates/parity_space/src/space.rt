@@ -54,7 +54,7 @@ impl ParitySpace {
         ensures shape { self.new.shape ≡ self.old.shape }
         ensures number { self.new.number ≡ self.old.number }
         ensures bytes { self.new.bytes ≡ self.old.bytes }
-        ensures ready { OnOk result (AllMade self.old.shape.block run self.new.made) }
+        ensures ready { OnOk result (AllMade self.new.shape.block run self.new.made) }
         ensures made { OnOk result (MakesOnly self.old.shape.block run self.old.made self.new.made) }
         ensures err { OnErr result (self.new ≡ self.old) }
     {
@@ -117,30 +117,28 @@ mod tests {
 
     #[test]
     fn adds_the_product_across_the_ends_of_pages(rt: HostRuntime) -> Result<(), Fail> {
-        let shape = Shape::new(2, 2, 4, 16).map_err(|_| AllocError)?;
-        for len in [4u32, 19] {
-            let run = Run { at: 14, len };
-            let ones = vec![in rt.alloc(); 1u8; len as usize]?;
-            let delta = Payload::from_vec(ones)?;
-            let mut space = ParitySpace::new(rt.alloc(), shape, 1)?;
-            space.reserve(run)?;
-            let body = Body::Put {
-                flags: 0,
-                until: None,
-                run,
-                delta,
-            };
-            let update = update(rt.alloc(), body)?;
-            space.apply(Partition(0), &update);
-            // The inverse of 1 + (2 + 0) is F4.
-            for byte in space.range(run)?.bytes() {
-                assert_eq!(rt; *byte, 0xF4);
-            }
-            space.apply(Partition(0), &self::update(rt.alloc(), Body::Remove)?);
-            let mut read = [9u8; 2];
-            space.read_into(Run { at: 13, len: 2 }, &mut read);
-            assert_eq!(rt; read, [0, 0xF4]);
+        let Ok(shape) = Shape::new(2, 2, 4, 16) else {
+            return Err(AllocError)?;
+        };
+        let mut space = ParitySpace::new(rt.alloc(), shape, 1)?;
+        let run = Run { at: 14, len: 20 };
+        let delta = Payload::of(rt.alloc(), &[1; 20])?;
+        space.reserve(run)?;
+        let put = Body::Put {
+            flags: 0,
+            until: None,
+            run,
+            delta,
+        };
+        space.apply(Partition(0), &update(rt.alloc(), put)?);
+        space.apply(Partition(0), &update(rt.alloc(), Body::Remove)?);
+        // The inverse of 1 + (2 + 0) is F4.
+        for byte in space.range(run)?.bytes() {
+            assert_eq!(rt; *byte, 0xF4);
         }
+        let mut read = [9u8; 2];
+        space.read_into(Run { at: 13, len: 2 }, &mut read);
+        assert_eq!(rt; read, [0, 0xF4]);
         Ok(())
     }
 

@@ -54,7 +54,7 @@ impl ValueSpace {
         requires { LiesIn run self.old.shape }
         ensures shape { self.new.shape ≡ self.old.shape }
         ensures bytes { self.new.bytes ≡ self.old.bytes }
-        ensures ready { OnOk result (AllMade self.old.shape.block run self.new.made) }
+        ensures ready { OnOk result (AllMade self.new.shape.block run self.new.made) }
         ensures made { OnOk result (MakesOnly self.old.shape.block run self.old.made self.new.made) }
         ensures err { OnErr result (self.new ≡ self.old) }
     {
@@ -113,7 +113,9 @@ mod tests {
 
     #[test]
     fn one_byte_makes_one_page(rt: HostRuntime) -> Result<(), Fail> {
-        let shape = Shape::new(1, 0, 1024, 65_536).map_err(|_| AllocError)?;
+        let Ok(shape) = Shape::new(1, 0, 1024, 65_536) else {
+            return Err(AllocError)?;
+        };
         let mut space = ValueSpace::new(rt.alloc(), shape)?;
         assert_eq!(rt; space.made(), 0);
         let run = Run { at: 0, len: 1 };
@@ -126,18 +128,26 @@ mod tests {
 
     #[test]
     fn differences_cross_the_ends_of_pages(rt: HostRuntime) -> Result<(), Fail> {
-        let shape = Shape::new(1, 0, 4, 16).map_err(|_| AllocError)?;
-        for (at, value) in [(14, b"cart".as_slice()), (15, b"a lock of two pages")] {
-            let mut space = ValueSpace::new(rt.alloc(), shape)?;
-            let run = Run {
-                at,
-                len: value.len() as u32,
-            };
-            let delta = space.delta_for(run, &Payload::of(rt.alloc(), value)?)?;
-            space.reserve(run)?;
-            space.apply(run, &delta);
-            assert_eq!(rt; space.copy(run)?.bytes(), value);
-        }
+        let Ok(shape) = Shape::new(1, 0, 4, 16) else {
+            return Err(AllocError)?;
+        };
+        let mut space = ValueSpace::new(rt.alloc(), shape)?;
+        let short = Run { at: 14, len: 4 };
+        let delta = space.delta_for(short, &Payload::of(rt.alloc(), b"cart")?)?;
+        space.reserve(short)?;
+        space.apply(short, &Payload::of(rt.alloc(), b"cart")?);
+        assert_eq!(rt; delta.bytes(), b"cart".as_slice());
+        assert_eq!(rt; space.copy(short)?.bytes(), b"cart".as_slice());
+        let long = Run { at: 15, len: 19 };
+        let delta = space.delta_for(long, &Payload::of(rt.alloc(), b"a lock of two pages")?)?;
+        space.reserve(long)?;
+        space.apply(long, &Payload::of(rt.alloc(), &[0x20; 19])?);
+        assert!(rt;
+            delta
+                .bytes()
+                .starts_with(&[0, b' ' ^ b'r', b'l' ^ b't', b'o'])
+        );
+        assert!(rt; space.copy(long)?.bytes().starts_with(b"ART "));
         Ok(())
     }
 }
