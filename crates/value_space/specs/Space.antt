@@ -1,5 +1,5 @@
 -- A data process's space as contracts see it.
-use Rattle.std.specs.Prelude.{ℕ, List, map}
+use Rattle.std.specs.Prelude.{ℕ, List}
 use Rattle.group_types.specs.Dimensions.{Dimensions}
 use Rattle.page_map.specs.Pages.{Contents, numbers_in}
 use Rattle.page_map.specs.Spaces.{bytes_of}

@@ -1,9 +1,6 @@
-use Rattle.std.proofs.Common.{◌≡◌, ◌+◌, ◌*◌, ◌≤◌, length, subst, sym, ap, ap₂, ◌∙◌, arith}
+use Rattle.std.proofs.Common.{◌≡◌, ◌*◌, length, subst, sym, ap, ap₂, ◌∙◌, arith}
 use Rattle.group_message.specs.declared.update.Body.{Body}
-use Rattle.group_message.specs.declared.update.Body.TheVariants.{Put}
-use Rattle.group_types.specs.declared.process.ProcessId.TheVariants.{ParityNode}
 use Rattle.group_run.specs.Code.{added_at, coefficient}
-use Rattle.group_run.specs.Applying.{space_added}
 use Rattle.field_byte.specs.Vectors.{scale}
 use Rattle.page_map.specs.Pages.{numbers_in}
 use Rattle.page_map.specs.Spaces.{bytes_of}

@@ -1,4 +1,4 @@
-use Rattle.std.proofs.Common.{◌≡◌, ◌+◌, ◌*◌, ◌≤◌, length, take, drop, subst, sym, ap, ap₂, ◌∙◌, arith}
+use Rattle.std.proofs.Common.{◌≡◌, ◌*◌, length, take, drop, subst, sym, ap, ap₂, ◌∙◌, arith}
 use Rattle.page_map.specs.Spaces.{LiesIn, bytes_of}
 use Rattle.page_map.proofs.Spaces.{bytes_read}
 use Rattle.parity_space.specs.Space.{Space}

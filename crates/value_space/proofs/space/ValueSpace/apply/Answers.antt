@@ -1,5 +1,5 @@
-use Rattle.std.proofs.Common.{◌≡◌, ◌+◌, ◌*◌, ◌≤◌, length, subst, sym, ap, ap₂, ◌∙◌, arith}
-use Rattle.page_map.specs.Spaces.{AllMade, LiesIn}
+use Rattle.std.proofs.Common.{◌≡◌, length, subst, sym, ap, ◌∙◌, arith}
+use Rattle.page_map.specs.Spaces.{AllMade}
 use Rattle.page_map.proofs.Spaces.{all_found}
 use Rattle.value_space.specs.Space.{Space}
 use Rattle.value_space.proofs.space.ValueSpace.apply.Goals as goal

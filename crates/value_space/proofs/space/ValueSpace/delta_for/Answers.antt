@@ -1,4 +1,4 @@
-use Rattle.std.proofs.Common.{◌≡◌, ◌++◌, length, take, drop, subst, sym, ap, ap₂, ◌∙◌, arith}
+use Rattle.std.proofs.Common.{◌≡◌, length, sym, ap, ◌∙◌}
 use Rattle.field_byte.specs.Vectors.{add_bytes}
 use Rattle.field_byte.proofs.Vectors.{add_bytes_comm, length-add_bytes}
 use Rattle.group_run.specs.Code.{bytes_in}

@@ -1,6 +1,3 @@
-use Rattle.std.proofs.Common.{◌≡◌, ◌*◌, replicate, subst, sym, ap, ap₂, ◌∙◌, arith}
-use Rattle.page_map.specs.Spaces.{bytes_of}
-use Rattle.page_map.specs.Pages.{no_pages}
 use Rattle.page_map.proofs.Spaces.{bytes_of_none}
 use Rattle.value_space.proofs.space.ValueSpace.new.Goals as goal
 

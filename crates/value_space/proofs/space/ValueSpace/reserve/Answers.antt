@@ -1,7 +1,4 @@
-use Rattle.std.proofs.Common.{◌≡◌, Result, Ok, Err, OnOk, subst, sym, ap, ap₂, ◌∙◌, arith}
-use Rattle.page_map.specs.Spaces.{AllMade, MakesOnly, bytes_of}
 use Rattle.page_map.proofs.Spaces.{same_bytes, made_at, ready_at}
-use Rattle.value_space.specs.Space.{Space}
 use Rattle.value_space.proofs.space.ValueSpace.reserve.Goals as goal
 
 pub returns-clause-bytes : goal.returns-clause-bytes
