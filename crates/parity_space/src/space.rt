@@ -132,7 +132,7 @@ mod tests {
         };
         space.apply(Partition(0), &update(rt.alloc(), put)?);
         space.apply(Partition(0), &update(rt.alloc(), Body::Remove)?);
-        // The inverse of 1 + (2 + 0) is F4.
+        // The inverse of 1 + (2 + 0) is 0xF4.
         for byte in space.range(run)?.bytes() {
             assert_eq!(rt; *byte, 0xF4);
         }
