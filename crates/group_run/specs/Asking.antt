@@ -4,6 +4,7 @@ use Rattle.field_byte.specs.Vectors.{add_bytes}
 use Rattle.group_types.specs.Dimensions.{Dimensions, space_of}
 use Rattle.group_types.specs.Hash.{home_of}
 use Rattle.group_types.specs.declared.run.Run.{Run}
+use Rattle.group_message.specs.declared.kept.Kept.{Kept}
 use Rattle.group_message.specs.declared.message.Message.TheVariants as tells
 use Rattle.group_message.specs.declared.update.Body.{Body}
 use Rattle.group_message.specs.declared.update.Body.TheVariants as body
@@ -25,7 +26,7 @@ use Rattle.group_run.specs.Deciding.{Decision, Answers, Retries, NoRoom, NeedsBy
 use Rattle.group_run.specs.Heading.{rank, partition, other_parities, to_parities, judge}
 use Rattle.group_run.specs.Lists.{at, first, any, all, range, there}
 use Rattle.group_run.specs.Process.{Process, Head, Held}
-use Rattle.group_run.specs.Replica.{Kept, last_of, with_update}
+use Rattle.group_run.specs.Replica.{last_of, with_update}
 use Rattle.group_run.specs.Sessions.{missing_block, value_bytes, start_session}
 
 -- what a call makes: the step, its answer, and whether an update was issued

@@ -1,6 +1,7 @@
 -- What a head decides of a call, from its replica and, where it has them, the item's bytes.
 use Rattle.std.specs.Prelude.{ℕ, ◌+◌, ◌==◌, nat_le, nat_lt, Bool, true, false, ◌&&◌, ◌||◌, List, length, replicate, Option, Some, None, if◌then◌else◌}
 use Rattle.group_types.specs.declared.run.Run.{Run}
+use Rattle.item_index.specs.declared.slot.Slot.{Slot}
 use Rattle.memc_table.specs.Act.{key_of}
 use Rattle.memc_table.specs.Asked.{Asked}
 use Rattle.memc_table.specs.Expiry.{is_live, live_at}
@@ -14,7 +15,7 @@ use Rattle.memc_table.specs.declared.ruling.Ruling.{Ruling}
 use Rattle.memc_table.specs.declared.ruling.Ruling.TheVariants.{Refused, Accepted}
 use Rattle.group_run.specs.Free.{place_for}
 use Rattle.group_run.specs.Process.{Head}
-use Rattle.group_run.specs.Replica.{Replica, Slot, slot_in, number_on, last_of}
+use Rattle.group_run.specs.Replica.{Replica, slot_in, run_in, number_on, last_of}
 
 -- how many updates of a partition may be unfinished
 abbrev pub window : ℕ
@@ -61,7 +62,7 @@ ruling_with r op (Some slot) bytes = ruling_of op.moment (last_of r + 1) op.act 
 -- the bytes of an item that nobody looks at: as many zeros, which are no digits
 abbrev pub unseen : Option Slot → List ℕ
 unseen None = replicate 0 0
-unseen (Some slot) = replicate slot.run.len 0
+unseen (Some slot) = replicate slot.len 0
 
 -- a refusal holds whatever the bytes of the item are: all but its value, where it has some, and but
 -- that it is no number, where it has 1 to 20
@@ -73,7 +74,7 @@ is_blind len _ = true
 -- how many bytes an item has, 0 where there is none
 abbrev pub length_of : Option Slot → ℕ
 length_of None = 0
-length_of (Some slot) = slot.run.len
+length_of (Some slot) = slot.len
 
 -- the reply that needs no byte of the item, if there is one
 abbrev pub blind_reply : ℕ → Ruling → Option Reply
@@ -83,7 +84,7 @@ blind_reply len (Accepted _ _) = None
 -- the run whose bytes an op needs: that of a live item of at least one byte
 abbrev pub run_needed : Asked → Option Slot → Option Run
 run_needed op None = None
-run_needed op (Some slot) = if reads_bytes op.act && is_live op.moment slot.until && nat_lt 0 slot.run.len then Some slot.run else None
+run_needed op (Some slot) = if reads_bytes op.act && is_live op.moment slot.until && nat_lt 0 slot.len then Some (run_in slot) else None
 
 -- an unfinished update on the key that the op has to wait for: any, or for a `get` an inherited one
 abbrev pub waits_for : Head → Act → Option ℕ → Option ℕ
@@ -98,7 +99,7 @@ stored_value act (Some h) = if is_touch act then None else Some h.item.value
 -- the run that an update gives back: that of the item, and none of a touch
 abbrev pub run_freed : Act → Option Slot → Option Run
 run_freed act None = None
-run_freed act (Some slot) = if is_touch act then None else Some slot.run
+run_freed act (Some slot) = if is_touch act then None else Some (run_in slot)
 
 -- an accepted update gets its run, if there is one that is free
 abbrev pub issued_at : Act → Option Slot → Reply → Option Holding → Option (Option Run) → Decision

@@ -2,7 +2,7 @@
 use Rattle.std.specs.Prelude.{ℕ, zero, suc, ◌+◌, ◌-◌, ◌==◌, nat_lt, nat_le, Bool, true, false, not, ◌&&◌, Option, Some, None, if◌then◌else◌}
 use Rattle.group_types.specs.declared.run.Run.{Run}
 use Rattle.group_run.specs.Lists.{any}
-use Rattle.group_run.specs.Replica.{Replica, run_of}
+use Rattle.group_run.specs.Replica.{Replica, run_in, run_of}
 
 -- the address lies in the run
 abbrev pub in_run : ℕ → Run → Bool
@@ -17,7 +17,7 @@ in_some_run a (Some run) = in_run a run
 -- in no run that such an update frees
 abbrev pub is_free : ℕ → Replica → ℕ → Bool
 is_free space r a = nat_lt a space
-    && not (any (λ x. in_run a x.slot.run) r.items)
+    && not (any (λ x. in_run a (run_in x.1)) r.items)
     && not (any (λ u. in_some_run a (run_of u.body)) r.log)
     && not (any (λ u. in_some_run a u.frees) r.log)
 

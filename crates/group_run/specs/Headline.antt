@@ -7,6 +7,7 @@ use Rattle.group_types.specs.declared.process.ProcessId.{ProcessId}
 use Rattle.group_types.specs.declared.process.ProcessId.TheVariants.{DataNode, ParityNode}
 use Rattle.group_types.specs.declared.run.Run.{Run}
 use Rattle.group_message.specs.declared.update.Update.{Update}
+use Rattle.item_index.specs.declared.slot.Slot.{Slot}
 use Rattle.memc_table.specs.Act.{key_of}
 use Rattle.memc_table.specs.Contents.{Contents, empty_table}
 use Rattle.memc_table.specs.Log.{IsLegal, table_of}
@@ -19,7 +20,7 @@ use Rattle.group_run.specs.Applying.{replica_of}
 use Rattle.group_run.specs.Free.{in_run}
 use Rattle.group_run.specs.Lists.{at, same_key}
 use Rattle.group_run.specs.Meaning.{Logged, is_update_of, updates_of, count_logged, space_after, spaces_at, coded, Lives, IsDown, AgreesOn, AgreeingSurvivors}
-use Rattle.group_run.specs.Replica.{Replica, Slot, slot_in, last_of, run_of}
+use Rattle.group_run.specs.Replica.{Replica, slot_in, run_in, last_of, run_of}
 use Rattle.group_run.specs.World.{World, node_of, after, turns_of, step, opening}
 
 -- the process is one of the group
@@ -83,7 +84,7 @@ run_on key old (u ∷ us) = run_on key (run_unless (same_key (key_of u.entry.op.
 -- a settled item is the one that the table has, in the run of its last update that has one
 abbrev pub IsItem : Option Slot → Option Holding → Option Run → Type 0
 IsItem None None run = Unit {0}
-IsItem (Some slot) (Some h) run = (run ≡ Some slot.run) × (slot.flags ≡ h.item.flags) × (slot.cas ≡ h.item.cas) × (slot.until ≡ h.until) × (slot.run.len ≡ length h.item.value)
+IsItem (Some slot) (Some h) run = (run ≡ Some (run_in slot)) × (slot.flags ≡ h.item.flags) × (slot.cas ≡ h.item.cas) × (slot.until ≡ h.until) × (slot.len ≡ length h.item.value)
 IsItem None (Some h) run = ⊥
 IsItem (Some slot) None run = ⊥
 

@@ -1,49 +1,47 @@
 -- The replica of a partition: its settled items, the log of the updates above its applied number, and
 -- what became of each caller's last applied update. To apply an update is to settle it here.
-use Rattle.std.specs.Prelude.{ℕ, ◌+◌, ◌-◌, List, [], ◌∷◌, ◌++◌, length, take, drop, filter, not, Option, Some, None, if◌then◌else◌}
+use Rattle.std.specs.Prelude.{ℕ, ◌+◌, ◌-◌, List, [], ◌∷◌, ◌++◌, length, replicate, take, drop, not, Option, Some, None, if◌then◌else◌}
+use Rattle.std.specs.Cmp.Lexicographic.{slice_cmp}
+use Rattle.std.specs.FinMap.Entries as entries
+use Rattle.std.specs.Ordering.{nat_cmp}
 use Rattle.group_types.specs.declared.run.Run.{Run}
+use Rattle.group_message.specs.declared.kept.Kept.{Kept}
 use Rattle.group_message.specs.declared.update.Body.{Body}
 use Rattle.group_message.specs.declared.update.Body.TheVariants.{Put, Remove, Touch}
-use Rattle.group_message.specs.declared.update.Outcome.{Outcome}
 use Rattle.group_message.specs.declared.update.Update.{Update}
+use Rattle.item_index.specs.declared.slot.Slot.{Slot}
 use Rattle.group_run.specs.Lists.{put, same_key}
 
--- where the value of an item stands, and what else is known of the item
-pub record Slot : Type 0 where
-  pub run : Run
-  pub flags : ℕ
-  pub cas : ℕ
-  pub until : Option ℕ
+-- the settled items, each key with its slot, in the order of the keys
+abbrev pub Items : Type 0
+Items = List (List ℕ × Slot)
 
--- an item of the settled map
-pub record Settled : Type 0 where
-  pub key : List ℕ
-  pub slot : Slot
-
--- the call of an applied update, and what it is answered
-pub record Kept : Type 0 where
-  pub call : ℕ
-  pub outcome : Outcome
+-- how many callers there may be
+abbrev pub callers : ℕ
+callers = 256
 
 -- the replica of a partition at one process
 pub record Replica : Type 0 where
-  pub items : List Settled
+  pub items : Items
   pub applied : ℕ
   pub log : List Update
   pub kept : List (Option Kept)
 
 -- the replica at the start
 abbrev pub empty_replica : Replica
-empty_replica = record { items = []; applied = 0; log = []; kept = [] }
+empty_replica = record { items = []; applied = 0; log = []; kept = replicate callers None }
 
 -- the last number of the applied part and the log
 abbrev pub last_of : Replica → ℕ
 last_of r = r.applied + length r.log
 
 -- the item on a key, as settled
-abbrev pub slot_in : List Settled → List ℕ → Option Slot
-slot_in [] key = None
-slot_in (x ∷ xs) key = if same_key x.key key then Some x.slot else slot_in xs key
+abbrev pub slot_in : Items → List ℕ → Option Slot
+slot_in items key = entries.find (slice_cmp nat_cmp) key items
+
+-- the run of an item
+abbrev pub run_in : Slot → Run
+run_in slot = record { at = slot.at; len = slot.len }
 
 -- the number of the last update of a log on a key
 abbrev pub number_on : List Update → List ℕ → Option ℕ
@@ -58,22 +56,22 @@ run_of (Touch _) = None
 
 -- the item that an update leaves, from the one that its key had
 abbrev pub slot_after : ℕ → Body → Option Slot → Option Slot
-slot_after n (Put flags until run _) old = Some (record { run = run; flags = flags; cas = n; until = until })
+slot_after n (Put flags until run _) old = Some (record { at = run.at; len = run.len; flags = flags; cas = n; until = until })
 slot_after n Remove old = None
 slot_after n (Touch until) None = None
-slot_after n (Touch until) (Some s) = Some (record { run = s.run; flags = s.flags; cas = s.cas; until = until })
+slot_after n (Touch until) (Some s) = Some (record s { until = until })
 
--- the items with this one on a key
-abbrev pub with_slot : List ℕ → Option Slot → List Settled → List Settled
-with_slot key None items = filter (λ x. not (same_key x.key key)) items
-with_slot key (Some slot) items = record { key = key; slot = slot } ∷ filter (λ x. not (same_key x.key key)) items
+-- the items with this one on a key, or with none there
+abbrev pub with_slot : List ℕ → Option Slot → Items → Items
+with_slot key None items = entries.where_key (slice_cmp nat_cmp) (λ x. not (same_key key x)) items
+with_slot key (Some slot) items = entries.put (slice_cmp nat_cmp) key slot items
 
 -- the items after an update
-abbrev pub item_settled : Update → List Settled → List Settled
+abbrev pub item_settled : Update → Items → Items
 item_settled u items = with_slot u.key (slot_after u.number u.body (slot_in items u.key)) items
 
 -- the items after updates, in order
-abbrev pub items_after : List Settled → List Update → List Settled
+abbrev pub items_after : Items → List Update → Items
 items_after items [] = items
 items_after items (u ∷ us) = items_after (item_settled u items) us
 

@@ -1,0 +1,7 @@
+pub mod Agree
+pub mod Indices
+pub mod Keys
+pub mod Moving
+pub mod Owners
+pub mod Places
+pub mod Sound

@@ -1,0 +1,27 @@
+use Rattle.std.proofs.Common.{◌≡◌, ℕ, true, slice_index_or, ◌||◌, ap, ◌∙◌, take, subst, List, All, arith}
+use Rattle.std.proofs.Math.Bool.{or-true}
+use Rattle.std.proofs.lemmas.Bool.{or_left}
+use Rattle.std.proofs.lemmas.List.{take_all}
+use Rattle.group_message.specs.declared.update.Update.{Update}
+use Rattle.group_run.specs.Lists.{same_key}
+use Rattle.partition_replica.specs.Inside.{ready_in}
+use Rattle.partition_replica.specs.State.{is_among}
+use Rattle.partition_replica.proofs.Keys.{itself, items_in-same, ready_in-prepare}
+use Rattle.partition_replica.proofs.Indices.{all_next}
+use Rattle.partition_replica.proofs.items.prepare.Goals as goal
+
+pub updates-preserved : goal.updates-preserved
+updates-preserved c =
+    let ready = ready_in-prepare c.updates.index c.prepare.new.self c.update-item.result.key c.in_ok-prepare.ensures.ready in
+    let stays : (q : List ℕ) → is_among (ready_in c.updates.index) q ≡ true → is_among (ready_in c.prepare.new.self) q ≡ true = λ q was. ready q ∙ ap (λ b. same_key c.update-item.result.key q || b) was ∙ or-true (same_key c.update-item.result.key q) in
+    record {
+      items = items_in-same _ _ c.prepare.ensures.slots ∙ c.updates.invariant.items;
+      kept = λ q was. stays q (c.updates.invariant.kept q was);
+      ready = all_next (λ u. is_among (ready_in c.prepare.new.self) u.key ≡ true) c.args.updates.now c.updates.update-index c.update-item.result (omega arith) c.update-item.is
+          (λ k d lt. stays (slice_index_or (take c.updates.update-index c.args.updates.now) k d).key (c.updates.invariant.ready k d lt))
+          (ready c.update-item.result.key ∙ or_left _ _ (itself c.update-item.result.key));
+    }
+
+pub returns-clause-ready : goal.returns-clause-ready
+returns-clause-ready c =
+    subst (λ (us : List Update). All (λ u. is_among (ready_in c.updates.index) u.key ≡ true) us) (take_all c.updates.update-index c.args.updates.now (omega arith)) c.updates.invariant.ready

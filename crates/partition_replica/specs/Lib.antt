@@ -1,0 +1,5 @@
+pub mod State
+pub mod Coming
+pub mod Sound
+pub mod Moves
+pub mod Inside

@@ -1,0 +1,31 @@
+-- A replica as contracts see it: what it holds, as the group's machine says it, and its room.
+use Rattle.std.specs.Prelude.{◌≡◌, ℕ, ◌≤◌, Bool, true, ◌||◌, List, length, All}
+use Rattle.std.specs.List.{list_any}
+use Rattle.group_types.specs.Dimensions.{Dimensions}
+use Rattle.group_message.specs.declared.update.Update.{Update}
+use Rattle.group_run.specs.Lists.{same_key, there}
+use Rattle.group_run.specs.Replica.{Items, Replica, slot_in, number_on}
+
+-- how many updates can come without memory, and the keys, in order, that these may be on
+pub record Room : Type 0 where
+  pub spare : ℕ
+  pub ready : List (List ℕ)
+
+-- the group's shape, the machine's replica, and the room beside it
+pub record State : Type 0 where
+  pub shape : Dimensions
+  pub replica : Replica
+  pub room : Room
+
+-- whether a key is among these
+abbrev pub is_among : List (List ℕ) → List ℕ → Bool
+is_among keys key = list_any (same_key key) keys
+
+-- the updates can come, one after the other, without memory
+pub record HasRoom (room : Room) (updates : List Update) : Type 0 where
+  pub spare : length updates ≤ room.spare
+  pub ready : All (λ u. is_among room.ready u.key ≡ true) updates
+
+-- whether a key has an item, or an update that waits
+abbrev pub is_needed : Items → List Update → List ℕ → Bool
+is_needed items log key = there (slot_in items key) || there (number_on log key)
