@@ -1,0 +1,71 @@
+ghost use Rattle.std.specs.Prelude.{◌≡◌, ℕ, ◌+◌, ◌*◌, ◌||◌, ◌&&◌, not, [], ◌∷◌, length, List, IfOk, OnOk};
+ghost use Rattle.group_run.specs.Lists.{same_key};
+ghost use Rattle.partition_replica.specs.State.{HasRoom, is_among, is_needed};
+
+use super::Replica;
+use crate::items;
+use crate::updates::Updates;
+use group_message::{Update, UpdateList};
+use group_types::Key;
+use request_log::Log;
+use std::alloc::AllocError;
+use std::slice;
+
+impl Replica {
+    /// Makes room to receive an update, to settle it and to drop it.
+    pub fn reserve(&mut self, update: &Update) -> Result<(), AllocError>
+        ensures shape { self.new.shape ≡ self.old.shape }
+        ensures replica { self.new.replica ≡ self.old.replica }
+        ensures ok { OnOk result (HasRoom self.new.room (update.now ∷ [])) }
+        ensures kept { (us : List Update) → HasRoom self.old.room us → HasRoom self.new.room us }
+    {
+        self.reserve_all(slice::from_ref(update))
+    }
+
+    /// Makes room for all updates of a list.
+    pub fn reserve_list(&mut self, list: &UpdateList) -> Result<(), AllocError>
+        ensures shape { self.new.shape ≡ self.old.shape }
+        ensures replica { self.new.replica ≡ self.old.replica }
+        ensures ok { OnOk result (HasRoom self.new.room list.now) }
+        ensures kept { (us : List Update) → HasRoom self.old.room us → HasRoom self.new.room us }
+    {
+        self.reserve_all(list.updates())
+    }
+
+    fn reserve_all(&mut self, updates: &[Update]) -> Result<(), AllocError>
+        ensures shape { self.new.shape ≡ self.old.shape }
+        ensures replica { self.new.replica ≡ self.old.replica }
+        ensures ok { OnOk result (HasRoom self.new.room updates.now) }
+        ensures kept { (us : List Update) → HasRoom self.old.room us → HasRoom self.new.room us }
+    {
+        let count = u32::try_from(updates.len()).map_err(|_| AllocError)?;
+        let spare = self.spare.max(count);
+        self.log.reserve(spare)?;
+        self.runs.reserve(runs_needed(&self.log, spare)?)?;
+        items::prepare(&mut self.index, updates)?;
+        self.spare = spare;
+        Ok(())
+    }
+
+    /// Ends the readiness of a key that has no item and no update in the log, as that of a settled
+    /// deletion, so that the replica keeps nothing of it.
+    pub fn tidy(&mut self, key: &Key)
+        ensures shape { self.new.shape ≡ self.old.shape }
+        ensures replica { self.new.replica ≡ self.old.replica }
+        ensures spare { self.new.room.spare ≡ self.old.room.spare }
+        ensures ready { (q : List ℕ) → is_among self.new.room.ready q ≡ (is_among self.old.room.ready q
+            && (not (same_key key.now q) || is_needed self.old.replica.items self.old.replica.log q)) }
+    {
+        items::tidy(&mut self.index, &self.log, key);
+    }
+}
+
+// How many runs have to fit for the updates of the log, of which each needs one to be settled or
+// dropped, and for `spare` further ones, which need another to be received.
+fn runs_needed(log: &Log<Updates>, spare: u32) -> Result<u32, AllocError>
+    ensures { IfOk result (λ n. n ≡ length log.now.updates + 2 * spare) }
+{
+    let waiting = log.last() - log.applied();
+    let needed = waiting.saturating_add(2 * u64::from(spare));
+    u32::try_from(needed).map_err(|_| AllocError)
+}
