@@ -8,7 +8,7 @@ top=$(dirname "$here")
 work=$(mktemp -d)
 trap 'rm -rf "$work"' EXIT
 mkdir -p "$work/crates"
-for name in group_types memc_table group_message vector_stamp field_byte run_alloc group_run lane_kernel field_matrix cauchy_code; do
+for name in group_types memc_table group_message vector_stamp field_byte run_alloc item_index group_run lane_kernel field_matrix cauchy_code; do
     cp -r "$top/crates/$name" "$work/crates/"
     grep "^$name:" "$top/crates.txt" >> "$work/crates.txt"
 done

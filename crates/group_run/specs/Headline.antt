@@ -20,7 +20,7 @@ use Rattle.group_run.specs.Applying.{replica_of}
 use Rattle.group_run.specs.Free.{in_run}
 use Rattle.group_run.specs.Lists.{at, same_key}
 use Rattle.group_run.specs.Meaning.{Logged, is_update_of, updates_of, count_logged, space_after, spaces_at, coded, Lives, IsDown, AgreesOn, AgreeingSurvivors}
-use Rattle.group_run.specs.Replica.{Replica, slot_in, run_in, last_of, run_of}
+use Rattle.group_run.specs.Replica.{Replica, callers, slot_in, run_in, last_of, run_of}
 use Rattle.group_run.specs.World.{World, node_of, after, turns_of, step, opening}
 
 -- the process is one of the group
@@ -31,12 +31,12 @@ IsProcess s (ParityNode i) = i < s.m
 -- an event that may come: its callers and processes are in range, a link is between two, and the call
 -- that is traced was asked
 abbrev pub MayCome : World → Event → Type 0
-MayCome w (Ask caller op p) = (caller < 256) × IsProcess w.shape p
-MayCome w (Collect caller call p) = (caller < 256) × IsProcess w.shape p
+MayCome w (Ask caller op p) = (caller < callers) × IsProcess w.shape p
+MayCome w (Collect caller call p) = (caller < callers) × IsProcess w.shape p
 MayCome w (Deliver from to) = IsProcess w.shape from × IsProcess w.shape to × (¬ (from ≡ to))
 MayCome w (Fail p keep) = IsProcess w.shape p
 MayCome w (Flush p) = IsProcess w.shape p
-MayCome w (Trace caller call d p) = (caller < 256) × (call < at 0 w.asked caller) × (d.0 < w.shape.k) × IsProcess w.shape p
+MayCome w (Trace caller call d p) = (caller < callers) × (call < at 0 w.asked caller) × (d.0 < w.shape.k) × IsProcess w.shape p
 
 -- a list of events that may come, one after the other
 abbrev pub IsRunFrom : World → List Event → Type 0
