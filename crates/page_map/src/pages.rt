@@ -154,6 +154,11 @@ fn search(pages: &[Page], number: u32) -> Result<usize, usize>
     ensures found { IfOk result (IsAt pages.now number) }
     ensures absent { IfErr result (IsGapFor pages.now number) }
 {
+    // A page stands at the place of its number where none below it is missing.
+    let place = number as usize;
+    if place < pages.len() && pages[place].number == number {
+        return Ok(place);
+    }
     pages.binary_search_by_key(&number, |page| page.number)
 }
 
