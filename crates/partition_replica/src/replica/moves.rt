@@ -69,3 +69,6 @@ impl Replica {
         self.spare = 0;
     }
 }
+
+#[cfg(test)]
+mod tests;

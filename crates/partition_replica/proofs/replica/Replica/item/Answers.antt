@@ -1,4 +1,4 @@
-use Rattle.std.proofs.Common.{◌≡◌, ◌+◌, ◌≤◌, ℕ, Option, Some, None, Bor, IfSome, option_copied, sym, subst, ◌∙◌}
+use Rattle.std.proofs.Common.{◌+◌, ◌≤◌, ℕ, Option, Some, None, Bor, IfSome, option_copied, sym, subst, ◌∙◌}
 use Rattle.group_types.specs.Dimensions.{space_of}
 use Rattle.item_index.specs.declared.slot.Slot.{Slot}
 use Rattle.partition_replica.specs.Inside.{replica_in}
