@@ -62,7 +62,7 @@ length-put [] i x lt = absurd (omega arith)
 length-put (y ∷ ys) zero x lt = refl
 length-put (y ∷ ys) (suc i) x lt = ap suc (length-put ys i x (omega arith))
 
-module _ (s : State) (u : Update) (us : List Update) (old : Space) (fit : ℕ) (sorted : T (is_sorted (slice_cmp nat_cmp) s.replica.items)) (first : s.replica.log ≡ u ∷ us) (agree : PartsAgree s old fit) where
+module _ {s : State} {u : Update} {us : List Update} {old : Space} {fit : ℕ} (sorted : T (is_sorted (slice_cmp nat_cmp) s.replica.items)) (first : s.replica.log ≡ u ∷ us) (agree : PartsAgree s old fit) where
   -- the update is ready to be settled
   pub first_ready : is_among s.room.ready u.key ≡ true
   first_ready = All-head (λ v. is_among s.room.ready v.key ≡ true) u us (subst (AreReady s.room.ready) first agree.ready)
@@ -112,16 +112,18 @@ agrees_tidied s space fit ready key agree left = record {
   callers = agree.callers;
 }
 
-module _ (s : State) (us : List Update) (old middle : Space) (fit : ℕ) (agree : PartsAgree s old fit) (come : AllCanCome (space_of s.shape) (with_log [] s.replica) us) where
-  pub sound_adopted : IsSound (space_of s.shape) (with_log us s.replica)
+-- the free runs once the log is dropped
+free_middle : {s : State} {old middle : Space} {fit : ℕ} → PartsAgree s old fit → Gives old middle (λ a. any (in_run a) (log_runs s.replica.log)) (length s.replica.log)
+    → (a : ℕ) → alloc.is_free middle a ≡ is_free (space_of s.shape) (with_log [] s.replica) a
+free_middle {s = s} agree gives a = gives.free a ∙ ap (λ b. b || any (in_run a) (log_runs s.replica.log)) (agree.free a) ∙ sym (free_emptied _ s.replica agree.sound a)
+
+module _ {s : State} {old : Space} {fit : ℕ} (us : List Update) (agree : PartsAgree s old fit) (come : AllCanCome (space_of s.shape) (with_log [] s.replica) us) where
+  sound_adopted : IsSound (space_of s.shape) (with_log us s.replica)
   sound_adopted = sound_with_all _ (with_log [] s.replica) us (sound_emptied _ s.replica agree.sound) come
 
-  module _ (gives : Gives old middle (λ a. any (in_run a) (log_runs s.replica.log)) (length s.replica.log)) where
-    free_middle : (a : ℕ) → alloc.is_free middle a ≡ is_free (space_of s.shape) (with_log [] s.replica) a
-    free_middle a = gives.free a ∙ ap (λ b. b || any (in_run a) (log_runs s.replica.log)) (agree.free a) ∙ sym (free_emptied _ s.replica agree.sound a)
-
+  module _ {middle : Space} (gives : Gives old middle (λ a. any (in_run a) (log_runs s.replica.log)) (length s.replica.log)) where
     pub adopted_takeable : (a : ℕ) → owners a (log_runs us) ≤ (if alloc.is_free middle a then 1 else 0)
-    adopted_takeable a = rw (free_middle a) (takeable _ s.replica us sound_adopted a)
+    adopted_takeable a = rw (free_middle agree gives a) (takeable _ s.replica us sound_adopted a)
 
     pub agrees_adopted : (new : Space) (ready tidy : List (List ℕ)) (dropped : List ℕ → Bool) → HasRoom (record { spare = s.room.spare; ready = ready }) us
         → ((q : List ℕ) → is_among tidy q ≡ (is_among ready q && (not (dropped q) || is_needed s.replica.items us q)))
@@ -130,7 +132,7 @@ module _ (s : State) (us : List Update) (old middle : Space) (fit : ℕ) (agree 
     agrees_adopted new ready tidy dropped room left takes = record {
       sound = sound_adopted;
       size = takes.size ∙ gives.size ∙ agree.size;
-      free = λ a. takes.free a ∙ ap (λ b. b && not (any (in_run a) (log_runs us))) (free_middle a) ∙ sym (free_refilled _ s.replica us sound_adopted a);
+      free = λ a. takes.free a ∙ ap (λ b. b && not (any (in_run a) (log_runs us))) (free_middle agree gives a) ∙ sym (free_refilled _ s.replica us sound_adopted a);
       runs = omega (arith, agree.runs, gives.spare, takes.spare, room.spare);
       updates = omega arith;
       ready = still_ready s.replica.items us ready tidy dropped room.ready left;

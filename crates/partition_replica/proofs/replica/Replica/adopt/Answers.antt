@@ -30,7 +30,7 @@ take_runs-requires-clause-free c =
     let s = state_in c.self.inside.shape c.self.inside.index c.self.inside.log c.self.inside.kept.items c.self.inside.spare in
     let come : AllCanCome (space_of s.shape) (with_log [] s.replica) c.adopt-dropped.new.self.updates = rw (log_is c) (rw (← c.self.view_is) at c.requires.fits) in
     let gives = rw (c.as_slice.ensures, c.adopt-dropped.ensures.handed) at c.give_runs.ensures in
-    adopted_takeable s c.adopt-dropped.new.self.updates c.self.inside.runs c.give_runs.new.runs c.self.inside.log.spare c.self.invariant come gives
+    adopted_takeable c.adopt-dropped.new.self.updates c.self.invariant come gives
 
 has_room : (room : Room) (n : ℕ) (list : List Update) → HasRoom room list → HasRoom room (drop n list)
 has_room room n list has = record {
@@ -46,4 +46,4 @@ invariant_of-self c =
     let room : HasRoom s.room c.adopt-dropped.new.self.updates = rw is (has_room s.room (c.self.inside.log.applied - c.args.base) c.args.list (rw (← c.self.view_is) at c.requires.room)) in
     let gives = rw (c.as_slice.ensures, c.adopt-dropped.ensures.handed) at c.give_runs.ensures in
     rw (c.tidy_dropped.ensures.items, c.adopt-dropped.ensures.applied, c.adopt-dropped.ensures.spare)
-    (agrees_adopted s c.adopt-dropped.new.self.updates c.self.inside.runs c.give_runs.new.runs c.self.inside.log.spare c.self.invariant come gives c.take_runs.new.runs _ _ _ room c.tidy_dropped.ensures.ready c.take_runs.ensures)
+    (agrees_adopted c.adopt-dropped.new.self.updates c.self.invariant come gives c.take_runs.new.runs _ _ _ room c.tidy_dropped.ensures.ready c.take_runs.ensures)

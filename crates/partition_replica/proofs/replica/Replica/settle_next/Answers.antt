@@ -8,31 +8,26 @@ use Rattle.partition_replica.proofs.Sound.{freed_inside}
 use Rattle.partition_replica.proofs.replica.Replica.settle_next.Goals as goal
 
 pub settle-requires : goal.settle-requires
-settle-requires c =
-    let s = state_in c.self.inside.shape c.self.inside.index c.self.inside.log c.self.inside.kept.items c.self.inside.spare in
-    first_ready s c.in_ok-update.update c.apply_next.new.self.updates c.self.inside.runs c.self.inside.log.spare (items_in-sorted c.self.inside.index) c.in_ok-update.ensures.updates c.self.invariant
+settle-requires c = first_ready (items_in-sorted c.self.inside.index) c.in_ok-update.ensures.updates c.self.invariant
 
 pub index_mut-requires : goal.index_mut-requires
-index_mut-requires c =
-    let s = state_in c.self.inside.shape c.self.inside.index c.self.inside.log c.self.inside.kept.items c.self.inside.spare in
-    omega (arith, first_caller s c.in_ok-update.update c.apply_next.new.self.updates c.self.inside.runs c.self.inside.log.spare (items_in-sorted c.self.inside.index) c.in_ok-update.ensures.updates c.self.invariant)
+index_mut-requires c = omega (arith, first_caller (items_in-sorted c.self.inside.index) c.in_ok-update.ensures.updates c.self.invariant)
 
 pub give_run-requires-clause-inside : goal.give_run-requires-clause-inside
 give_run-requires-clause-inside c =
-    let s = state_in c.self.inside.shape c.self.inside.index c.self.inside.log c.self.inside.kept.items c.self.inside.spare in
-    rw c.self.invariant.size (freed_inside (space_of c.self.inside.shape) s.replica c.in_ok-update.update c.apply_next.new.self.updates (items_in-sorted c.self.inside.index) c.in_ok-update.ensures.updates c.self.invariant.sound)
+    let replica = replica_in c.self.inside.index c.self.inside.log c.self.inside.kept.items in
+    rw c.self.invariant.size (freed_inside (space_of c.self.inside.shape) replica _ _ (items_in-sorted c.self.inside.index) c.in_ok-update.ensures.updates c.self.invariant.sound)
 
 settled : (c : goal.After-give_run) → replica_in c.settle.new.index c.apply_next.new.self (slice_set c.self.inside.kept.items c.in_ok-update.update.caller (Some (record { call = c.in_ok-update.update.call; outcome = c.in_ok-update.update.outcome })))
     ≡ applied_to (c.self.inside.log.applied + 1) (replica_in c.self.inside.index c.self.inside.log c.self.inside.kept.items)
 settled c =
-    let s = state_in c.self.inside.shape c.self.inside.index c.self.inside.log c.self.inside.kept.items c.self.inside.spare in
-    let caller = first_caller s c.in_ok-update.update c.apply_next.new.self.updates c.self.inside.runs c.self.inside.log.spare (items_in-sorted c.self.inside.index) c.in_ok-update.ensures.updates c.self.invariant in
-    replica_settled c.self.inside.index c.settle.new.index c.self.inside.log c.apply_next.new.self c.self.inside.kept.items c.in_ok-update.update c.in_ok-update.ensures.updates c.in_ok-update.ensures.applied c.settle.ensures.items caller
+    replica_settled _ _ c.self.inside.log c.apply_next.new.self _ c.in_ok-update.update c.in_ok-update.ensures.updates c.in_ok-update.ensures.applied c.settle.ensures.items
+    (first_caller (items_in-sorted c.self.inside.index) c.in_ok-update.ensures.updates c.self.invariant)
 
 pub invariant_of-self-2 : goal.invariant_of-self-2
 invariant_of-self-2 c =
     let s = state_in c.self.inside.shape c.self.inside.index c.self.inside.log c.self.inside.kept.items c.self.inside.spare in
-    let agree = agrees_settled s c.in_ok-update.update c.apply_next.new.self.updates c.self.inside.runs c.self.inside.log.spare (items_in-sorted c.self.inside.index) c.in_ok-update.ensures.updates c.self.invariant c.give_run.new.runs c.give_run.ensures in
+    let agree = agrees_settled (items_in-sorted c.self.inside.index) c.in_ok-update.ensures.updates c.self.invariant c.give_run.new.runs c.give_run.ensures in
     rw (c.settle.ensures.ready, c.apply_next.ensures.spare)
     (subst (λ (r : Replica). PartsAgree (record s { replica = r }) c.give_run.new.runs c.self.inside.log.spare) (sym (settled c)) agree)
 
@@ -40,6 +35,4 @@ pub returns-clause-replica : goal.returns-clause-replica
 returns-clause-replica c = rw (← c.self.view_is) (settled c)
 
 pub returns-clause-writes : goal.returns-clause-writes
-returns-clause-writes c =
-    let s = state_in c.self.inside.shape c.self.inside.index c.self.inside.log c.self.inside.kept.items c.self.inside.spare in
-    rw (← c.self.view_is) (first_writes s c.in_ok-update.update c.apply_next.new.self.updates c.self.inside.runs c.self.inside.log.spare (items_in-sorted c.self.inside.index) c.in_ok-update.ensures.updates c.self.invariant)
+returns-clause-writes c = rw (← c.self.view_is) (first_writes (items_in-sorted c.self.inside.index) c.in_ok-update.ensures.updates c.self.invariant)
