@@ -122,17 +122,18 @@ mod tests {
 
     #[test]
     fn the_next_rank_heads_a_lost_partition(rt: HostRuntime) -> Result<(), Fail> {
-        if let Ok(shape) = Shape::new(2, 2, 4, 16) {
-            let mut members = Members::new(shape);
-            assert_eq!(rt; members.head_of(Partition(1)), Some(ProcessId::DataNode(1)));
-            assert_eq!(rt; members.fail(ProcessId::DataNode(1)), Ok(()));
-            assert_eq!(rt; members.fail(ProcessId::DataNode(1)), Err(AlreadyDead));
-            assert_eq!(rt;
-                members.head_of(Partition(1)),
-                Some(ProcessId::ParityNode(0))
-            );
-            assert_eq!(rt; members.lost(), 1);
-        }
+        let mut members = Members::new(Shape::new(2, 2, 4, 16)?);
+        let lost = ProcessId::DataNode(1);
+        assert_eq!(rt; members.head_of(Partition(1)), Some(lost));
+        assert_eq!(rt; members.is_dead(lost), false);
+        assert_eq!(rt; members.fail(lost), Ok(()));
+        assert_eq!(rt; members.fail(lost), Err(AlreadyDead));
+        assert_eq!(rt; members.is_dead(lost), true);
+        assert_eq!(rt;
+            members.head_of(Partition(1)),
+            Some(ProcessId::ParityNode(0))
+        );
+        assert_eq!(rt; (members.lost(), members.is_down()), (1, false));
         Ok(())
     }
 }
