@@ -3,8 +3,7 @@
 # PROCESSOR is x86-64-v2, as the gate builds, unless another is named, as x86-64-v3.
 set -eu
 processor=${1:-x86-64-v2}
-here=$(cd "$(dirname "$0")" && pwd)
-top=$(dirname "$here")
+top=$(cd "$(dirname "$0")/.." && pwd)
 work=$(mktemp -d)
 trap 'rm -rf "$work"' EXIT
 mkdir -p "$work/crates"
@@ -13,9 +12,9 @@ for name in group_types memc_table group_message vector_stamp field_byte run_all
     grep "^$name:" "$top/crates.txt" >> "$work/crates.txt"
 done
 mkdir -p "$work/crates/code_bench/src"
-cp "$here/code/main.rattle" "$work/crates/code_bench/src/main.rt"
+cp "$top/bench/code/main.rattle" "$work/crates/code_bench/src/main.rt"
 mkdir -p "$work/crates/code_bench/proofs/main"
-cp "$here/code/answers" "$work/crates/code_bench/proofs/main/Answers.antt"
+cp "$top/bench/code/answers" "$work/crates/code_bench/proofs/main/Answers.antt"
 echo 'code_bench: anyhow group_types group_run lane_kernel cauchy_code' >> "$work/crates.txt"
 (cd "$work/crates/code_bench" && rt run --cpu "$processor" > "$work/code.txt" 2> "$work/log.txt") || { tail -20 "$work/log.txt"; exit 1; }
 echo "GB/s of k = 4, m = 2, best of several runs, $processor: one product, one block's difference into both"

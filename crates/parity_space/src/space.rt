@@ -1,12 +1,12 @@
 ghost use Rattle.std.specs.Prelude.{◌≡◌, ◌+◌, ◌*◌, ◌<◌, ◌≤◌, [], length, replicate, IfOk, OnOk, OnErr};
 ghost use Rattle.group_types.specs.Dimensions.{space_of};
 ghost use Rattle.group_types.specs.declared.process.ProcessId.TheVariants.{ParityNode};
-ghost use Rattle.group_run.specs.Code.{bytes_in, coefficient};
+ghost use Rattle.group_run.specs.Code.{bytes_in};
 ghost use Rattle.group_run.specs.Applying.{space_added};
 ghost use Rattle.page_map.specs.Spaces.{AllMade, LiesIn, MakesOnly};
 ghost use Rattle.parity_space.specs.Space.{CanBeAdded};
 
-use field_byte::inv;
+use cauchy_code::coefficient;
 use group_message::{Body, Update};
 use group_types::{ByteList, Partition, Run, Shape};
 use page_map::Pages;
@@ -72,7 +72,7 @@ impl ParitySpace {
     {
         match &update.body {
             Body::Put { run, delta, .. } => {
-                let coef = self.coefficient(d);
+                let coef = coefficient(self.shape.m(), self.number, d.0);
                 self.pages.add_product(run.at, coef, delta.bytes());
             }
             Body::Remove | Body::Touch { .. } => {}
@@ -97,14 +97,6 @@ impl ParitySpace {
         ensures { into.new ≡ bytes_in run self.now.bytes }
     {
         self.pages.read_into(run.at, into);
-    }
-
-    // The entry of a Cauchy matrix, of the rows i and the columns m + d.
-    fn coefficient(&self, d: Partition) -> u8
-        requires { d.0 < self.now.shape.k }
-        ensures { result ≡ coefficient self.now.shape.m self.now.number d.0 }
-    {
-        inv((self.number ^ (self.shape.m() + d.0)) as u8)
     }
 }
 

@@ -6,15 +6,14 @@ use Rattle.std.specs.FinMap as map
 use Rattle.std.specs.FinMap.Entries.{same_entries, find-where_key, is_sorted-where_key}
 use Rattle.std.specs.FinSet as set
 use Rattle.std.specs.List.{list_any}
-use Rattle.std.specs.declared.cmp.Ordering.{Ordering}
-use Rattle.std.specs.declared.cmp.Ordering.TheVariants.{Less, Equal, Greater}
+use Rattle.std.specs.declared.cmp.Ordering.TheVariants.{Equal}
 use mathlib.Core.Bool.{false≢true, and-false}
 use Rattle.std.proofs.Math.Bool.{and-true, or-true}
 use Rattle.std.specs.Map.{lookup, keys_of}
 use Rattle.std.specs.Option.{option_map, option_or}
 use Rattle.std.specs.Ordering.{nat_cmp, is_eq}
 use Rattle.std.proofs.lemmas.List.Elements.{All-cons, All-nil}
-use Rattle.std.specs.Cmp.{tied_itself}
+use Rattle.std.specs.Cmp.{Equal-is, tied_itself}
 use Rattle.std.proofs.lemmas.Cmp.{nat_list_cmp_total, eq_by_cmp_equiv}
 use Rattle.std.proofs.lemmas.Map.Text.{is_eq-slice_cmp}
 use Rattle.group_types.specs.contracts.key.KeyPartialEq.TheImpl.{eq-value}
@@ -37,11 +36,7 @@ pub equal_is : (a b : List ℕ) → equal a b ≡ same_key a b
 equal_is a b = sym (is_eq-slice_cmp a b)
 
 equal_order : (a b : List ℕ) → equal a b ≡ true → slice_cmp nat_cmp a b ≡ Equal
-equal_order a b same = is_Equal (slice_cmp nat_cmp a b) (sym (equal_is a b) ∙ same) where
-  is_Equal : (o : Ordering) → is_eq o ≡ true → o ≡ Equal
-  is_Equal Less is = absurd (false≢true is)
-  is_Equal Equal is = refl
-  is_Equal Greater is = absurd (false≢true is)
+equal_order a b same = (Equal-is (slice_cmp nat_cmp a b)).0 (sym (equal_is a b) ∙ same)
 
 pub itself : (key : List ℕ) → same_key key key ≡ true
 itself key = ap is_eq (tied_itself nat_list_cmp_total key)

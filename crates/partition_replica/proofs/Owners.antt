@@ -3,6 +3,7 @@ use Rattle.std.proofs.Common.{◌≡◌, ℕ, ◌+◌, ◌≤◌, ◌==◌, nat_
 use Rattle.std.specs.Prelude.{T, count_by, All}
 use Rattle.std.specs.declared.cmp.Ordering.{Ordering}
 use Rattle.std.specs.declared.cmp.Ordering.TheVariants.{Less, Equal, Greater}
+use Rattle.std.specs.Cmp.{Equal-is}
 use Rattle.std.specs.Cmp.Lexicographic.{slice_cmp}
 use Rattle.std.specs.FinMap.Entries as entries
 use Rattle.std.specs.Ordering.{nat_cmp, is_eq, is_lt, eq_by_cmp}
@@ -38,11 +39,6 @@ less : (o : Ordering) → T (is_lt o) → o ≡ Less
 less Less p = refl
 less Equal p = absurd p
 less Greater p = absurd p
-
-equal : (o : Ordering) → is_eq o ≡ true → o ≡ Equal
-equal Less p = cc
-equal Equal p = refl
-equal Greater p = cc
 
 comes : (key y z : List ℕ) → (order key y ≡ Less) ⊎ (order key y ≡ Equal) → order y z ≡ Less → order key z ≡ Less
 comes key y z (inl before) up = nat_list_cmp_total.trans key y z before up
@@ -182,7 +178,7 @@ module _ (p : Run → Bool) where
   without_count key [] sorted = refl
   without_count key (e ∷ es) sorted =
       elim (same_key key e.0) as (λ b. same_key key e.0 ≡ b → held (cond (not b) (e ∷ without key es) (without key es)) + has (cond b (Some e.1) (slot_in es key)) ≡ held (e ∷ es)) [
-        | true ↦ λ is. omega (arith, kept_all key es (find_none key e.0 es (inr (equal _ is)) (first _ _ sorted)))
+        | true ↦ λ is. omega (arith, kept_all key es (find_none key e.0 es (inr ((Equal-is _).0 is)) (first _ _ sorted)))
         | false ↦ λ is. omega (arith, without_count key es (second _ _ sorted))
       ] refl
 

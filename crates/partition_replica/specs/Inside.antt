@@ -1,5 +1,5 @@
 -- How the parts that a replica keeps stand for the machine's replica.
-use Rattle.std.specs.Prelude.{◌≡◌, ℕ, ◌+◌, ◌*◌, ◌≤◌, true, List, length, All, Option, Some, None}
+use Rattle.std.specs.Prelude.{◌≡◌, ℕ, ◌+◌, ◌*◌, ◌≤◌, true, List, length, All, Option}
 use Rattle.std.specs.Cmp.Lexicographic.{slice_cmp}
 use Rattle.std.specs.FinMap.{entries}
 use Rattle.std.specs.FinSet as set
@@ -10,7 +10,6 @@ use Rattle.group_message.specs.declared.kept.Kept.{Kept}
 use Rattle.group_message.specs.declared.update.Update.{Update}
 use Rattle.item_index.specs.AsMap.{as_map}
 use Rattle.item_index.specs.Keys.{Keys}
-use Rattle.item_index.specs.declared.slot.Slot.{Slot}
 use Rattle.request_log.specs.Logged.{Logged}
 use Rattle.run_alloc.specs.Free.{Space}
 use Rattle.run_alloc.specs.Free as alloc
@@ -50,8 +49,3 @@ pub record PartsAgree (state : State) (space : Space) (fit : ℕ) : Type 0 where
   pub updates : state.room.spare ≤ fit
   pub ready : All (λ u. is_among state.room.ready u.key ≡ true) state.replica.log
   pub callers : length state.replica.kept ≡ callers
-
--- the item on a key with another end, if there is one
-abbrev pub touched : Option ℕ → Option Slot → Option Slot
-touched until None = None
-touched until (Some slot) = Some (record slot { until = until })

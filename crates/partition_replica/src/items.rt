@@ -1,8 +1,9 @@
 // What updates do to an index of items.
 ghost use Rattle.std.specs.Prelude.{true, ◌≡◌, ℕ, List, All, OnOk, ◌||◌, ◌&&◌, not};
+ghost use Rattle.group_message.specs.declared.update.Body.TheVariants.{Touch};
 ghost use Rattle.group_run.specs.Lists.{any, same_key};
-ghost use Rattle.group_run.specs.Replica.{item_settled, slot_in, with_slot};
-ghost use Rattle.partition_replica.specs.Inside.{items_in, ready_in, touched};
+ghost use Rattle.group_run.specs.Replica.{item_settled, slot_after, slot_in, with_slot};
+ghost use Rattle.partition_replica.specs.Inside.{items_in, ready_in};
 ghost use Rattle.partition_replica.specs.State.{is_among, is_needed};
 
 use crate::updates::Updates;
@@ -53,7 +54,7 @@ pub fn settle(index: &mut Index<Key>, update: &Update)
 
 /// Gives the item on a key, if there is one, another end.
 fn touch(index: &mut Index<Key>, key: &Key, until: Option<u64>)
-    ensures items { items_in index.new ≡ with_slot key.now (touched until (slot_in (items_in index.old) key.now)) (items_in index.old) }
+    ensures items { (n : ℕ) → items_in index.new ≡ with_slot key.now (slot_after n (Touch until) (slot_in (items_in index.old) key.now)) (items_in index.old) }
     ensures ready { ready_in index.new ≡ ready_in index.old }
 {
     if let Some(slot) = index.get(key) {

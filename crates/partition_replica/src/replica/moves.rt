@@ -49,7 +49,8 @@ impl Replica {
 
     /// Drops the log, and takes in its place those updates of `list` that are above the applied number;
     /// the numbers of `list` run from `base + 1` on. It takes no memory, and leaves no room. A key that
-    /// only a dropped update was on is ready no longer.
+    /// only a dropped update was on is ready no longer; those of the updates of `list` that are not
+    /// taken stay ready until `tidy`.
     pub fn adopt(&mut self, base: u64, list: UpdateList)
         requires base { base ≤ self.old.replica.applied }
         requires numbers { IsNumbered (λ u. u.number) base list }

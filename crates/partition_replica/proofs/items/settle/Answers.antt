@@ -16,3 +16,6 @@ returns-in-Remove-clause-items c = rw c.in-Remove.is (items_in-remove _ _ _ c.re
 
 pub returns-in-Remove-clause-ready : goal.returns-in-Remove-clause-ready
 returns-in-Remove-clause-ready c = ready_in-same _ _ c.remove.ensures.ready
+
+pub returns-in-Touch-clause-items : goal.returns-in-Touch-clause-items
+returns-in-Touch-clause-items c = rw c.in-Touch.is (c.touch.ensures.items c.args.update.now.number)

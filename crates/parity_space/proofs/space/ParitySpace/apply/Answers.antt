@@ -1,4 +1,4 @@
-use Rattle.std.proofs.Common.{◌≡◌, ◌*◌, length, subst, sym, ap, ap₂, ◌∙◌, arith}
+use Rattle.std.proofs.Common.{◌≡◌, ℕ, ◌*◌, length, subst, sym, ap, ap₂, ◌∙◌, arith}
 use Rattle.group_message.specs.declared.update.Body.{Body}
 use Rattle.group_run.specs.Code.{added_at, coefficient}
 use Rattle.field_byte.specs.Vectors.{scale}
@@ -22,6 +22,6 @@ returns-in-Put-clause-bytes c =
     let pages = c.self.inside.pages in
     let area : pages.blocks * pages.block ≡ c.self.inside.shape.blocks * c.self.inside.shape.block = ap₂ (λ x y. x * y) c.self.invariant.1 c.self.invariant.2 in
     let long : length c.bytes.result.now ≡ c.in-Put.run'.len = ap length c.bytes.ensures ∙ ready.1 in
-    let coef = c.coefficient-coef.ensures ∙ ap (λ (s : Space). coefficient s.shape.m s.number c.args.d.0) (sym c.self.view_is) in
+    let coef = c.coefficient-coef.ensures.value ∙ ap (λ (m : ℕ). coefficient m c.self.inside.number c.args.d.0) c.m.ensures.value in
     let added = bytes_added pages c.add_product.new.self c.in-Put.run'.at c.coefficient-coef.result c.bytes.result.now (omega (arith, ready.0, area, long)) c.add_product.ensures in
     rw (← c.self.view_is, c.in-Put.is) (subst (λ sum. bytes_of c.add_product.new.self ≡ added_at c.in-Put.run'.at sum (bytes_of pages)) (ap₂ scale coef c.bytes.ensures) added)

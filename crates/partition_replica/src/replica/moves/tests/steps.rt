@@ -15,13 +15,13 @@ use std::test::Fail;
 
 // What is done to the item.
 #[derive(Clone, Copy)]
-pub enum Step {
+pub(super) enum Step {
     Put(u32),
     Touch(u64),
     Delete,
 }
 
-pub fn empty(alloc: Global) -> Result<Replica, Fail>
+pub(super) fn empty(alloc: Global) -> Result<Replica, Fail>
     ensures space { IfOk result (λ r. space_of r.shape ≡ 16) }
     ensures replica { IfOk result (λ r. r.replica ≡ empty_replica) }
 {
@@ -59,7 +59,7 @@ fn put(alloc: Global, run: Run) -> Result<Body, AllocError>
 }
 
 // Reserves and receives the update of a step. The log has to be empty.
-pub fn receive(
+pub(super) fn receive(
     rt: &impl Abort,
     alloc: Global,
     replica: &mut Replica,
@@ -105,7 +105,12 @@ fn receive_next(
 }
 
 // A replica that received an update on the one key, and adopted one on the other.
-pub fn adopted(rt: &impl Abort, alloc: Global, one: &Key, other: &Key) -> Result<Replica, Fail> {
+pub(super) fn adopted(
+    rt: &impl Abort,
+    alloc: Global,
+    one: &Key,
+    other: &Key,
+) -> Result<Replica, Fail> {
     let mut replica = empty(alloc)?;
     receive(rt, alloc, &mut replica, one, 41, Step::Put(6))?;
     adopt(alloc, &mut replica, other)?;
