@@ -8,7 +8,7 @@ mkdir -p "$work/crates/spaces_bench/src"
 cp "$top/bench/spaces/main.rattle" "$work/crates/spaces_bench/src/main.rt"
 cp -r "$top/bench/spaces/proofs" "$work/crates/spaces_bench/"
 find "$work" -path '*/proofs/*' -type f -exec mv {} {}.antt \;
-for name in group_types memc_table group_message vector_stamp field_byte run_alloc item_index group_run lane_kernel field_matrix cauchy_code page_map value_space parity_space; do
+for name in group_types group_message vector_stamp field_byte erasure_code lane_kernel field_matrix cauchy_code page_map value_space parity_space; do
     cp -r "$top/crates/$name" "$work/crates/"
     grep "^$name:" "$top/crates.txt" >> "$work/crates.txt"
 done

@@ -10,7 +10,7 @@ use Rattle.std.proofs.lemmas.Map.Made.{AllPairs-from_IsDistinct, is_member-Decid
 use Rattle.group_types.specs.Pieces.{HaveOneLength, bytes_of, numbers_of, overwritten, piece_of, place_of, with_bytes, zero_pieces}
 use Rattle.group_types.specs.declared.piece_list.Piece.{Piece}
 use Rattle.group_types.proofs.Places.{numbers_kept, place_within}
-use Rattle.cauchy_code.specs.Columns.{IsEachBelow}
+use Rattle.erasure_code.specs.Columns.{IsEachBelow}
 
 -- tests that a list has each number below n once
 abbrev differ_check : List ℕ → Bool

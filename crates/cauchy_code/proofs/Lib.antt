@@ -1,9 +1,8 @@
 pub mod Terms
 pub mod Parts
-pub mod Partitions
 pub mod Recovery
 pub mod Solutions
 pub mod Cases
-pub mod Nodes
-pub mod Weights
-pub mod Machine
+pub mod Filling
+pub mod Progress
+pub mod Additions

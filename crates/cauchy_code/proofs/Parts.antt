@@ -1,44 +1,14 @@
--- Parts of lists that are put together, and where a number's piece stands in two lists of pieces.
-use Rattle.std.proofs.Common.{◌≡◌, ◌≢◌, ℕ, ◌+◌, ◌-◌, ◌<◌, ◌==◌, List, [], ◌++◌, length, get_or, All, Contains, inl, inr, sym, ap, ◌∙◌, arith}
+-- Where a number's piece stands in two lists of pieces that are put together.
+use Rattle.std.proofs.Common.{◌≡◌, ℕ, ◌+◌, ◌-◌, ◌<◌, ◌==◌, List, [], ◌++◌, length, get_or, Contains, inl, inr, sym, ap, ◌∙◌, arith}
 use Rattle.std.proofs.lemmas.Bool.{cases_lt, eq-eqb, true≢false}
 use Rattle.std.proofs.lemmas.List.{length-append, length-map, map-append, get_or_append_left, get_or-append-add}
 use Rattle.std.proofs.lemmas.List.Sums.{fails_before_first}
 use Rattle.group_types.specs.Pieces.{HaveOneLength, bytes_of, contents_of, length_of, numbers_of, place_of}
 use Rattle.group_types.specs.declared.piece_list.Piece.{Piece}
 use Rattle.group_types.proofs.Places.{IsMissing, number_at, number_found, place_found, place_within}
-use Rattle.cauchy_code.specs.Columns.{AreDifferent}
+use Rattle.erasure_code.specs.Columns.{AreDifferent}
+use Rattle.erasure_code.proofs.Lists.{All-right}
 use Rattle.cauchy_code.proofs.Terms.{content_at}
-
-pub All-left : {X : Type 0} (P : X → Type 0) (xs ys : List X) → All P (xs ++ ys) → All P xs
-All-left P xs ys all k d below = rw (← get_or_append_left xs ys d k below) (all k d (omega (arith, length-append xs ys, below)))
-
-pub All-right : {X : Type 0} (P : X → Type 0) (xs ys : List X) → All P (xs ++ ys) → All P ys
-All-right P xs ys all k d below = rw (← get_or-append-add xs ys k d) (all (length xs + k) d (omega (arith, length-append xs ys, below)))
-
-pub differ_left : (xs ys : List ℕ) → AreDifferent (xs ++ ys) → AreDifferent xs
-differ_left xs ys differ i j d before below same =
-    differ i j d before (omega (arith, length-append xs ys, below))
-    (get_or_append_left xs ys d i (omega (arith, before, below)) ∙ (same ∙ sym (get_or_append_left xs ys d j below)))
-
-pub differ_right : (xs ys : List ℕ) → AreDifferent (xs ++ ys) → AreDifferent ys
-differ_right xs ys differ i j d before below same =
-    differ (length xs + i) (length xs + j) d (omega (arith, before)) (omega (arith, length-append xs ys, below))
-    (get_or-append-add xs ys i d ∙ (same ∙ sym (get_or-append-add xs ys j d)))
-
-pub differ_across : (xs ys : List ℕ) → AreDifferent (xs ++ ys) → (i j d : ℕ) → i < length xs → j < length ys → get_or xs i d ≢ get_or ys j d
-differ_across xs ys differ i j d left right same =
-    differ i (length xs + j) d (omega (arith, left)) (omega (arith, length-append xs ys, right))
-    (get_or_append_left xs ys d i left ∙ (same ∙ sym (get_or-append-add xs ys j d)))
-
--- two places of one number are one place
-pub same_place : (xs : List ℕ) → AreDifferent xs → (i j : ℕ) → i < length xs → j < length xs → get_or xs i 0 ≡ get_or xs j 0 → i ≡ j
-same_place xs differ i j i_below j_below same = elim (cases_lt i j) [
-  | inl before ↦ absurd (differ i j 0 before j_below same)
-  | inr after ↦ elim (cases_lt j i) [
-    | inl before ↦ absurd (differ j i 0 before i_below (sym same))
-    | inr not_after ↦ omega (arith, after, not_after)
-  ]
-]
 
 -- a piece that has a length, among others of one length
 pub long_at : (before pieces : List Piece) (d : ℕ) → HaveOneLength (before ++ pieces) → Contains (numbers_of pieces) d → length (bytes_of pieces d) ≡ length_of (before ++ pieces)

@@ -1,11 +1,9 @@
 -- The lost columns that the code's inverse square gives agree with the rows, and no others do.
-use Rattle.std.proofs.Common.{◌≡◌, ℕ, ◌<◌, List, [], ◌++◌, length, get_or, All, Contains, bit_xor, inl, inr, sym, ap, ◌∙◌, refl, arith}
+use Rattle.std.proofs.Common.{◌≡◌, ℕ, ◌+◌, ◌<◌, ◌≤◌, List, [], ◌∷◌, ◌++◌, length, map, get_or, All, Contains, bit_xor, sym, ap, ◌∙◌, refl, arith}
 use Rattle.std.specs.List.{range_with_len}
-use Rattle.std.specs.Int.Bits.{xor_assoc, xor_self, xor_zero_r}
-use Rattle.std.proofs.lemmas.Bool.{cases_lt}
 use Rattle.std.proofs.lemmas.Grind.{same_number_lists}
-use Rattle.std.proofs.lemmas.List.{length-map, ext_get_or, get_or_default, get_or_past}
-use Rattle.std.proofs.lemmas.List.Elements.{All-get_or, Contains-append_cases}
+use Rattle.std.proofs.lemmas.List.{length-map, get_or_default}
+use Rattle.std.proofs.lemmas.List.Elements.{All-get_or, All-map}
 use Rattle.std.proofs.lemmas.List.FromFn.{length-range_with_len, get_or-map-range_with_len}
 use Rattle.field_byte.specs.Field.{product}
 use Rattle.field_byte.specs.Vectors.{field_sum}
@@ -14,20 +12,20 @@ use Rattle.field_byte.proofs.Products.{product_lt, product_sum_r, product_assoc,
 use Rattle.field_byte.proofs.FieldSums.{sum_same, sum_byte, sum_of_sums, sum_times_l, sum_times_r, sum_of_rows}
 use Rattle.field_matrix.specs.Grids.{Grid, HasBytes, entry, times}
 use Rattle.field_matrix.proofs.Products.{times_byte, times_same}
-use Rattle.field_matrix.proofs.Inverses.{solution_is, solution_solves}
-use Rattle.group_run.specs.Code.{coefficient}
-use Rattle.group_run.specs.Meaning.{coded}
+use Rattle.field_matrix.proofs.Inverses.{solution_solves}
+use Rattle.erasure_code.specs.Code.{Column, coded, coefficient, decoded}
+use Rattle.erasure_code.specs.Columns.{Agree, AreDifferent, AreOfBytes, IsEachBelow}
+use Rattle.erasure_code.specs.Laws.{CanDecode}
+use Rattle.erasure_code.proofs.Decoding.{lost_is, same_columns, twice}
+use Rattle.erasure_code.proofs.Lists.{All-left, All-right, differ_right, differ_across, either}
+use Rattle.erasure_code.proofs.Partitions.{coded_long, coded_split}
 use Rattle.group_types.specs.Pieces.{bytes_of, contents_of, numbers_of}
 use Rattle.group_types.specs.declared.piece_list.Piece.{Piece}
 use Rattle.group_types.proofs.Places.{IsMissing, number_at}
-use Rattle.cauchy_code.specs.Columns.{Agree, AreOfBytes, IsEachBelow, columns_of}
+use Rattle.cauchy_code.specs.Columns.{as_column, as_columns, columns_of}
 use Rattle.cauchy_code.specs.Solving.{IsSolved, known_weight, lost_byte, lost_square, row_coefficient}
-use Rattle.cauchy_code.proofs.Parts.{All-left, All-right, differ_right, differ_across, bytes_of_front, bytes_of_back}
-use Rattle.cauchy_code.proofs.Partitions.{coded_at, coded_long, partition_sum}
+use Rattle.cauchy_code.proofs.Parts.{bytes_of_front, bytes_of_back}
 use Rattle.cauchy_code.proofs.Terms.{content_at}
-
-pub twice : (a b : ℕ) → bit_xor (bit_xor a b) b ≡ a
-twice a b = xor_assoc a b b ∙ (ap (bit_xor a) (xor_self b) ∙ xor_zero_r a)
 
 -- what the known columns have in a row
 abbrev pub known_part : ℕ → List Piece → List Piece → Grid
@@ -74,11 +72,10 @@ pub row_split : (k m n : ℕ) (lost : List ℕ) (rows known : List Piece) (colum
 row_split k m n lost rows known columns each many long holds a at =
     let x = get_or (numbers_of rows) a 0 in
     let f : ℕ → ℕ = λ d. product (coefficient m x d) (entry columns d at) in
-    coded_at m x n at columns long
-    ∙ (ap (λ k. field_sum k f) many ∙ (partition_sum k lost (numbers_of known) f each
-    ∙ ap (bit_xor (times (length lost) (lost_square m lost rows) (at_lost lost columns) a at))
+    coded_split k m x n at lost (numbers_of known) columns each many long
+    ∙ (ap (bit_xor (times (length lost) (lost_square m lost rows) (at_lost lost columns) a at))
     (ap (λ k. field_sum k (λ j. f (get_or (numbers_of known) j 0))) (length-map known (λ p. p.number))
-    ∙ sum_same (length known) _ _ (λ j below. ap (λ (bytes : List ℕ). product (row_coefficient m rows a (get_or (numbers_of known) j 0)) (get_or bytes at 0)) (holds j below)))))
+    ∙ sum_same (length known) _ _ (λ j below. ap (λ (bytes : List ℕ). product (row_coefficient m rows a (get_or (numbers_of known) j 0)) (get_or bytes at 0)) (holds j below))))
 
 abbrev pub HasKnown : List Piece → List (List ℕ) → Type 0
 HasKnown known columns = (j : ℕ) → j < length known → get_or columns (get_or (numbers_of known) j 0) [] ≡ get_or (contents_of known) j []
@@ -108,11 +105,8 @@ module _ (k m n : ℕ) (lost : List ℕ) (rows known out : List Piece) (each : I
   at_lost_column b below = column_at _ (lost_below b below) ∙ bytes_of_back known out (get_or lost b 0) (not_known b below) (All-get_or (λ d. Contains (numbers_of out) d) lost b 0 below found)
 
   -- each partition is lost or known
-  either : (P : ℕ → Type 0) → ((b : ℕ) → b < length lost → P (get_or lost b 0)) → ((j : ℕ) → j < length known → P (get_or (numbers_of known) j 0)) → (d : ℕ) → d < k → P d
-  either P of_lost of_known d below = elim (Contains-append_cases lost (numbers_of known) d (each.all d below)) [
-    | inl here ↦ rw (← get_or_default lost here.0 0 d here.1 ∙ here.2) (of_lost here.0 here.1)
-    | inr here ↦ rw (← get_or_default (numbers_of known) here.0 0 d here.1 ∙ here.2) (of_known here.0 (omega (arith, length-map known (λ p. p.number), here.1)))
-  ]
+  each_one : (P : ℕ → Type 0) → ((b : ℕ) → b < length lost → P (get_or lost b 0)) → ((j : ℕ) → j < length known → P (get_or (numbers_of known) j 0)) → (d : ℕ) → d < k → P d
+  each_one P of_lost of_known = either k lost (numbers_of known) P each of_lost (λ j below. of_known j (omega (arith, length-map known (λ p. p.number), below)))
 
   content_long : (pieces : List Piece) → All (λ p. length p.bytes ≡ n) pieces → (j : ℕ) → j < length pieces → length (get_or (contents_of pieces) j []) ≡ n
   content_long pieces long j below =
@@ -123,7 +117,7 @@ module _ (k m n : ℕ) (lost : List ℕ) (rows known out : List Piece) (each : I
   long_columns d e below =
       let within : d < k = omega (arith, many_columns, below) in
       ap length (get_or_default (columns_of k (known ++ out)) d e [] below)
-      ∙ either (λ d. length (get_or (columns_of k (known ++ out)) d []) ≡ n)
+      ∙ each_one (λ d. length (get_or (columns_of k (known ++ out)) d []) ≡ n)
       (λ b b_below. ap length (at_lost_column b b_below) ∙ solved.long b b_below)
       (λ j j_below. ap length (at_known j j_below) ∙ content_long known known_long j j_below) d within
 
@@ -155,49 +149,50 @@ module _ (k m n : ℕ) (lost : List ℕ) (rows known out : List Piece) (each : I
       ∙ solution_solves (length lost) (lost_square m lost rows) solved.weights (lost_part m rows known) square_bytes solved.bytes solved.right a at within (λ i i_below. part_bytes at i i_below))
       ∙ twice (entry (contents_of rows) a at) (known_part m rows known a at))))
 
-  pub columns_agree : Agree k m n rows known (columns_of k (known ++ out))
-  columns_agree = record {
+  own_columns_agree : Agree k m n (as_columns rows) (as_columns known) (columns_of k (known ++ out))
+  own_columns_agree = record {
     many = many_columns;
     long = long_columns;
-    holds = λ j d below. ap (λ number. get_or (columns_of k (known ++ out)) number []) (sym (number_at known j d below)) ∙ (at_known j below ∙ content_at known j d below);
-    codes = λ a d below. sym (content_at rows a d below) ∙ (row_agrees a below ∙ ap (λ i. coded m i n (columns_of k (known ++ out))) (number_at rows a d below));
+    holds = All-map (λ (column : Column). get_or (columns_of k (known ++ out)) column.number [] ≡ column.bytes) as_column known (λ j d below. ap (λ number. get_or (columns_of k (known ++ out)) number []) (sym (number_at known j d below)) ∙ (at_known j below ∙ content_at known j d below));
+    codes = All-map (λ (row : Column). row.bytes ≡ coded m row.number n (columns_of k (known ++ out))) as_column rows (λ a d below. sym (content_at rows a d below) ∙ (row_agrees a below ∙ ap (λ i. coded m i n (columns_of k (known ++ out))) (number_at rows a d below)));
   }
 
-  -- columns that agree
-  module _ (columns : List (List ℕ)) (of_bytes : AreOfBytes columns) (agree : Agree k m n rows known columns) where
-    their_known : HasKnown known columns
-    their_known j below =
-        let none : Piece = record { number = 0; bytes = [] } in
-        ap (λ number. get_or columns number []) (number_at known j none below) ∙ (agree.holds j none below ∙ sym (content_at known j none below))
+  own_bytes : 0 < length lost → AreOfBytes (columns_of k (known ++ out))
+  own_bytes some d e below at b at_below =
+      let within : d < k = omega (arith, many_columns, below) in
+      rw (get_or_default (columns_of k (known ++ out)) d e [] below, get_or_default (get_or (columns_of k (known ++ out)) d []) at b 0 (rw (← get_or_default (columns_of k (known ++ out)) d e [] below) at_below))
+      (each_one (λ d. entry (columns_of k (known ++ out)) d at < 256) (λ b b_below. lost_entry_byte b at b_below)
+      (λ j j_below. rw (at_known j j_below) (solved.known_bytes some j at j_below)) d within)
 
-    their_rows : (at a : ℕ) → a < length lost → times (length lost) (lost_square m lost rows) (at_lost lost columns) a at ≡ lost_part m rows known a at
-    their_rows at a below =
-        let none : Piece = record { number = 0; bytes = [] } in
-        let within : a < length rows = omega (arith, as_many, below) in
-        let coded_row : get_or (contents_of rows) a [] ≡ coded m (get_or (numbers_of rows) a 0) n columns =
-        content_at rows a none within ∙ (agree.codes a none within ∙ ap (λ i. coded m i n columns) (sym (number_at rows a none within))) in
-        let split : entry (contents_of rows) a at ≡ bit_xor (times (length lost) (lost_square m lost rows) (at_lost lost columns) a at) (known_part m rows known a at) =
-        ap (λ (bytes : List ℕ). get_or bytes at 0) coded_row ∙ row_split k m n lost rows known columns each agree.many agree.long their_known a at in
-        sym (ap (λ x. bit_xor x (known_part m rows known a at)) split ∙ twice _ _)
+pub numbers_as : (pieces : List Piece) → map (λ (column : Column). column.number) (as_columns pieces) ≡ numbers_of pieces
+numbers_as [] = refl
+numbers_as (p ∷ ps) = ap (λ ns. p.number ∷ ns) (numbers_as ps)
 
-    their_byte : (d at : ℕ) → d < k → entry columns d at < 256
-    their_byte d at below = elim (cases_lt at (length (get_or columns d []))) [
-      | inl within ↦ of_bytes d [] (omega (arith, agree.many, below)) at 0 within
-      | inr past ↦ rw (get_or_past (get_or columns d []) at 0 past) (omega arith)
-    ]
+-- what the contract of `decode` says of columns that were solved
+pub record IsDecoded (k m n : ℕ) (lost : List ℕ) (rows known out : List Piece) : Type 0 where
+  pub agrees : Agree k m n (as_columns rows) (as_columns known) (columns_of k (known ++ out))
+  pub only : (columns : List (List ℕ)) → AreOfBytes columns → Agree k m n (as_columns rows) (as_columns known) columns → columns ≡ columns_of k (known ++ out)
+  pub closed : All (λ l. bytes_of out l ≡ decoded m n lost (as_columns rows) (as_columns known) l) lost
 
-    their_lost : (b at : ℕ) → b < length lost → at_lost lost columns b at ≡ at_lost lost (columns_of k (known ++ out)) b at
-    their_lost b at below =
-        solution_is (length lost) (lost_square m lost rows) solved.weights (lost_part m rows known) (at_lost lost columns) square_bytes solved.bytes solved.left at
-        (λ i i_below. their_byte _ at (lost_below i i_below)) (their_rows at) b below
-        ∙ sym (written b at below)
-
-    same_columns : (d : ℕ) → d < k → get_or columns d [] ≡ get_or (columns_of k (known ++ out)) d []
-    same_columns = either (λ d. get_or columns d [] ≡ get_or (columns_of k (known ++ out)) d [])
-        (λ b below. same_number_lists _ _
-        (agree.long _ [] (omega (arith, agree.many, lost_below b below)) ∙ sym (ap length (at_lost_column b below) ∙ solved.long b below))
-        (λ at at_below. their_lost b at below))
-        (λ j below. their_known j below ∙ sym (at_known j below))
-
-    pub only_columns : columns ≡ columns_of k (known ++ out)
-    only_columns = ext_get_or [] columns (columns_of k (known ++ out)) (agree.many ∙ sym many_columns) (λ d below. same_columns d (omega (arith, agree.many, below)))
+pub decoded_from : (k m n : ℕ) (lost : List ℕ) (rows known out : List Piece) → k + m ≤ 256 → IsEachBelow k (lost ++ numbers_of known) → AreDifferent (numbers_of rows) → All (λ i. i < m) (numbers_of rows)
+    → length rows ≡ length lost → All (λ d. Contains (numbers_of out) d) lost → All (λ p. length p.bytes ≡ n) rows → All (λ p. length p.bytes ≡ n) known → IsSolved m n lost rows known out
+    → IsDecoded k m n lost rows known out
+decoded_from k m n lost rows known out few each differ below as_many found rows_long known_long solved =
+    let ours = columns_of k (known ++ out) in
+    let agree = own_columns_agree k m n lost rows known out each as_many found rows_long known_long solved in
+    let bytes = own_bytes k m n lost rows known out each as_many found rows_long known_long solved in
+    let can : CanDecode k m lost (as_columns rows) (as_columns known) = record {
+      processes = few;
+      partitions = rw (numbers_as known) each;
+      different = rw (numbers_as rows) differ;
+      below = rw (numbers_as rows) below;
+      as_many = length-map rows _ ∙ as_many;
+    } in
+    record {
+      agrees = agree;
+      only = λ columns of_bytes theirs. same_columns k m n lost (as_columns rows) (as_columns known) can ours columns bytes (λ some. of_bytes) agree theirs;
+      closed = λ b d b_below.
+          rw (get_or_default lost b d 0 b_below)
+          (sym (at_lost_column k m n lost rows known out each as_many found rows_long known_long solved b b_below)
+          ∙ lost_is k m n lost (as_columns rows) (as_columns known) can ours agree (bytes (omega (arith, b_below))) b b_below);
+    }

@@ -11,7 +11,7 @@ use Rattle.field_byte.proofs.FieldSums.{sum_same}
 use Rattle.field_matrix.specs.Grids.{Grid, HasBytes, IsIdentity, entry, times}
 use Rattle.group_types.specs.Pieces.{bytes_of, contents_of, numbers_of}
 use Rattle.group_types.specs.declared.piece_list.Piece.{Piece}
-use Rattle.cauchy_code.specs.Columns.{AreDifferent}
+use Rattle.erasure_code.specs.Columns.{AreDifferent}
 use Rattle.cauchy_code.specs.Solving.{AreBytesIn, IsSolved, lost_byte, lost_square, row_coefficient}
 
 -- a lost column reads as many weights as there are rows

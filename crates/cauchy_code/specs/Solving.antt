@@ -5,7 +5,8 @@ use Rattle.field_byte.specs.Vectors.{field_sum}
 use Rattle.field_matrix.specs.Grids.{Grid, HasBytes, IsIdentity, entry, times}
 use Rattle.group_types.specs.Pieces.{bytes_of, contents_of, numbers_of}
 use Rattle.group_types.specs.declared.piece_list.Piece.{Piece}
-use Rattle.group_run.specs.Code.{coefficient}
+use Rattle.erasure_code.specs.Code.{coefficient}
+use Rattle.cauchy_code.specs.declared.weights.Weights.{Weights}
 
 -- the coefficient of row a, of these rows, for partition d
 abbrev pub row_coefficient : ℕ → List Piece → ℕ → ℕ → ℕ
@@ -19,9 +20,9 @@ lost_square m lost rows a b = row_coefficient m rows a (slice_index lost b)
 abbrev pub known_weight : ℕ → ℕ → (ℕ → ℕ) → List Piece → ℕ → ℕ
 known_weight n m weights rows d = field_sum n (λ a. product (weights a) (row_coefficient m rows a d))
 
--- the first n rows in the lost column, at a place
-abbrev pub rows_sum : ℕ → (ℕ → ℕ) → List Piece → ℕ → ℕ
-rows_sum n weights rows at = field_sum n (λ a. product (weights a) (entry (contents_of rows) a at))
+-- the sum of the first n pieces, each with its weight, at a place
+abbrev pub pieces_sum : ℕ → (ℕ → ℕ) → List Piece → ℕ → ℕ
+pieces_sum n weights pieces at = field_sum n (λ a. product (weights a) (entry (contents_of pieces) a at))
 
 -- the first n known columns in it
 abbrev pub known_sum : ℕ → ℕ → (ℕ → ℕ) → List Piece → List Piece → ℕ → ℕ
@@ -30,7 +31,16 @@ known_sum n m weights rows known at =
 
 -- the byte of the lost column at a place
 abbrev pub lost_byte : ℕ → (ℕ → ℕ) → List Piece → List Piece → ℕ → ℕ
-lost_byte m weights rows known at = bit_xor (rows_sum (length rows) weights rows at) (known_sum (length known) m weights rows known at)
+lost_byte m weights rows known at = bit_xor (pieces_sum (length rows) weights rows at) (known_sum (length known) m weights rows known at)
+
+-- the sum of rows and known columns with their weights, at a place
+abbrev pub parts_sum : Weights → List Piece → List Piece → ℕ → ℕ
+parts_sum w rows known at = bit_xor (pieces_sum (length rows) (slice_index w.rows) rows at) (pieces_sum (length known) (slice_index w.known) known at)
+
+-- n bytes that are these sums
+pub record IsSum (n : ℕ) (w : Weights) (rows known : List Piece) (bytes : List ℕ) : Type 0 where
+  pub long : length bytes ≡ n
+  pub each : (at : ℕ) → at < n → slice_index bytes at ≡ parts_sum w rows known at
 
 -- each piece consists of bytes
 abbrev pub AreBytesIn : List Piece → Type 0

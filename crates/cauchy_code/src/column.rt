@@ -1,5 +1,4 @@
 ghost use Rattle.std.specs.Prelude.{◌≡◌, ℕ, ◌<◌, ◌≤◌, All, length, replicate, slice_index};
-ghost use Rattle.field_byte.specs.Vectors.{add_bytes, scale};
 ghost use Rattle.group_types.specs.Pieces.{numbers_of};
 ghost use Rattle.cauchy_code.specs.Solving.{AreBytesIn, known_weight, lost_byte};
 
@@ -17,36 +16,41 @@ pub(crate) fn write_column(m: u32, weights: &[u8], rows: &[Piece], known: &[Piec
     requires known_below { All (λ d. d ≤ 15) (numbers_of known.now) }
     requires rows_long { All (λ p. length p.bytes ≡ length into.old) rows.now }
     requires known_long { All (λ p. length p.bytes ≡ length into.old) known.now }
-    ensures sum { (at : ℕ) → slice_index into.new at ≡ lost_byte m (slice_index weights.now) rows.now known.now at }
-    ensures row_bytes { AreBytesIn rows.now }
-    ensures known_bytes { AreBytesIn known.now }
+    ensures { (at : ℕ) → slice_index into.new at ≡ lost_byte m (slice_index weights.now) rows.now known.now at }
 {
     clear(into);
     'rows: for a in 0..rows.len() {
-        add_multiple(weights[a], rows[a].bytes.bytes(), into);
+        mul_add_into(weights[a], rows[a].bytes.bytes(), into);
     }
     'known: for piece in known {
         let weight = known_weight(m, weights, rows, piece.number);
-        add_multiple(weight, piece.bytes.bytes(), into);
+        mul_add_into(weight, piece.bytes.bytes(), into);
     }
 }
 
-fn clear(bytes: &mut [u8])
+pub(crate) fn clear(bytes: &mut [u8])
     ensures { bytes.new ≡ replicate (length bytes.old) 0 }
 {
     bytes.fill(0);
 }
 
-fn add_multiple(weight: u8, bytes: &[u8], into: &mut [u8])
-    requires { length bytes.now ≡ length into.old }
-    ensures sum { into.new ≡ add_bytes into.old (scale weight bytes.now) }
-    ensures bytes { (at : ℕ) → slice_index bytes.now at < 256 }
+/// What stands in pieces are bytes.
+pub(crate) fn are_bytes(pieces: &[Piece])
+    ensures { AreBytesIn pieces.now }
 {
-    mul_add_into(weight, bytes, into);
+    'pieces: for piece in pieces {
+        read(piece.bytes.bytes());
+    }
+}
+
+fn read(bytes: &[u8])
+    ensures { (at : ℕ) → slice_index bytes.now at < 256 }
+{
+    let _long = bytes.len();
 }
 
 // The weight of partition `d`'s known column where the rows have these weights.
-fn known_weight(m: u32, weights: &[u8], rows: &[Piece], d: u32) -> u8
+pub(crate) fn known_weight(m: u32, weights: &[u8], rows: &[Piece], d: u32) -> u8
     requires m { m ≤ 4 }
     requires d { d ≤ 15 }
     requires weights { length weights.now ≡ length rows.now }

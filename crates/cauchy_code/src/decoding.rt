@@ -1,11 +1,16 @@
-ghost use Rattle.std.specs.Prelude.{◌≡◌, ℕ, ◌<◌, ◌≤◌, ◌++◌, List, All, Contains, IfOk, length};
-ghost use Rattle.group_run.specs.Code.{decoded};
+ghost use Rattle.std.specs.Prelude.{◌≡◌, ℕ, ◌<◌, ◌≤◌, ◌++◌, List, All, Contains, IfOk, length, slice_index};
+ghost use Rattle.field_matrix.specs.Grids.{entry};
+ghost use Rattle.erasure_code.specs.Code.{decoded};
 ghost use Rattle.group_types.specs.Pieces.{HaveOneLength, bytes_of, length_of, numbers_of};
-ghost use Rattle.cauchy_code.specs.Columns.{Agree, AreDifferent, AreOfBytes, IsEachBelow, as_columns, columns_of};
+ghost use Rattle.erasure_code.specs.Columns.{Agree, AreDifferent, AreOfBytes, IsEachBelow};
+ghost use Rattle.cauchy_code.specs.Columns.{KeepsOthers, as_columns, columns_of};
 ghost use Rattle.cauchy_code.specs.Solving.{IsSolved};
 
-use crate::column::write_column;
+use crate::column::{are_bytes, write_column};
+use crate::pass::write_two;
 use crate::square::square;
+use crate::weights::weights_of;
+use field_matrix::Square;
 use group_types::{Piece, PieceList, Shape};
 
 /// Writes the columns of the lost partitions into `out`: the only ones that, with the known
@@ -19,12 +24,13 @@ pub fn decode(shape: Shape, lost: &[u32], rows: &PieceList, known: &PieceList, o
     requires out { All (λ d. Contains (numbers_of out.old) d) lost.now }
     requires long { HaveOneLength (rows.now ++ known.now ++ out.old) }
     ensures numbers { numbers_of out.new ≡ numbers_of out.old }
+    ensures kept { KeepsOthers lost.now out.old out.new }
     ensures agrees { let n = length_of (rows.now ++ known.now ++ out.old) in
-        Agree shape.k shape.m n rows.now known.now (columns_of shape.k (known.now ++ out.new)) }
+        Agree shape.k shape.m n (as_columns rows.now) (as_columns known.now) (columns_of shape.k (known.now ++ out.new)) }
     ensures only { let n = length_of (rows.now ++ known.now ++ out.old) in
-        (columns : List (List ℕ)) → AreOfBytes columns → Agree shape.k shape.m n rows.now known.now columns
+        (columns : List (List ℕ)) → AreOfBytes columns → Agree shape.k shape.m n (as_columns rows.now) (as_columns known.now) columns
         → columns ≡ columns_of shape.k (known.now ++ out.new) }
-    ensures machine { let n = length_of (rows.now ++ known.now ++ out.old) in
+    ensures closed_form { let n = length_of (rows.now ++ known.now ++ out.old) in
         All (λ l. bytes_of out.new l ≡ decoded shape.m n lost.now (as_columns rows.now) (as_columns known.now) l) lost.now }
 {
     solve_any(shape.m(), lost, rows.pieces(), known.pieces(), out);
@@ -39,9 +45,11 @@ fn solve_any(m: u32, lost: &[u32], rows: &[Piece], known: &[Piece], out: &mut Pi
     requires lost_below { All (λ d. d ≤ 15) lost.now }
     requires lost_differ { AreDifferent lost.now }
     requires known_below { All (λ d. d ≤ 15) (numbers_of known.now) }
+    requires few_known { length known.now ≤ 16 }
     requires out { All (λ d. Contains (numbers_of out.old) d) lost.now }
     requires long { HaveOneLength (rows.now ++ known.now ++ out.old) }
     ensures numbers { numbers_of out.new ≡ numbers_of out.old }
+    ensures kept { KeepsOthers lost.now out.old out.new }
     ensures solved { IsSolved m (length_of (rows.now ++ known.now ++ out.old)) lost.now rows.now known.now out.new }
 {
     macro_rules! solve {
@@ -66,19 +74,40 @@ fn solve<const F: usize>(m: u32, lost: &[u32], rows: &[Piece], known: &[Piece], 
     requires lost_below { All (λ d. d ≤ 15) lost.now }
     requires lost_differ { AreDifferent lost.now }
     requires known_below { All (λ d. d ≤ 15) (numbers_of known.now) }
+    requires few_known { length known.now ≤ 16 }
     requires out { All (λ d. Contains (numbers_of out.old) d) lost.now }
     requires long { HaveOneLength (rows.now ++ known.now ++ out.old) }
     ensures numbers { numbers_of out.new ≡ numbers_of out.old }
+    ensures kept { KeepsOthers lost.now out.old out.new }
     ensures solved { IsSolved m (length_of (rows.now ++ known.now ++ out.old)) lost.now rows.now known.now out.new }
 {
+    are_bytes(rows);
+    are_bytes(known);
     let inverse = square::<F>(m, lost, rows).invert();
-    'columns: for b in 0..F {
-        let mut weights = [0u8; F];
-        'weights: for a in 0..F {
-            weights[a] = inverse.at(b, a);
+    let mut b = 0;
+    'columns: while b < F {
+        if b + 1 < F {
+            let first = weights_of(m, &row_of(&inverse, b), rows, known);
+            let second = weights_of(m, &row_of(&inverse, b + 1), rows, known);
+            write_two(&first, &second, rows, known, lost[b], lost[b + 1], out);
+            b += 2;
+        } else {
+            let last = row_of(&inverse, b);
+            write_column(m, &last, rows, known, out.piece_mut(lost[b]));
+            b += 1;
         }
-        write_column(m, &weights, rows, known, out.piece_mut(lost[b]));
     }
+}
+
+fn row_of<const F: usize>(square: &Square<F>, row: usize) -> [u8; F]
+    requires { row < F }
+    ensures { (a : ℕ) → a < F → slice_index result a ≡ entry square.now row a }
+{
+    let mut all = [0u8; F];
+    'columns: for a in 0..F {
+        all[a] = square.at(row, a);
+    }
+    all
 }
 
 #[cfg(test)]

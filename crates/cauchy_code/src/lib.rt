@@ -6,14 +6,18 @@
 
 mod column;
 mod decoding;
+mod encoding;
+mod pass;
 mod square;
+mod weights;
 
 ghost use Rattle.std.specs.Prelude.{◌≡◌, ◌+◌, ◌<◌, ◌≤◌, bit_xor, length};
 ghost use Rattle.field_byte.specs.Field.{product};
 ghost use Rattle.field_byte.specs.Vectors.{add_bytes, scale};
-ghost use Rattle.group_run.specs.Code.{coefficient};
+ghost use Rattle.erasure_code.specs.Code.{coefficient};
 
 pub use decoding::decode;
+pub use encoding::add_columns;
 use field_byte::inv;
 use lane_kernel::mul_add_into;
 

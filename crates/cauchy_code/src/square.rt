@@ -3,7 +3,7 @@ ghost use Rattle.std.specs.Prelude.{◌≡◌, ℕ, ◌+◌, ◌<◌, ◌≤◌,
 ghost use Rattle.field_matrix.specs.Cauchy.{IsCauchy};
 ghost use Rattle.field_matrix.specs.Grids.{HasBytes, entry};
 ghost use Rattle.group_types.specs.Pieces.{numbers_of};
-ghost use Rattle.cauchy_code.specs.Columns.{AreDifferent};
+ghost use Rattle.erasure_code.specs.Columns.{AreDifferent};
 ghost use Rattle.cauchy_code.specs.Solving.{lost_square};
 
 use field_matrix::Square;

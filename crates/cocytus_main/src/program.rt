@@ -35,6 +35,8 @@ pub fn run_program<R: Threads + Wait + Sync, S: Source, K: Sink, L: Listener, T:
     ensures done_left { result ≡ Status.Done → IfSome (S.left source.old) (λ all. S.left source.new ≡ Some []) }
     ensures done_bytes { result ≡ Status.Done → IfSome (S.left source.old) (λ all. Appends (K.held sink.old) (K.held sink.new) (transcript all)) }
     ensures bad_line_bytes { (n : ℕ) → result ≡ Status.BadLine n → IfSome (S.left source.old) (λ all. EndsWith (K.held sink.old) (K.held sink.new) (K.faults sink.old) (K.faults sink.new) (transcript all) (last_line (Status.BadLine n))) }
+    ensures unread { ¬ (IsTrue (is_play (map string_bytes words.now))) → source.new ≡ source.old }
+    ensures listener { listener.new ≡ listener.old }
     ensures promises { result ≡ Status.Done → IfSome (S.left source.old) KeepsPromises }
 {
     if is_play(words) {

@@ -2,6 +2,30 @@
 ghost use Rattle.std.specs.Prelude.{◌≡◌, ◌≢◌, ℕ, ◌⊎◌, ◌<◌, bit_xor};
 ghost use Rattle.field_byte.specs.Field.{inverse, power, product};
 
+/// The sum of bytes is a byte.
+#[tactic(auto, using(crate::proofs::Sums::sum_lt))]
+pub fn sum_is_a_byte(a: u8, b: u8)
+    ensures { bit_xor a b < 256 }
+{}
+
+/// 0 changes nothing.
+pub fn zero_is_neutral(a: u8)
+    ensures { bit_xor 0 a ≡ a }
+{}
+
+pub fn sum_commutes(a: u8, b: u8)
+    ensures { bit_xor a b ≡ bit_xor b a }
+{}
+
+pub fn sum_associates(a: u8, b: u8, c: u8)
+    ensures { bit_xor (bit_xor a b) c ≡ bit_xor a (bit_xor b c) }
+{}
+
+/// Every byte is its own negative.
+pub fn sum_with_itself_is_zero(a: u8)
+    ensures { bit_xor a a ≡ 0 }
+{}
+
 /// The product of bytes is a byte.
 #[tactic(auto, using(crate::proofs::Products::product_lt))]
 pub fn product_is_a_byte(a: u8, b: u8)

@@ -7,7 +7,7 @@ use std::simd::prelude::*;
 
 /// One coefficient, prepared to be multiplied with many bytes: its products with the low and with
 /// the high four bits of a byte. Contracts see the coefficient alone.
-#[derive(Drop)]
+#[derive(Debug, Drop)]
 pub struct Split {
     low: u8x16,
     high: u8x16,
@@ -94,6 +94,13 @@ impl Split {
         self.high
     }
 
+    /// The coefficient, which is its product with 1.
+    pub fn coef(&self) -> u8
+        ensures { result ≡ self.now }
+    {
+        self.low.to_array()[1]
+    }
+
     /// The product of the coefficient and `b`.
     pub fn mul(&self, b: u8) -> u8
         ensures { result ≡ product self.now b }
@@ -110,6 +117,7 @@ mod tests {
     #[test]
     fn products_of_single_bits(rt: HostRuntime) -> Result<(), Fail> {
         let split = Split::of(0x8E);
+        assert_eq!(rt; split.coef(), 0x8E);
         assert_eq!(rt; split.mul(0x02), 0x01);
         assert_eq!(rt; split.mul(0x10), 0x08);
         assert_eq!(rt; Split::of(0xF4).mul(0x03), 0x01);

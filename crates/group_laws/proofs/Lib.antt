@@ -1,4 +1,3 @@
 pub mod Lanes
 pub mod Receives
 pub mod Placing
-pub mod Issuing

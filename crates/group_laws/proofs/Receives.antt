@@ -1,14 +1,14 @@
-use Rattle.std.proofs.Common.{ℕ, ◌≡◌, ◌+◌, ◌-◌, ◌≤◌, nat_lt, max, Bool, true, false, List, [], ◌∷◌, ◌++◌, length, take, drop, if◌then◌else◌, refl, sym, ap, ◌∙◌, append_assoc, arith}
+use Rattle.std.proofs.Common.{ℕ, ◌≡◌, ◌+◌, ◌-◌, ◌≤◌, nat_le, max, Bool, true, false, List, [], ◌∷◌, ◌++◌, length, take, drop, if◌then◌else◌, refl, sym, ap, ◌∙◌, append_assoc, arith}
 use Rattle.std.proofs.lemmas.List.{length-take-le, take-append-drop, take-take}
 use Rattle.std.proofs.Math.Seq.{take-append-add}
 use Rattle.group_types.specs.Dimensions.{Dimensions}
+use Rattle.group_types.specs.Lists.{at}
 use Rattle.group_message.specs.declared.update.Update.{Update}
-use Rattle.group_run.specs.Applying.{quiet, apply_to, bytes_after, replica_of, with_replica}
-use Rattle.group_run.specs.Lists.{at}
+use Rattle.group_run.specs.Applying.{quiet, when, apply_to, replica_of, with_replica}
 use Rattle.group_run.specs.Process.{Process}
-use Rattle.group_run.specs.Receiving.{ack_to}
-use Rattle.group_run.specs.Replica.{Replica, empty_replica, applied_to, up_to, last_of, with_update}
-use Rattle.group_run.proofs.Locality.{at-put}
+use Rattle.group_run.specs.Receiving.{ack_to, update_taken}
+use Rattle.group_run.specs.Replica.{Replica, empty_replica, applied_to, last_of, with_update}
+use Rattle.group_types.proofs.Lists.{at-put}
 use Rattle.group_laws.specs.Seen.{Seen, seen, seen_at, Fits, Issued, Settled, ReceivingIsNext}
 
 -- applying moves updates from the log to what is settled, and the history stays
@@ -37,17 +37,12 @@ seen-applied settled rank n r applied reached told history =
     let most : r.applied + length (take (n - r.applied) r.log) ≡ max r.applied n = ap (λ (k : ℕ). r.applied + k) long ∙ (omega arith) in
     λ i. record { rank = rank; applied = most i; history = history-applied settled r.log r.applied n applied reached told history i }
 
--- adding differences to the bytes of a process changes no rank
-ranks-bytes_after : (s : Dimensions) (d : ℕ) (us : List Update) (p : Process) → (bytes_after s d us p).ranks ≡ p.ranks
-ranks-bytes_after s d [] p = refl
-ranks-bytes_after s d (u ∷ us) p = ranks-bytes_after s d us _
-
 -- what a process has of a partition once it applied more
 pub replica_of-apply_to : (s : Dimensions) (d n : ℕ) (p : Process) → replica_of (apply_to s d n p) d ≡ applied_to n (replica_of p d)
 replica_of-apply_to s d n p = at-put empty_replica empty_replica _ d (applied_to n (replica_of p d))
 
 rank-apply_to : (s : Dimensions) (d n : ℕ) (p : Process) → at 0 (apply_to s d n p).ranks d ≡ at 0 p.ranks d
-rank-apply_to s d n p = ap (λ (ranks : List ℕ). at 0 ranks d) (ranks-bytes_after s d (up_to n (replica_of p d)) p)
+rank-apply_to s d n p = refl
 
 -- the settled number, received
 settled-next : (s : Dimensions) (p : Process) (d n : ℕ) (settled : List Update) → Fits settled (replica_of p d) (Settled 0 n)
@@ -75,13 +70,13 @@ issued-next s p d n u settled fits =
 
 -- stale or not, both sides test the same
 pub receiving_is_next : ReceivingIsNext
-receiving_is_next s from p d settled (Settled r n) fits = stable_case (nat_lt r (at 0 p.ranks d)) where
-  stable_case : (stale : Bool) → seen_at settled d (if stale then quiet p else quiet (apply_to s d n p)).process
-      ≡ (if stale then seen_at settled d p else record { rank = at 0 p.ranks d; applied = max (replica_of p d).applied n; history = (seen_at settled d p).history })
-  stable_case true = refl
-  stable_case false = settled-next s p d n settled (record { applied = fits.applied; reached = fits.reached; history = fits.history; within = fits.within })
-receiving_is_next s from p d settled (Issued r u n) fits = update_case (nat_lt r (at 0 p.ranks d)) where
-  update_case : (stale : Bool) → seen_at settled d (if stale then quiet p else ack_to from r d u.number (with_replica d (with_update u (replica_of (apply_to s d n p) d)) (apply_to s d n p))).process
-      ≡ (if stale then seen_at settled d p else record { rank = at 0 p.ranks d; applied = max (replica_of p d).applied n; history = (seen_at settled d p).history ++ u ∷ [] })
-  update_case true = refl
-  update_case false = issued-next s p d n u settled (record { applied = fits.applied; reached = fits.reached; history = fits.history; within = fits.within })
+receiving_is_next s from p d settled (Settled r n) fits = stable_case (nat_le (at 0 p.ranks d) r) where
+  stable_case : (current : Bool) → seen_at settled d (when current p (quiet (apply_to s d n p))).process
+      ≡ (if current then record { rank = at 0 p.ranks d; applied = max (replica_of p d).applied n; history = (seen_at settled d p).history } else seen_at settled d p)
+  stable_case false = refl
+  stable_case true = settled-next s p d n settled (record { applied = fits.applied; reached = fits.reached; history = fits.history; within = fits.within })
+receiving_is_next s from p d settled (Issued r u n) fits = update_case (nat_le (at 0 p.ranks d) r) where
+  update_case : (current : Bool) → seen_at settled d (when current p (ack_to from r d u.number (update_taken s d u n p))).process
+      ≡ (if current then record { rank = at 0 p.ranks d; applied = max (replica_of p d).applied n; history = (seen_at settled d p).history ++ u ∷ [] } else seen_at settled d p)
+  update_case false = refl
+  update_case true = issued-next s p d n u settled (record { applied = fits.applied; reached = fits.reached; history = fits.history; within = fits.within })

@@ -1,4 +1,3 @@
 pub mod Lane
 pub mod Seen
 pub mod Placing
-pub mod Views

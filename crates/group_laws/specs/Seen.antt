@@ -1,14 +1,14 @@
 -- What of a replica the messages of its head speak of: its rank, its applied number, and the history
 -- that it has, which is what is settled as far as it has applied, and then its log.
-use Rattle.std.specs.Prelude.{ℕ, ◌≡◌, ◌≤◌, nat_lt, max, List, [], ◌∷◌, ◌++◌, length, take, if◌then◌else◌}
+use Rattle.std.specs.Prelude.{ℕ, ◌≡◌, ◌≤◌, nat_le, max, List, [], ◌∷◌, ◌++◌, length, take, if◌then◌else◌}
 use Rattle.group_types.specs.Dimensions.{Dimensions}
 use Rattle.group_types.specs.declared.process.ProcessId.{ProcessId}
+use Rattle.group_types.specs.Lists.{at}
 use Rattle.group_message.specs.declared.message.Message.{Message}
 use Rattle.group_message.specs.declared.message.Message.TheVariants as tells
 use Rattle.group_message.specs.declared.update.Update.{Update}
 use Rattle.group_run.specs.Applying.{replica_of}
 use Rattle.group_run.specs.Heading.{rank, partition}
-use Rattle.group_run.specs.Lists.{at}
 use Rattle.group_run.specs.Process.{Process}
 use Rattle.group_run.specs.Receiving.{receive}
 use Rattle.group_run.specs.Replica.{Replica, last_of}
@@ -29,8 +29,8 @@ seen settled r replica = record { rank = r; applied = replica.applied; history =
 
 -- what a message makes of it: a stale one is dropped, and what is settled is applied
 abbrev pub next : Seen → Told → Seen
-next s (Issued r u stable) = if nat_lt r s.rank then s else record { rank = s.rank; applied = max s.applied stable; history = s.history ++ u ∷ [] }
-next s (Settled r n) = if nat_lt r s.rank then s else record { rank = s.rank; applied = max s.applied n; history = s.history }
+next s (Issued r u stable) = if nat_le s.rank r then record { rank = s.rank; applied = max s.applied stable; history = s.history ++ u ∷ [] } else s
+next s (Settled r n) = if nat_le s.rank r then record { rank = s.rank; applied = max s.applied n; history = s.history } else s
 
 -- the settled number that a message tells
 abbrev pub told_number : Told → ℕ

@@ -3,7 +3,7 @@ use Rattle.std.specs.Fmt.{digits}
 use Rattle.hex.specs.Hex.{encode_with}
 use Rattle.field_byte.specs.Field.{product_of_bits, product, inverse_below, inverse}
 use Rattle.field_byte.specs.Vectors.{add_bytes, scale}
-use Rattle.group_rows.specs.Updates.{OldRunNotFree, PendingUpdate, AllParitiesFail, CutBefore, CutBehind}
+use Rattle.group_rows.specs.Updates.{OldRunNotFree, PendingUpdate, AllParitiesFail, CutBefore, CutBehind, FullWindow}
 
 pub old_run_not_free : OldRunNotFree
 unfolding digits encode_with product_of_bits product inverse_below inverse add_bytes scale
@@ -24,3 +24,7 @@ cut_before = refl
 pub cut_behind : CutBehind
 unfolding digits encode_with product_of_bits product inverse_below inverse add_bytes scale
 cut_behind = refl
+
+pub full_window : FullWindow
+unfolding digits encode_with product_of_bits product inverse_below inverse add_bytes scale
+full_window = refl

@@ -1,18 +1,18 @@
 -- A script as steps of the machine, and its transcript.
 use Rattle.std.specs.Prelude.{ℕ, ◌≡◌, List, [], ◌∷◌, ◌++◌, length, take, drop, map, codes, if◌then◌else◌}
 use Rattle.std.specs.Fmt.{decimal}
+use Rattle.std.specs.List.{range_with_len}
 use Rattle.group_types.specs.Dimensions.{Dimensions}
 use Rattle.group_types.specs.declared.process.ProcessId.{ProcessId}
 use Rattle.group_types.specs.declared.process.ProcessId.TheVariants.{DataNode, ParityNode}
 use Rattle.group_run.specs.Applying.{replica_of}
 use Rattle.group_run.specs.Draining.{drain_events}
-use Rattle.group_run.specs.Lists.{range}
 use Rattle.group_run.specs.Process.{Node, Process}
 use Rattle.group_run.specs.World.{World, opening, node_of, step, world_after, turns_from}
-use Rattle.memc_table.specs.Turns.{Turn, log_of}
-use Rattle.memc_table.specs.declared.entry.Entry.{Entry}
-use Rattle.memc_table.specs.declared.event.Event.{Event}
-use Rattle.memc_table.specs.declared.event.Event.TheVariants.{Ask}
+use Rattle.group_calls.specs.Turns.{Turn, log_of}
+use Rattle.group_calls.specs.declared.entry.Entry.{Entry}
+use Rattle.group_calls.specs.declared.event.Event.{Event}
+use Rattle.group_calls.specs.declared.event.Event.TheVariants.{Ask}
 use Rattle.memc_table.specs.declared.act.Act.{Act}
 use Rattle.scenario_text.specs.Texts.{answer_text, entry_text, value_text}
 
@@ -40,7 +40,7 @@ joined (n ∷ m ∷ ns) = decimal n ++ codes "," ++ joined (m ∷ ns)
 -- the stamp of a process: the settled number of a data process, the applied numbers of a parity process
 abbrev pub stamp_of : Dimensions → Process → ProcessId → List ℕ
 stamp_of s p (DataNode d) = (replica_of p d).applied ∷ []
-stamp_of s p (ParityNode _) = map (λ d. (replica_of p d).applied) (range 0 s.k)
+stamp_of s p (ParityNode _) = map (λ d. (replica_of p d).applied) (range_with_len 0 s.k)
 
 -- what a process shows of its space
 abbrev pub shown : Dimensions → Node → ProcessId → ℕ → ℕ → List ℕ

@@ -2,7 +2,7 @@
 use Rattle.std.specs.Prelude.{pos, [], ◌∷◌, codes}
 use Rattle.group_types.specs.declared.process.ProcessId.TheVariants.{DataNode, ParityNode}
 use Rattle.memc_table.specs.declared.act.Act.TheVariants.{Get, Set}
-use Rattle.memc_table.specs.declared.event.Event.TheVariants.{Fail, Flush}
+use Rattle.group_calls.specs.declared.event.Event.TheVariants.{Fail, Flush}
 use Rattle.group_rows.specs.Script.{Do, Drain, Show, ask, shape, writes}
 
 -- two data processes are lost

@@ -1,8 +1,10 @@
 -- Rows of updates that wait for a parity process. Each is a script, by lines, and what it writes.
-use Rattle.std.specs.Prelude.{pos, [], ◌∷◌, codes, replicate}
+use Rattle.std.specs.Prelude.{pos, [], ◌∷◌, codes, replicate, suc, map, ◌++◌}
+use Rattle.std.specs.Fmt.{decimal}
+use Rattle.std.specs.List.{range_with_len}
 use Rattle.group_types.specs.declared.process.ProcessId.TheVariants.{DataNode, ParityNode}
 use Rattle.memc_table.specs.declared.act.Act.TheVariants.{Get, Set}
-use Rattle.memc_table.specs.declared.event.Event.TheVariants.{Collect, Deliver, Fail, Flush}
+use Rattle.group_calls.specs.declared.event.Event.TheVariants.{Collect, Deliver, Fail, Flush}
 use Rattle.group_rows.specs.Script.{Do, Drain, Show, ask, shape, writes}
 
 -- the old run is free only once the update that frees it is settled
@@ -118,3 +120,19 @@ CutBehind = writes (shape 2 1 4 16) (
     codes "drained 3" ∷
     codes "reply value 0 1 41" ∷
     codes "= 1.1 get a value 0 1 41" ∷ [])
+
+-- 256 updates wait, of values of no bytes, and no more can come until the first is settled
+abbrev pub FullWindow : Type 0
+FullWindow = writes (shape 1 1 1 16) (
+    map (λ i. ask 0 (DataNode 0) (Set (codes "k" ++ decimal i) 0 (pos 0) [])) (range_with_len 0 256) ++
+    ask 0 (DataNode 0) (Set (codes "z") 0 (pos 0) []) ∷
+    Do (Deliver (DataNode 0) (ParityNode 0)) ∷
+    Do (Deliver (ParityNode 0) (DataNode 0)) ∷
+    ask 0 (DataNode 0) (Set (codes "z") 0 (pos 0) []) ∷ [])
+    (
+    map (λ i. codes "ticket " ++ decimal (suc i)) (range_with_len 0 256) ++
+    codes "retry pending 0 1" ∷
+    codes "done" ∷
+    codes "done" ∷
+    codes "= 0.0 set k0 0 - stored" ∷
+    codes "ticket 257" ∷ [])

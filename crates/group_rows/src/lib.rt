@@ -3,7 +3,7 @@
 #![tactic(auto)]
 
 ghost use Rattle.group_rows.specs.Tables.{SmallestScript, FullSpace, TableCases, Expiry, Numerals};
-ghost use Rattle.group_rows.specs.Updates.{OldRunNotFree, PendingUpdate, AllParitiesFail, CutBefore, CutBehind};
+ghost use Rattle.group_rows.specs.Updates.{FullWindow, OldRunNotFree, PendingUpdate, AllParitiesFail, CutBefore, CutBehind};
 ghost use Rattle.group_rows.specs.Losses.{CodeByHand, SettledUnsent, MarkedRow};
 ghost use Rattle.group_rows.specs.Takeovers.{PartialAdoption, FateGone, FateCutBefore, FateCutBehind};
 ghost use Rattle.group_rows.specs.TwoLost.{TwoLost, SecondLoss};
@@ -47,6 +47,11 @@ pub fn row_old_run_not_free()
 #[tactic(auto, using(crate::proofs::Updates::pending_update))]
 pub fn row_pending_update()
     ensures { PendingUpdate }
+{}
+
+/// 256 updates wait, and no more.
+pub fn row_full_window()
+    ensures { FullWindow }
 {}
 
 /// All parity processes fail, and then one process more.

@@ -1,7 +1,7 @@
 -- Free addresses of a partition's space at a process, and the run that a new value gets.
 use Rattle.std.specs.Prelude.{ℕ, zero, suc, ◌+◌, ◌-◌, ◌==◌, nat_lt, nat_le, Bool, true, false, not, ◌&&◌, Option, Some, None, if◌then◌else◌}
+use Rattle.std.specs.List.{list_any}
 use Rattle.group_types.specs.declared.run.Run.{Run}
-use Rattle.group_run.specs.Lists.{any}
 use Rattle.group_run.specs.Replica.{Replica, run_in, run_of}
 
 -- the address lies in the run
@@ -17,9 +17,9 @@ in_some_run a (Some run) = in_run a run
 -- in no run that such an update frees
 abbrev pub is_free : ℕ → Replica → ℕ → Bool
 is_free space r a = nat_lt a space
-    && not (any (λ x. in_run a (run_in x.1)) r.items)
-    && not (any (λ u. in_some_run a (run_of u.body)) r.log)
-    && not (any (λ u. in_some_run a u.frees) r.log)
+    && not (list_any (λ x. in_run a (run_in x.1)) r.items)
+    && not (list_any (λ u. in_some_run a (run_of u.body)) r.log)
+    && not (list_any (λ u. in_some_run a u.frees) r.log)
 
 -- the shorter run, the earlier one on a tie
 abbrev pub shorter : Option Run → Run → Option Run

@@ -1,39 +1,38 @@
 -- The sentences of the headline, for a group after a run in which at most m processes were lost. They
 -- are named here and proved above.
-use Rattle.std.specs.Prelude.{ℕ, zero, suc, ◌≡◌, ◌<◌, ◌≤◌, ◌+◌, Bool, true, false, List, [], ◌∷◌, length, take, slice_get, Option, Some, None, Contains}
+use Rattle.std.specs.Prelude.{ℕ, suc, ◌≡◌, ◌≢◌, ◌<◌, ◌≤◌, ◌+◌, true, false, List, [], ◌∷◌, length, take, slice_get, Option, Some, None, Contains, All, AllPairs}
 use Rattle.group_types.specs.Dimensions.{Dimensions, space_of}
 use Rattle.group_types.specs.Hash.{home_of}
+use Rattle.group_types.specs.Lists.{at}
+use Rattle.group_types.specs.Names.{IsProcess}
+use Rattle.group_types.specs.Shape.{IsShape}
 use Rattle.group_types.specs.declared.process.ProcessId.{ProcessId}
 use Rattle.group_types.specs.declared.process.ProcessId.TheVariants.{DataNode, ParityNode}
 use Rattle.group_types.specs.declared.run.Run.{Run}
-use Rattle.group_message.specs.declared.update.Update.{Update}
 use Rattle.item_index.specs.declared.slot.Slot.{Slot}
-use Rattle.memc_table.specs.Act.{key_of}
-use Rattle.memc_table.specs.Contents.{Contents, empty_table}
-use Rattle.memc_table.specs.Log.{IsLegal, table_of}
-use Rattle.memc_table.specs.Within.{AnswersWithin}
-use Rattle.memc_table.specs.declared.entry.Entry.{Entry}
-use Rattle.memc_table.specs.declared.event.Event.{Event}
-use Rattle.memc_table.specs.declared.event.Event.TheVariants.{Ask, Collect, Deliver, Fail, Flush, Trace}
+use Rattle.memc_table.specs.Act.{key_of, value_of}
 use Rattle.memc_table.specs.declared.holding.Holding.{Holding}
+use Rattle.group_message.specs.declared.update.Update.{Update}
+use Rattle.group_calls.specs.Log.{IsLegal}
+use Rattle.group_calls.specs.Turns.{log_of}
+use Rattle.group_calls.specs.Within.{AnswersWithin}
+use Rattle.group_calls.specs.declared.event.Event.{Event}
+use Rattle.group_calls.specs.declared.event.Event.TheVariants.{Ask, Collect, Deliver, Fail, Flush, Trace}
 use Rattle.group_run.specs.Applying.{replica_of}
+use Rattle.erasure_code.specs.Code.{coded}
+use Rattle.erasure_code.specs.Spaces.{bytes_at}
+use Rattle.group_run.specs.Deciding.{window}
 use Rattle.group_run.specs.Free.{in_run}
-use Rattle.group_run.specs.Lists.{at, same_key}
-use Rattle.group_run.specs.Meaning.{Logged, is_update_of, updates_of, count_logged, space_after, spaces_at, coded, Lives, IsDown, AgreesOn, AgreeingSurvivors}
+use Rattle.group_run.specs.Meaning.{Logged, updates_of, count_logged, table_at, run_on, values_after, spaces_at, process_of, Lives, IsDown, AgreesOn, AgreeingSurvivors}
 use Rattle.group_run.specs.Replica.{Replica, callers, slot_in, run_in, last_of, run_of}
-use Rattle.group_run.specs.World.{World, node_of, after, turns_of, step, opening}
+use Rattle.group_run.specs.World.{World, after, turns_of, step, opening}
 
--- the process is one of the group
-abbrev pub IsProcess : Dimensions → ProcessId → Type 0
-IsProcess s (DataNode d) = d < s.k
-IsProcess s (ParityNode i) = i < s.m
-
--- an event that may come: its callers and processes are in range, a link is between two, and the call
--- that is traced was asked
+-- an event that may come: its callers and processes are in range, a value consists of bytes, a link is
+-- between two, and the call that is traced was asked
 abbrev pub MayCome : World → Event → Type 0
-MayCome w (Ask caller op p) = (caller < callers) × IsProcess w.shape p
+MayCome w (Ask caller op p) = (caller < callers) × IsProcess w.shape p × All (λ b. b < 256) (value_of op.act)
 MayCome w (Collect caller call p) = (caller < callers) × IsProcess w.shape p
-MayCome w (Deliver from to) = IsProcess w.shape from × IsProcess w.shape to × (¬ (from ≡ to))
+MayCome w (Deliver from to) = IsProcess w.shape from × IsProcess w.shape to × (from ≢ to)
 MayCome w (Fail p keep) = IsProcess w.shape p
 MayCome w (Flush p) = IsProcess w.shape p
 MayCome w (Trace caller call d p) = (caller < callers) × (call < at 0 w.asked caller) × (d.0 < w.shape.k) × IsProcess w.shape p
@@ -43,43 +42,16 @@ abbrev pub IsRunFrom : World → List Event → Type 0
 IsRunFrom w [] = Unit {0}
 IsRunFrom w (e ∷ es) = MayCome w e × IsRunFrom (step w e).world es
 
--- a list of events that may come from the start on
+-- a list of events that may come from the start of a group on
 abbrev pub IsRun : Dimensions → List Event → Type 0
-IsRun s es = IsRunFrom (opening s) es
+IsRun s es = IsShape s × IsRunFrom (opening s) es
 
--- one log: the answers are those of one table, each answered call once, within its time
+-- one log: the log that the group keeps is that of the turns, its answers are those of one table, and
+-- each answered call stands in it once, within its time
 pub record OneLog (s : Dimensions) (es : List Event) : Type 0 where
+  pub kept : (after s es).log ≡ log_of (turns_of s es)
   pub legal : IsLegal s.k (after s es).log
   pub within : AnswersWithin s.k (turns_of s es)
-
--- how many updates are still to come behind an entry that is one, or isn't
-abbrev pub left_after : Bool → ℕ → ℕ
-left_after true n = n
-left_after false n = suc n
-
--- the first entries of a log, up to the n-th update of partition d
-abbrev pub cut_after : ℕ → ℕ → ℕ → List Entry → List Entry
-cut_after k d n [] = []
-cut_after k d zero (e ∷ es) = []
-cut_after k d (suc n) (e ∷ es) = e ∷ cut_after k d (left_after (is_update_of k d e) n) es
-
--- the table after the first n updates of partition d
-abbrev pub table_at : World → ℕ → ℕ → Contents
-table_at w d n = table_of (empty_table w.shape.k) (cut_after w.shape.k d n w.log)
-
--- the run of a key's item after updates: that of the last update on the key that has one
-abbrev pub run_after : Logged → Option Run → Option Run
-run_after u old = elim u.item [ None ↦ None | Some _ ↦ elim u.run [ None ↦ old | Some run ↦ Some run ] ]
-
--- the run of a key after an update, which changes it only where it is on that key
-abbrev pub run_unless : Bool → Logged → Option Run → Option Run
-run_unless true u old = run_after u old
-run_unless false u old = old
-
--- the run of a key after updates, in order
-abbrev pub run_on : List ℕ → Option Run → List Logged → Option Run
-run_on key old [] = old
-run_on key old (u ∷ us) = run_on key (run_unless (same_key (key_of u.entry.op.act) key) u old) us
 
 -- a settled item is the one that the table has, in the run of its last update that has one
 abbrev pub IsItem : Option Slot → Option Holding → Option Run → Type 0
@@ -88,10 +60,12 @@ IsItem (Some slot) (Some h) run = (run ≡ Some (run_in slot)) × (slot.flags �
 IsItem None (Some h) run = ⊥
 IsItem (Some slot) None run = ⊥
 
--- the settled items of a replica are those of the table after as many updates as it has applied
-abbrev pub IsSettled : World → ℕ → Replica → Type 0
-IsSettled w d r = (key : List ℕ) → home_of key w.shape.k ≡ d
-    → IsItem (slot_in r.items key) ((table_at w d r.applied).items key) (run_on key None (take r.applied (updates_of w d)))
+-- the settled items of a replica are those of the table after as many updates as it has applied, each key
+-- once, and no other partition's
+pub record IsSettled (w : World) (d : ℕ) (r : Replica) : Type 0 where
+  pub items : (key : List ℕ) → home_of key w.shape.k ≡ d → IsItem (slot_in r.items key) ((table_at w d r.applied).items key) (run_on key None (take r.applied (updates_of w d)))
+  pub homes : All (λ x. home_of x.0 w.shape.k ≡ d) r.items
+  pub once : AllPairs (λ x y. x.0 ≢ y.0) r.items
 
 -- an update of a log is the one of partition d that has its number
 pub record IsLogged (u : Logged) (v : Update) : Type 0 where
@@ -100,35 +74,43 @@ pub record IsLogged (u : Logged) (v : Update) : Type 0 where
   pub key : v.key ≡ key_of u.entry.op.act
   pub run : run_of v.body ≡ u.run
 
--- no logged update is undone: a replica has applied or keeps in its log every update of the partition
+-- no logged update is undone: a replica has applied or keeps in its log, by consecutive numbers, every
+-- update of the partition
 pub record KeepsAll (w : World) (d : ℕ) (r : Replica) : Type 0 where
   pub applied : r.applied ≤ count_logged w d
   pub reached : count_logged w d ≤ last_of r
-  pub items : IsSettled w d r
+  pub settled : IsSettled w d r
+  pub numbers : (j : ℕ) (v : Update) → slice_get r.log j ≡ Some v → v.number ≡ suc (r.applied + j)
   pub log : (j : ℕ) (u : Logged) (v : Update) → slice_get r.log j ≡ Some v → slice_get (updates_of w d) (r.applied + j) ≡ Some u → IsLogged u v
 
 -- no logged update is undone, at any living process
 pub record NotUndone (w : World) : Type 0 where
-  pub at_data : (d : ℕ) → d < w.shape.k → Lives w (DataNode d) → KeepsAll w d (replica_of (node_of w (DataNode d)).process d)
-  pub all_applied : (d : ℕ) → d < w.shape.k → Lives w (DataNode d) → (replica_of (node_of w (DataNode d)).process d).applied ≡ count_logged w d
-  pub at_parity : (i d : ℕ) → i < w.shape.m → d < w.shape.k → Lives w (ParityNode i) → KeepsAll w d (replica_of (node_of w (ParityNode i)).process d)
+  pub at_data : (d : ℕ) → Lives w (DataNode d) → KeepsAll w d (replica_of (process_of w (DataNode d)) d)
+  pub all_applied : (d : ℕ) → Lives w (DataNode d) → (replica_of (process_of w (DataNode d)) d).applied ≡ count_logged w d
+  pub at_parity : (i d : ℕ) → d < w.shape.k → Lives w (ParityNode i) → KeepsAll w d (replica_of (process_of w (ParityNode i)) d)
+
+-- no log has more than 256 updates
+pub record LogsAreShort (w : World) : Type 0 where
+  pub at_data : (d : ℕ) → Lives w (DataNode d) → length (replica_of (process_of w (DataNode d)) d).log ≤ window
+  pub at_parity : (i d : ℕ) → d < w.shape.k → Lives w (ParityNode i) → length (replica_of (process_of w (ParityNode i)) d).log ≤ window
 
 -- agree on a stamp: each living data process holds the values up to its settled number, and each living
 -- parity process the code of the values up to its stamp
 pub record AgreeOnStamp (w : World) : Type 0 where
-  pub data_holds : (d : ℕ) → d < w.shape.k → Lives w (DataNode d) → (node_of w (DataNode d)).process.space ≡ space_after w d (replica_of (node_of w (DataNode d)).process d).applied
-  pub parity_holds : (i : ℕ) (v : List ℕ) → i < w.shape.m → Lives w (ParityNode i) → length v ≡ w.shape.k → AgreesOn w v (ParityNode i) → (node_of w (ParityNode i)).process.space ≡ coded w.shape.m i (space_of w.shape) (spaces_at w 0 v)
+  pub data_holds : (d : ℕ) → Lives w (DataNode d) → (process_of w (DataNode d)).space ≡ values_after w d (replica_of (process_of w (DataNode d)) d).applied
+  pub parity_holds : (i : ℕ) (v : List ℕ) → Lives w (ParityNode i) → length v ≡ w.shape.k → AgreesOn w v (ParityNode i)
+      → (process_of w (ParityNode i)).space ≡ coded w.shape.m i (space_of w.shape) (spaces_at w 0 v)
 
 -- columns agree with what a process holds
 abbrev pub FitsHeld : World → List (List ℕ) → ProcessId → Type 0
-FitsHeld w columns (DataNode d) = slice_get columns d ≡ Some (node_of w (DataNode d)).process.space
-FitsHeld w columns (ParityNode i) = (node_of w (ParityNode i)).process.space ≡ coded w.shape.m i (space_of w.shape) columns
+FitsHeld w columns (DataNode d) = slice_get columns d ≡ Some (process_of w (DataNode d)).space
+FitsHeld w columns (ParityNode i) = (process_of w (ParityNode i)).space ≡ coded w.shape.m i (space_of w.shape) columns
 
 -- columns of bytes, one for each partition, as long as a space
 pub record AreColumns (w : World) (columns : List (List ℕ)) : Type 0 where
   pub many : length columns ≡ w.shape.k
-  pub long : (d : ℕ) (column : List ℕ) → slice_get columns d ≡ Some column → length column ≡ space_of w.shape
-  pub bytes : (d a : ℕ) (column : List ℕ) (byte : ℕ) → slice_get columns d ≡ Some column → slice_get column a ≡ Some byte → byte < 256
+  pub long : All (λ column. length column ≡ space_of w.shape) columns
+  pub bytes : All (All (λ byte. byte < 256)) columns
 
 -- decode exactly: the values up to the stamp are the only columns that agree with the bytes of k survivors
 -- that agree on it
@@ -147,11 +129,19 @@ pub record IsWritten (w : World) (d n : ℕ) (run : Run) (h : Holding) : Type 0 
   pub long : run.len ≡ length h.item.value
   pub apart : (key : List ℕ) (other : Run) → run_on key None (take n (updates_of w d)) ≡ Some other → AreApart run other
 
--- every update that has a run is written at it
-abbrev pub ValuesWritten : World → Type 0
-ValuesWritten w = (d n : ℕ) (u : Logged) (run : Run) → d < w.shape.k → slice_get (updates_of w d) n ≡ Some u → u.run ≡ Some run → (h : Holding) × (u.item ≡ Some h) × IsWritten w d n run h
+-- an item that the table has after n updates of partition d has its value in the space after these, at the
+-- run of its last update that has one
+pub record HasItsValue (w : World) (d n : ℕ) (key : List ℕ) (h : Holding) : Type 0 where
+  pub run : Run
+  pub at_run : run_on key None (take n (updates_of w d)) ≡ Some run
+  pub value : bytes_at run.at run.len (values_after w d n) ≡ h.item.value
 
--- the headline
+-- every update that has a run is written at it, and so every item has its value
+pub record ValuesWritten (w : World) : Type 0 where
+  pub runs : (d n : ℕ) (u : Logged) (run : Run) → d < w.shape.k → slice_get (updates_of w d) n ≡ Some u → u.run ≡ Some run → (h : Holding) × (u.item ≡ Some h) × IsWritten w d n run h
+  pub items : (d n : ℕ) (key : List ℕ) (h : Holding) → d < w.shape.k → n ≤ count_logged w d → home_of key w.shape.k ≡ d → (table_at w d n).items key ≡ Some h → HasItsValue w d n key h
+
+-- the headline, of a group that isn't down but for its log and its values, which stay what they are
 pub record Headline (s : Dimensions) (es : List Event) : Type 0 where
   pub one_log : OneLog s es
   pub not_undone : ¬ (IsDown (after s es)) → NotUndone (after s es)

@@ -1,13 +1,11 @@
-pub mod Lists
-pub mod Names
 pub mod Replica
 pub mod Free
-pub mod Code
 pub mod Process
 pub mod Applying
 pub mod Deciding
 pub mod Heading
-pub mod Sessions
+pub mod Rows
+pub mod Leaders
 pub mod Asking
 pub mod Receiving
 pub mod World
@@ -15,3 +13,9 @@ pub mod Draining
 pub mod Meaning
 pub mod Headline
 pub mod Locality
+pub mod History
+pub mod Fitting
+pub mod Recovery
+pub mod Progress
+pub mod Causes
+pub mod Keeping

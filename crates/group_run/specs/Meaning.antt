@@ -1,36 +1,25 @@
 -- What a run means, told apart from how it goes: by the log alone, and by what each process holds.
-use Rattle.std.specs.Prelude.{ℕ, ◌≡◌, ◌≢◌, ◌<◌, ◌≤◌, ◌+◌, ◌==◌, Bool, true, false, List, [], ◌∷◌, ◌++◌, length, take, drop, replicate, slice_get, Option, Some, None, Contains, if◌then◌else◌}
-use Rattle.field_byte.specs.Vectors.{add_bytes, scale}
+use Rattle.std.specs.Prelude.{ℕ, zero, suc, ◌≡◌, ◌≢◌, ◌<◌, ◌≤◌, ◌+◌, ◌==◌, Bool, true, false, List, [], ◌∷◌, ◌++◌, length, take, drop, replicate, slice_get, Option, Some, None, Contains, if◌then◌else◌}
 use Rattle.group_types.specs.Dimensions.{space_of}
 use Rattle.group_types.specs.Hash.{home_of}
+use Rattle.group_types.specs.Lists.{at, same_key}
+use Rattle.group_types.specs.Names.{IsProcess, IsHead, of_rank, index_of}
 use Rattle.group_types.specs.declared.process.ProcessId.{ProcessId}
 use Rattle.group_types.specs.declared.process.ProcessId.TheVariants.{DataNode, ParityNode}
 use Rattle.group_types.specs.declared.run.Run.{Run}
-use Rattle.group_message.specs.declared.message.Message.{Message}
-use Rattle.group_message.specs.declared.message.Message.TheVariants as tells
+use Rattle.membership.specs.Members.{knows_dead}
 use Rattle.memc_table.specs.Act.{key_of}
 use Rattle.memc_table.specs.Contents.{Contents, empty_table, table_after}
-use Rattle.memc_table.specs.declared.entry.Entry.{Entry}
 use Rattle.memc_table.specs.declared.holding.Holding.{Holding}
-use Rattle.memc_table.specs.declared.reply.Reply.{Reply}
-use Rattle.memc_table.specs.declared.reply.Reply.TheVariants.{Stored, Deleted, Touched, Number}
+use Rattle.group_message.specs.declared.message.Message.{Message}
+use Rattle.group_message.specs.declared.message.Message.TheVariants as tells
+use Rattle.group_calls.specs.Log.{table_of}
+use Rattle.group_calls.specs.Turns.{accepts}
+use Rattle.group_calls.specs.declared.entry.Entry.{Entry}
 use Rattle.group_run.specs.Applying.{replica_of, head_at}
-use Rattle.group_run.specs.Code.{coefficient}
-use Rattle.group_run.specs.Heading.{knows_dead}
-use Rattle.group_run.specs.Lists.{at, front_if}
-use Rattle.group_run.specs.Names.{of_rank, place_of}
-use Rattle.group_run.specs.Process.{Head, Gathering}
+use Rattle.group_run.specs.Process.{Head, Process}
 use Rattle.group_run.specs.Replica.{last_of}
-use Rattle.group_run.specs.Sessions.{rebuilt_block}
-use Rattle.group_run.specs.World.{World, node_of, count_dead}
-
--- a reply of the table that accepts an update
-abbrev pub accepts : Reply → Bool
-accepts Stored = true
-accepts Deleted = true
-accepts Touched = true
-accepts (Number _) = true
-accepts _ = false
+use Rattle.group_run.specs.World.{World, node_of, dead_nodes, front_if}
 
 -- an update of a partition, as the log tells it: its entry, its run, and the value that its key has in
 -- the table after it, if the key has an item then
@@ -44,9 +33,9 @@ abbrev pub is_update_of : ℕ → ℕ → Entry → Bool
 is_update_of k d entry = if accepts entry.reply then home_of (key_of entry.op.act) k == d else false
 
 -- the run of the next update, if it has one
-abbrev pub run_at : List (Option Run) → Option Run
-run_at [] = None
-run_at (run ∷ _) = run
+abbrev pub next_run : List (Option Run) → Option Run
+next_run [] = None
+next_run (run ∷ _) = run
 
 -- the runs that are left behind an entry
 abbrev pub runs_left : Bool → List (Option Run) → List (Option Run)
@@ -58,7 +47,7 @@ abbrev pub updates_from : ℕ → ℕ → Contents → List (Option Run) → Lis
 updates_from k d t runs [] = []
 updates_from k d t runs (e ∷ es) =
     let u : Contents = table_after t e.op in
-    front_if (is_update_of k d e) (record { entry = e; run = run_at runs; item = u.items (key_of e.op.act) }) (updates_from k d u (runs_left (is_update_of k d e) runs) es)
+    front_if (is_update_of k d e) (record { entry = e; run = next_run runs; item = u.items (key_of e.op.act) }) (updates_from k d u (runs_left (is_update_of k d e) runs) es)
 
 -- the updates of a partition: the n-th has the number n
 abbrev pub updates_of : World → ℕ → List Logged
@@ -67,6 +56,38 @@ updates_of w d = updates_from w.shape.k d (empty_table w.shape.k) (at [] w.place
 -- how many updates of a partition the log has
 abbrev pub count_logged : World → ℕ → ℕ
 count_logged w d = length (updates_of w d)
+
+-- how many updates are still to come behind an entry that is one, or isn't
+abbrev pub left_after : Bool → ℕ → ℕ
+left_after true n = n
+left_after false n = suc n
+
+-- the first entries of a log, up to the n-th update of partition d
+abbrev pub cut_after : ℕ → ℕ → ℕ → List Entry → List Entry
+cut_after k d n [] = []
+cut_after k d zero (e ∷ es) = []
+cut_after k d (suc n) (e ∷ es) = e ∷ cut_after k d (left_after (is_update_of k d e) n) es
+
+-- the table after the first n updates of partition d
+abbrev pub table_at : World → ℕ → ℕ → Contents
+table_at w d n = table_of (empty_table w.shape.k) (cut_after w.shape.k d n w.log)
+
+-- the run of a key's item after an update on the key: its own, the old one where it has none, and none
+-- where it leaves no item
+abbrev pub run_after : Option Holding → Option Run → Option Run → Option Run
+run_after None run old = None
+run_after (Some _) None old = old
+run_after (Some _) (Some run) old = Some run
+
+-- the run of a key after an update, which changes it only where it is on that key
+abbrev pub run_unless : Bool → Logged → Option Run → Option Run
+run_unless true u old = run_after u.item u.run old
+run_unless false u old = old
+
+-- the run of a key after updates, in order: that of the last update on it that has one
+abbrev pub run_on : List ℕ → Option Run → List Logged → Option Run
+run_on key old [] = old
+run_on key old (u ∷ us) = run_on key (run_unless (same_key (key_of u.entry.op.act) key) u old) us
 
 -- a space with a value written at a run
 abbrev pub written : Option Run → Option Holding → List ℕ → List ℕ
@@ -80,43 +101,41 @@ space_from space [] = space
 space_from space (u ∷ us) = space_from (written u.run u.item space) us
 
 -- the space of partition d after its first n updates
-abbrev pub space_after : World → ℕ → ℕ → List ℕ
-space_after w d n = space_from (replicate (space_of w.shape) 0) (take n (updates_of w d))
+abbrev pub values_after : World → ℕ → ℕ → List ℕ
+values_after w d n = space_from (replicate (space_of w.shape) 0) (take n (updates_of w d))
 
--- the code of parity process i over spaces, of the partitions from d on
-abbrev pub coded_from : ℕ → ℕ → ℕ → List ℕ → List (List ℕ) → List ℕ
-coded_from m i d sum [] = sum
-coded_from m i d sum (space ∷ spaces) = coded_from m i (d + 1) (add_bytes sum (scale (coefficient m i d) space)) spaces
-
--- coded bytes: at each address the field sum, over the partitions, of coefficient times byte
-abbrev pub coded : ℕ → ℕ → ℕ → List (List ℕ) → List ℕ
-coded m i size spaces = coded_from m i 0 (replicate size 0) spaces
-
--- the spaces of all partitions, each after as many updates as a stamp says
+-- the spaces of all partitions from d on, each after as many updates as a stamp says
 abbrev pub spaces_at : World → ℕ → List ℕ → List (List ℕ)
 spaces_at w d [] = []
-spaces_at w d (n ∷ ns) = space_after w d n ∷ spaces_at w (d + 1) ns
+spaces_at w d (n ∷ ns) = values_after w d n ∷ spaces_at w (suc d) ns
 
--- the process lives
+-- the process of a node
+abbrev pub process_of : World → ProcessId → Process
+process_of w p = (node_of w p).process
+
+-- whether a process is dead
+abbrev pub is_dead : World → ProcessId → Bool
+is_dead w p = (node_of w p).dead
+
+-- the process is one of the group, and lives
 abbrev pub Lives : World → ProcessId → Type 0
-Lives w p = (node_of w p).dead ≡ false
+Lives w p = IsProcess w.shape p × (is_dead w p ≡ false)
 
 -- the group is down exactly where more than m processes are dead
 abbrev pub IsDown : World → Type 0
-IsDown w = w.shape.m < count_dead w.nodes
+IsDown w = w.shape.m < dead_nodes w.nodes
 
 -- the link from one process to another
 abbrev pub link : World → ProcessId → ProcessId → List Message
-link w from to = at [] (node_of w from).links (place_of w.shape to)
+link w from to = at [] (node_of w from).links (index_of w.shape to)
 
--- the process of this rank heads the partition: it lives, and those of lower rank are dead
-pub record IsHead (w : World) (d r : ℕ) : Type 0 where
-  pub lives : Lives w (of_rank d r)
-  pub lowest : (q : ℕ) → q < r → (node_of w (of_rank d q)).dead ≡ true
+-- the process of rank r heads partition d: it lives, and those of lower rank are dead
+abbrev pub Heads : World → ℕ → ℕ → Type 0
+Heads w d r = IsHead w.shape.m (is_dead w) d r
 
 -- it has taken over: no notice of a process of lower rank is on its way to it
 abbrev pub HasTakenOver : World → ℕ → ℕ → Type 0
-HasTakenOver w d r = (q : ℕ) (from : ProcessId) → q < r → ¬ (Contains (link w from (of_rank d r)) (tells.Notice (of_rank d q)))
+HasTakenOver w d r = (q : ℕ) (from : ProcessId) → q < r → IsProcess w.shape from → from ≢ of_rank d r → ¬ (Contains (link w from (of_rank d r)) (tells.Notice (of_rank d q)))
 
 -- a parity process has acknowledged number n, or a later one, to a head
 abbrev pub HasAcked : Head → ℕ → ℕ → Type 0
@@ -125,39 +144,30 @@ HasAcked h i n = (a : ℕ) × (at None h.acks i ≡ Some a) × (n ≤ a)
 -- update n is unfinished at a head: it is above the settled number, and some other parity process that
 -- isn't known to be dead hasn't acknowledged it
 pub record IsUnfinished (w : World) (p : ProcessId) (d n : ℕ) (h : Head) : Type 0 where
-  pub heads : head_at (node_of w p).process d ≡ Some h
-  pub above : (replica_of (node_of w p).process d).applied < n
-  pub within : n ≤ last_of (replica_of (node_of w p).process d)
-  pub waits : (i : ℕ) × (i < w.shape.m) × (ParityNode i ≢ p) × (knows_dead (node_of w p).process (ParityNode i) ≡ false) × (¬ (HasAcked h i n))
+  pub heads : head_at (process_of w p) d ≡ Some h
+  pub above : (replica_of (process_of w p) d).applied < n
+  pub within : n ≤ last_of (replica_of (process_of w p) d)
+  pub waits : (i : ℕ) × (i < w.shape.m) × (ParityNode i ≢ p) × (knows_dead (process_of w p).known (ParityNode i) ≡ false) × (¬ (HasAcked h i n))
 
 -- update n stood in the log when the head took over
 abbrev pub IsInherited : Head → ℕ → Type 0
 IsInherited h n = n ≤ h.inherited
 
--- a block is awaited at a leader: it isn't rebuilt for some lost partition, and just one session is open for it
-pub record IsAwaited (w : World) (p : ProcessId) (block : ℕ) : Type 0 where
-  pub d : ℕ
-  pub lost : knows_dead (node_of w p).process (DataNode d) ≡ true
-  pub missing : rebuilt_block (node_of w p).process d block ≡ None
-  pub session : Gathering
-  pub opened : Contains (node_of w p).process.sessions session
-  pub alone : (g : Gathering) → Contains (node_of w p).process.sessions g → g.block ≡ block → g ≡ session
-
 -- drained: every link into a living process is empty
 abbrev pub IsDrained : World → Type 0
-IsDrained w = (from to : ProcessId) → Lives w to → link w from to ≡ []
+IsDrained w = (from to : ProcessId) → IsProcess w.shape from → Lives w to → from ≢ to → link w from to ≡ []
 
 -- the stamp of a parity process, and the settled number of a data process, at a list of numbers
 abbrev pub AgreesOn : World → List ℕ → ProcessId → Type 0
-AgreesOn w v (DataNode d) = slice_get v d ≡ Some (replica_of (node_of w (DataNode d)).process d).applied
-AgreesOn w v (ParityNode i) = (d : ℕ) → d < w.shape.k → slice_get v d ≡ Some (replica_of (node_of w (ParityNode i)).process d).applied
+AgreesOn w v (DataNode d) = slice_get v d ≡ Some (replica_of (process_of w (DataNode d)) d).applied
+AgreesOn w v (ParityNode i) = (d : ℕ) → d < w.shape.k → slice_get v d ≡ Some (replica_of (process_of w (ParityNode i)) d).applied
 
 -- no process stands twice in a list
 abbrev pub AreDistinct : List ProcessId → Type 0
 AreDistinct [] = Unit {0}
 AreDistinct (p ∷ ps) = (¬ (Contains ps p)) × AreDistinct ps
 
--- k living processes that agree on a stamp
+-- k living processes of the group that agree on a stamp
 pub record AgreeingSurvivors (w : World) (ps : List ProcessId) (v : List ℕ) : Type 0 where
   pub many : length ps ≡ w.shape.k
   pub stamp : length v ≡ w.shape.k

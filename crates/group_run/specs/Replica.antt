@@ -4,13 +4,13 @@ use Rattle.std.specs.Prelude.{ℕ, ◌+◌, ◌-◌, List, [], ◌∷◌, ◌++�
 use Rattle.std.specs.Cmp.Lexicographic.{slice_cmp}
 use Rattle.std.specs.FinMap.Entries as entries
 use Rattle.std.specs.Ordering.{nat_cmp}
+use Rattle.group_types.specs.Lists.{put, same_key}
 use Rattle.group_types.specs.declared.run.Run.{Run}
 use Rattle.group_message.specs.declared.kept.Kept.{Kept}
 use Rattle.group_message.specs.declared.update.Body.{Body}
 use Rattle.group_message.specs.declared.update.Body.TheVariants.{Put, Remove, Touch}
 use Rattle.group_message.specs.declared.update.Update.{Update}
 use Rattle.item_index.specs.declared.slot.Slot.{Slot}
-use Rattle.group_run.specs.Lists.{put, same_key}
 
 -- the settled items, each key with its slot, in the order of the keys
 abbrev pub Items : Type 0
@@ -53,6 +53,12 @@ abbrev pub run_of : Body → Option Run
 run_of (Put _ _ run _) = Some run
 run_of Remove = None
 run_of (Touch _) = None
+
+-- the run that an update gives back: that of the item which it replaces or removes, and none of a touch
+abbrev pub freed_by : Body → Option Slot → Option Run
+freed_by (Touch _) slot = None
+freed_by _ None = None
+freed_by _ (Some slot) = Some (run_in slot)
 
 -- the item that an update leaves, from the one that its key had
 abbrev pub slot_after : ℕ → Body → Option Slot → Option Slot

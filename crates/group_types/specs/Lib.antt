@@ -3,3 +3,5 @@ pub mod Shape
 pub mod Key
 pub mod Hash
 pub mod Pieces
+pub mod Lists
+pub mod Names

@@ -1,11 +1,13 @@
 -- What a loop over bytes or vectors has written.
-use Rattle.std.proofs.Common.{◌≡◌, ◌≢◌, ℕ, ◌+◌, ◌-◌, ◌<◌, ◌≤◌, List, length, get_or, set, bit_xor, inl, inr, sym, ap, ◌∙◌, refl, arith, get_or-set_other, get_or-set_same, length-set}
+use Rattle.std.proofs.Common.{◌≡◌, ◌≢◌, ℕ, ◌+◌, ◌-◌, ◌<◌, ◌≤◌, List, ◌++◌, length, take, drop, get_or, set, bit_xor, inl, inr, sym, ap, ap₂, ◌∙◌, refl, arith, get_or-set_other, get_or-set_same, length-set}
 use Rattle.std.specs.Simd.Lanes.{chunk, put_chunk}
 use Rattle.std.proofs.lemmas.Bool.{cases_lt}
 use Rattle.std.proofs.lemmas.Grind.{same_number_lists}
+use Rattle.std.proofs.lemmas.List.{length-take, length-drop, get_or-take, take-append-drop}
 use Rattle.std.proofs.lemmas.Simd.{length-chunk, length-put_chunk, get_or-chunk, get_or-put_chunk_below, get_or-put_chunk_at, get_or-put_chunk_above}
 use Rattle.field_byte.specs.Vectors.{add_bytes, scale}
 use Rattle.field_byte.proofs.Vectors.{length-add_scaled, length-scale, get_or-add_bytes, chunk-add_bytes, chunk-scale}
+use Rattle.lane_kernel.specs.Sums.{add_two}
 
 -- before the place at, now is as whole, and from it on as old
 pub record Written (at : ℕ) (old whole now : List ℕ) : Type 0 where
@@ -94,3 +96,39 @@ module _ (coef : ℕ) (src old : List ℕ) (same : length src ≡ length old) wh
       same_number_lists _ sums (length-put_chunk end now last ∙ (before.long ∙ sym length-sums)) (λ k below.
       vector_done end n sums now last (omega (arith, before.long)) (length-sums ∙ sym before.long) (is ∙ sum_of_chunks end n) (λ j earlier. before.done j (omega arith)) k
       (omega (arith, before.long, length-put_chunk end now last)))
+
+abbrev put_mid : ℕ → ℕ → List ℕ → List ℕ → List ℕ
+put_mid at n xs ys = take at xs ++ (ys ++ drop n (drop at xs))
+
+-- the same of two products
+module _ (p q : ℕ) (xs ys old : List ℕ) (x_same : length xs ≡ length old) (y_same : length ys ≡ length old) where
+  abbrev pub both : List ℕ
+  both = add_two p q xs ys old
+
+  length-first : length (add_bytes old (scale p xs)) ≡ length old
+  length-first = length-add_scaled p xs old x_same
+
+  pub length-both : length both ≡ length old
+  length-both = length-add_scaled q ys _ (y_same ∙ sym length-first) ∙ length-first
+
+  both_of_chunks : (at n : ℕ) → add_two p q (chunk at n xs) (chunk at n ys) (chunk at n old) ≡ chunk at n both
+  both_of_chunks at n =
+      ap (λ l. add_bytes l (scale q (chunk at n ys))) (sum_of_chunks p xs old x_same at n)
+      ∙ sum_of_chunks q ys (add_bytes old (scale p xs)) (y_same ∙ sym length-first) at n
+
+  pub two_written : (at n : ℕ) (now sum : List ℕ) → at + n ≤ length old → sum ≡ add_two p q (chunk at n xs) (chunk at n ys) (chunk at n now) → Written at old both now → Written (at + n) old both (put_chunk at now sum)
+  two_written at n now sum within is before =
+      vector_written at n old both now sum within length-both
+      (is ∙ (ap (add_two p q (chunk at n xs) (chunk at n ys)) (chunk_left at n old both now within before) ∙ both_of_chunks at n)) before
+
+  -- the rest, in one piece
+  pub two_finished : (at n : ℕ) (now rest : List ℕ) → at + n ≡ length old → rest ≡ add_two p q (chunk at n xs) (chunk at n ys) (chunk at n now) → Written at old both now → put_mid at n now rest ≡ both
+  two_finished at n now rest all is before =
+      let part : rest ≡ chunk at n both = is ∙ (ap (add_two p q (chunk at n xs) (chunk at n ys)) (chunk_left at n old both now (omega arith) before) ∙ both_of_chunks at n) in
+      let front : take at now ≡ take at both = same_number_lists _ _ (omega (arith, length-take at now, length-take at both, before.long, length-both)) (λ k below.
+      let early : k < at = omega (arith, length-take at now) in
+      get_or-take at now k 0 early ∙ (before.done k early ∙ sym (get_or-take at both k 0 early))) in
+      let back : drop n (drop at now) ≡ drop n (drop at both) =
+      same_number_lists _ _ (omega (arith, length-drop n (drop at now), length-drop n (drop at both), length-drop at now, length-drop at both, before.long, length-both)) (λ k below.
+      absurd (omega (arith, length-drop n (drop at now), length-drop at now, before.long))) in
+      ap₂ (λ x y. x ++ y) front (ap₂ (λ x y. x ++ y) part back) ∙ (ap (λ x. take at both ++ x) (take-append-drop n (drop at both)) ∙ take-append-drop at both)

@@ -9,7 +9,7 @@ use Rattle.field_byte.specs.Field.{product}
 use Rattle.field_byte.specs.Halves.{products_of_nibbles}
 use Rattle.field_byte.specs.Vectors.{scale}
 use Rattle.field_byte.proofs.Nibbles.{product_at, product_of_halves}
-use Rattle.lane_kernel.specs.declared.lanes.TheConstants.{FOUR_TIMES}
+use Rattle.lane_kernel.specs.declared.lanes.TheConstants.{FOUR_TIMES, TWICE}
 
 abbrev pub low_half : ℕ → ℕ
 low_half b = bit_and b 15
@@ -47,6 +47,24 @@ sixteen_products coef step table is = record {
 
 abbrev always : ℕ → Bool
 always n = true
+
+abbrev twice_test : ℕ → Bool
+twice_test m = get_or TWICE m 0 == m % 16
+
+twice_pass : agree_below twice_test always 32 ≡ true
+twice_pass = refl
+
+pub sixteen_products_twice : (coef step : ℕ) (table rest : List ℕ) → table ≡ products_of_nibbles coef step → IsTable 32 (pick_l 0 (table ++ rest) TWICE) (λ j. product coef (j * step))
+sixteen_products_twice coef step table rest is = record {
+  reads = λ i j i_below j_below.
+      let m : ℕ = 16 * ((0 + i) / 16) + j in
+      let m_below : m < 32 = omega arith in
+      let long : length table ≡ 16 = ap length is in
+      let place : get_or TWICE m 0 ≡ j = eqb-true _ _ (agree_below_at twice_test always 32 m twice_pass m_below) ∙ omega arith in
+      ap (λ l. get_or l m 0) (pick_l_left 0 table rest 16 TWICE long tt)
+      ∙ (get_or-map (λ k. get_or table k 0) TWICE m 0 0 m_below
+      ∙ (ap₂ (λ (l : List ℕ) (k : ℕ). get_or l k 0) is place ∙ product_at coef step j j_below));
+}
 
 abbrev four_times_test : ℕ → Bool
 four_times_test m = get_or FOUR_TIMES m 0 == m % 16

@@ -3,7 +3,7 @@
 //! and how many more messages fit without memory. What a message means is left to the caller.
 #![tactic(auto)]
 
-ghost use Rattle.std.specs.Prelude.{◌≡◌, ℕ, ◌-◌, ◌<◌, ◌≤◌, ◌==◌, [], ◌∷◌, ◌++◌, length, take, drop, replicate, slice_get, IfOk, OnOk, option_copied};
+ghost use Rattle.std.specs.Prelude.{◌≡◌, ℕ, ◌-◌, ◌<◌, ◌≤◌, ◌==◌, max, [], ◌∷◌, ◌++◌, length, take, drop, replicate, slice_get, IfOk, OnOk, option_copied};
 ghost use Rattle.link_core.specs.Outgoing.{link_to, empty_link, with_link};
 
 use link::Link;
@@ -39,12 +39,14 @@ impl<M: Drop> Links<M> {
         Ok(Self { links })
     }
 
-    /// Makes room for `each` messages to every target.
+    /// Makes room for `each` messages to every target. Where memory runs out, some targets may have
+    /// it already.
     pub fn reserve(&mut self, each: u32) -> Result<(), AllocError>
         ensures many { length self.new ≡ length self.old }
         ensures messages { (to : ℕ) → (link_to self.new to).messages ≡ (link_to self.old to).messages }
         ensures spare { (to : ℕ) → (link_to self.old to).spare ≤ (link_to self.new to).spare }
-        ensures ok { OnOk result ((to : ℕ) → to < length self.new → each ≤ (link_to self.new to).spare) }
+        ensures most { (to : ℕ) → (link_to self.new to).spare ≤ max (link_to self.old to).spare each }
+        ensures ok { OnOk result ((to : ℕ) → to < length self.new → (link_to self.new to).spare ≡ max (link_to self.old to).spare each) }
     {
         'targets: for to in 0..self.links.len() {
             self.links[to].reserve(each as usize)?;

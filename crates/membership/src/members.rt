@@ -1,4 +1,6 @@
 ghost use Rattle.std.specs.Prelude.{ℕ, ◌≡◌, ◌≢◌, ◌↔◌, ◌<◌, ◌≤◌, ◌+◌, Bool, true, false, List, length, replicate, IsTrue, IfSome, IfNone, OnOk, OnErr, is_err};
+ghost use Rattle.group_types.specs.Names.{IsProcess, IsHead, of_rank};
+ghost use Rattle.group_types.specs.Lists.{at};
 ghost use Rattle.membership.specs.Members.{count_dead};
 
 use group_types::{Partition, ProcessId, Shape};
@@ -27,11 +29,11 @@ impl Model for Members {
 }
 
 impl Members {
-    ghost use Rattle.membership.specs.Members.{Membership, IsMember, knows_dead, with_dead, lost_of, of_rank, IsHead, NoHead};
+    ghost use Rattle.membership.specs.Members.{all_living, knows_dead, with_dead, lost_of, NoHead};
 
     /// A group in which no process is known dead.
     pub fn new(shape: Shape) -> Members
-        ensures { result ≡ record { shape = shape; data_dead = replicate 16 false; parity_dead = replicate 4 false } }
+        ensures { result ≡ all_living shape }
     {
         Members {
             shape,
@@ -44,16 +46,16 @@ impl Members {
     pub fn is_dead(&self, p: ProcessId) -> bool
         ensures { result ≡ knows_dead self.now p }
     {
-        let word = match p {
-            ProcessId::DataNode(d) => self.data_dead.get(d as usize),
-            ProcessId::ParityNode(i) => self.parity_dead.get(i as usize),
-        };
-        word == Some(&true)
+        match p {
+            ProcessId::DataNode(d) => says_dead(&self.data_dead, d),
+            ProcessId::ParityNode(i) => says_dead(&self.parity_dead, i),
+        }
     }
 
     /// Notes that a process is dead, unless that is known.
+    #[tactic(auto, using(group_types::proofs::Lists::set_put))]
     pub fn fail(&mut self, p: ProcessId) -> Result<(), AlreadyDead>
-        requires { IsMember self.old.shape p }
+        requires { IsProcess self.old.shape p }
         ensures known { is_err result ≡ knows_dead self.old p }
         ensures ok { OnOk result (self.new ≡ with_dead self.old p) }
         ensures err { OnErr result (self.new ≡ self.old) }
@@ -84,7 +86,7 @@ impl Members {
 
     /// The process of lowest rank in the partition that isn't known dead, if there is one.
     pub fn head_of(&self, d: Partition) -> Option<ProcessId>
-        ensures some { IfSome result (λ p. (r : ℕ) × (p ≡ of_rank d.0 r) × IsHead self.now d.0 r) }
+        ensures some { IfSome result (λ p. (r : ℕ) × (p ≡ of_rank d.0 r) × IsHead self.now.shape.m (knows_dead self.now) d.0 r) }
         ensures none { IfNone result (NoHead self.now d.0) }
     {
         let first = ProcessId::DataNode(d.0);
@@ -99,6 +101,14 @@ impl Members {
         }
         None
     }
+}
+
+// Whether the word at an index says dead; behind the end nobody does.
+#[tactic(auto, using(group_types::proofs::Lists::at_index, group_types::proofs::Lists::at_behind))]
+fn says_dead(words: &[bool], index: u32) -> bool
+    ensures { result ≡ at false words.now index }
+{
+    (index as usize) < words.len() && words[index as usize]
 }
 
 fn count(words: &[bool]) -> u32

@@ -1,4 +1,4 @@
-use Rattle.std.specs.Prelude.{ℕ, List}
+use Rattle.std.specs.Prelude.{ℕ, List, []}
 use Rattle.memc_table.specs.declared.act.Act.{Act}
 use Rattle.memc_table.specs.declared.act.Act.TheVariants.{Get, Set, Add, Replace, Cas, Delete, Touch, Append, Prepend, Incr, Decr}
 
@@ -15,3 +15,13 @@ key_of (Append key _) = key
 key_of (Prepend key _) = key
 key_of (Incr key _) = key
 key_of (Decr key _) = key
+
+-- the value that is brought, which has no byte where the act brings none
+abbrev pub value_of : Act → List ℕ
+value_of (Set _ _ _ value) = value
+value_of (Add _ _ _ value) = value
+value_of (Replace _ _ _ value) = value
+value_of (Cas _ _ _ _ value) = value
+value_of (Append _ value) = value
+value_of (Prepend _ value) = value
+value_of _ = []

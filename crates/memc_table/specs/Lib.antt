@@ -2,9 +2,6 @@ pub mod Act
 pub mod Asked
 pub mod Contents
 pub mod Expiry
-pub mod Log
 pub mod Numeral
 pub mod Ruling
 pub mod Table
-pub mod Turns
-pub mod Within

@@ -1,12 +1,9 @@
-//! memcached's table, and the words in which a group's promises are told: ops, replies, events,
-//! answers, and the log. `Table::apply` gives the reply and the next table of memcached's protocol,
-//! and after want of memory the table is as it was. Who keeps a table, and in which order calls
-//! reach it, is left to the crates above.
+//! memcached's table: ops, replies, and `Table::apply`, which gives the reply and the next table of
+//! memcached's protocol; after want of memory the table is as it was. Who keeps a table, and in which
+//! order calls reach it, is left to the crates above.
 #![tactic(auto)]
 
 pub mod act;
-pub mod entry;
-pub mod event;
 pub mod expiry;
 pub mod holding;
 pub mod numeral;
@@ -17,8 +14,6 @@ pub mod ruling;
 pub mod table;
 
 pub use act::Act;
-pub use entry::Entry;
-pub use event::{Answer, Cause, Event, Out};
 pub use holding::Holding;
 pub use op::Op;
 pub use reply::{Item, Reply};

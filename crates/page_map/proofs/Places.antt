@@ -1,11 +1,11 @@
 -- What a search finds among sorted pages, what a look-up finds, and what an edit does to it.
-use Rattle.std.proofs.Common.{◌≡◌, ◌≢◌, ℕ, zero, suc, ◌+◌, ◌-◌, ◌*◌, ◌<◌, ◌≤◌, eqb, List, [], ◌∷◌, length, get_or, set, if◌then◌else◌, Some, None, IsSome, Result, Ok, Err, IfOk, IfErr, IsTrue, Bool, is_ok, is_some, option_map, drop, ◌++◌, refl, sym, ap, ◌∙◌, subst, inl, inr, arith}
+use Rattle.std.proofs.Common.{◌≡◌, ◌≢◌, ℕ, zero, suc, ◌+◌, ◌-◌, ◌*◌, ◌<◌, ◌≤◌, eqb, List, [], ◌∷◌, length, get_or, set, if◌then◌else◌, Some, None, IsSome, Result, Ok, Err, IfOk, IfErr, IsTrue, Bool, is_ok, is_some, option_map, map, drop, ◌++◌, refl, sym, ap, ◌∙◌, subst, inl, inr, arith}
 use Rattle.std.specs.List.{insert}
-use Rattle.std.proofs.lemmas.List.{get_or_default, length-take, length-append, length-drop, length-set, get_or-set_same, get_or-set_other}
+use Rattle.std.proofs.lemmas.List.{get_or_default, length-take, length-append, length-drop, length-set, length-map, get_or-map, get_or-set_same, get_or-set_other}
 use Rattle.std.proofs.Math.Nat.{mul-le-mul_left}
 use Rattle.group_types.specs.Pieces.{overwritten}
 use Rattle.page_map.specs.Loans.{rewritten}
-use Rattle.std.specs.List.Sorted.{IsSearchInRange, IsBinarySearchResult, IsNonDecreasingBy}
+use Rattle.std.specs.List.Sorted.{IsSearchInRange, IsBinarySearchResult, IsNonDecreasingBy, IsStrictlyIncreasing}
 use Rattle.std.specs.Ordering.{nat_cmp, ordering_index}
 use Rattle.std.proofs.lemmas.Cmp.{ranked}
 use Rattle.std.proofs.lemmas.List.Sorted.{IsNonDecreasingBy-from_default}
@@ -166,3 +166,11 @@ pub found_after : (ps : List Page) (p : Page) (at : ℕ) → IsGapFor ps p.numbe
 found_after ps p at gap =
     let found = look_up-insert ps p at (none_before_gap ps at p gap) in
     (grind (arith, nat_tests, found p.number), λ q apart. grind (arith, nat_tests, found q))
+
+-- the numbers of sorted pages rise
+pub numbers_rise : (ps : List Page) → IsStrictlySorted ps → IsStrictlyIncreasing (map (λ p. p.number) ps)
+numbers_rise ps sorted k below =
+    let many = length-map ps (λ (p : Page). p.number) in
+    let none : Page = record { number = 0; bytes = [] } in
+    rw (get_or-map (λ (p : Page). p.number) ps k none 0 (omega (arith, many, below)), get_or-map (λ (p : Page). p.number) ps (k + 1) none 0 (omega (arith, many, below)))
+    (sorted k (k + 1) (omega arith) (omega (arith, many, below)))

@@ -1,9 +1,14 @@
-ghost use Rattle.std.specs.Prelude.{◌≡◌, ◌+◌, ◌*◌, ◌≤◌, EachIndex, IfSome, length, slice_index_or, option_copied};
+ghost use Rattle.std.specs.Prelude.{◌≡◌, ◌+◌, ◌*◌, ◌≤◌, EachIndex, IfOk, IfSome, length, slice_index_or, option_copied, unwrap_or};
 ghost use Rattle.field_byte.specs.Vectors.{add_bytes, scale};
+ghost use Rattle.erasure_code.specs.Spaces.{bytes_at};
 ghost use Rattle.page_map.specs.Pages.{AddsProduct, HasPages, byte_in, byte_of};
+ghost use Rattle.page_map.specs.Spaces.{bytes_of};
 
 use crate::Pages;
-use lane_kernel::{mul_add_into, xor_into};
+use field_byte::Split;
+use group_types::ByteList;
+use lane_kernel::{mul_add_by, xor_into};
+use std::alloc::AllocError;
 
 impl Pages {
     /// Reads the bytes from `at` on, which are zeros where no page is.
@@ -23,12 +28,23 @@ impl Pages {
         }
     }
 
-    /// Adds the product of `coef` and each of `bytes` to the bytes from `at` on, whose pages are
-    /// all there.
-    pub fn add_product(&mut self, at: u32, coef: u8, bytes: &[u8])
+    /// The `len` bytes from `at` on.
+    pub fn range(&self, at: u32, len: u32) -> Result<ByteList, AllocError>
+        requires { at + len ≤ self.now.blocks * self.now.block }
+        ensures bytes { IfOk result (λ bytes. bytes ≡ bytes_at at len (bytes_of self.now)) }
+        ensures length { IfOk result (λ bytes. length bytes ≡ len) }
+    {
+        let mut bytes = vec![in self.alloc(); 0u8; len as usize]?;
+        self.read_into(at, &mut bytes);
+        Ok(ByteList::from(bytes))
+    }
+
+    /// Adds each of `bytes`, times the coefficient where there is one, to the bytes from `at` on,
+    /// whose pages are all there.
+    pub fn add(&mut self, at: u32, coef: Option<&Split>, bytes: &[u8])
         requires within { at + length bytes.now ≤ self.old.blocks * self.old.block }
         requires there { HasPages self.old at (length bytes.now) }
-        ensures { AddsProduct self.old self.new at coef bytes.now (length bytes.now) }
+        ensures { AddsProduct self.old self.new at (unwrap_or (option_copied coef.entry) 1) bytes.now (length bytes.now) }
     {
         let block = self.block() as usize;
         let start = at as usize;
@@ -53,15 +69,13 @@ fn read_piece(page: Option<&[u8]>, from: usize, into: &mut [u8])
     }
 }
 
-// A sum is a product with 1.
-fn add_piece(coef: u8, src: &[u8], dst: &mut [u8])
+fn add_piece(coef: Option<&Split>, src: &[u8], dst: &mut [u8])
     requires { length src.now ≡ length dst.old }
-    ensures { dst.new ≡ add_bytes dst.old (scale coef src.now) }
+    ensures { dst.new ≡ add_bytes dst.old (scale (unwrap_or (option_copied coef.entry) 1) src.now) }
 {
-    if coef == 1 {
-        xor_into(src, dst);
-    } else {
-        mul_add_into(coef, src, dst);
+    match coef {
+        Some(coef) => mul_add_by(coef, src, dst),
+        None => xor_into(src, dst),
     }
 }
 
@@ -75,12 +89,21 @@ mod tests {
         let mut pages = Pages::new(rt.alloc(), 4, 16)?;
         let ones = [1u8; 20];
         pages.reserve(14, 20)?;
-        pages.add_product(14, 3, &ones);
+        pages.add(14, Some(&Split::of(3)), &ones);
         let mut read = [9u8; 64];
         pages.read_into(0, &mut read);
         for (at, byte) in read.iter().enumerate() {
             assert_eq!(rt; *byte, if at < 14 || 34 <= at { 0 } else { 3 });
         }
+        Ok(())
+    }
+
+    #[test]
+    fn a_sum_has_no_coefficient(rt: HostRuntime) -> Result<(), Fail> {
+        let mut pages = Pages::new(rt.alloc(), 4, 16)?;
+        pages.reserve(15, 2)?;
+        pages.add(15, None, &[2, 3]);
+        assert_eq!(rt; pages.range(14, 4)?.bytes(), [0, 2, 3, 0].as_slice());
         Ok(())
     }
 }

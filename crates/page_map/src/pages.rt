@@ -1,5 +1,6 @@
 ghost use Rattle.std.specs.Prelude.{◌≡◌, ◌↔◌, ◌+◌, ◌-◌, ◌*◌, ◌<◌, ◌≤◌, max, length, IsTrue, IfOk, IfErr, OnOk, OnErr, IfSome, IfNone, vec_len, vec_capacity, option_copied, Some, None, IsSome};
 ghost use Rattle.std.specs.Borrow.{sem};
+ghost use Rattle.std.specs.List.Sorted.{IsStrictlyIncreasing};
 ghost use Rattle.page_map.specs.Order.{IsAt, IsGapFor, IsStrictlySorted};
 ghost use Rattle.page_map.specs.Pages.{look_up};
 
@@ -30,7 +31,7 @@ impl Model for Pages {
 }
 
 impl Pages {
-    ghost use Rattle.page_map.specs.Pages.{ArePageDimensions, Contents, HasPage, IsTakenOut, PlacesOnly, SameDimensions, made_in, no_pages, page_in};
+    ghost use Rattle.page_map.specs.Pages.{ArePageDimensions, Contents, HasPage, IsTakenOut, PlacesOnly, SameDimensions, made_in, no_pages, numbers_in, page_in};
     ghost use Rattle.page_map.specs.Loans.{LendsPage};
 
     /// No page of `blocks` blocks of `block` bytes.
@@ -46,9 +47,10 @@ impl Pages {
         })
     }
 
-    /// How many pages there are.
+    /// How many pages there are. No two have one number.
     pub fn made(&self) -> u32
-        ensures { result ≡ made_in self.now }
+        ensures count { result ≡ made_in self.now }
+        ensures rising { IsStrictlyIncreasing (numbers_in self.now) }
     {
         self.pages.len() as u32
     }
@@ -131,6 +133,13 @@ impl Pages {
         ensures { result ≡ self.now.blocks }
     {
         self.blocks
+    }
+
+    // What sorted pages are to those who see their numbers.
+    pub(crate) fn numbers_rise(&self)
+        ensures { IsStrictlyIncreasing (numbers_in self.now) }
+    {
+        let _pages = &self.pages;
     }
 
     pub(crate) fn room(&self) -> u32

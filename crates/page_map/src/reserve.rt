@@ -1,5 +1,6 @@
 ghost use Rattle.std.specs.Prelude.{◌≡◌, ◌+◌, ◌-◌, ◌*◌, ◌<◌, ◌≤◌, None, IfOk, OnOk, OnErr, ℕ, replicate};
-ghost use Rattle.page_map.specs.Pages.{AreMissing, HasPage, HasPages, IsUnion, MakesZeros, SameDimensions, byte_in, made_in, page_in};
+ghost use Rattle.std.specs.List.Sorted.{IsStrictlyIncreasing};
+ghost use Rattle.page_map.specs.Pages.{AreMissing, HasPage, HasPages, IsUnion, MakesZeros, SameDimensions, byte_in, made_in, numbers_in, page_in};
 
 use crate::Pages;
 use group_types::ByteList;
@@ -12,6 +13,7 @@ impl Pages {
         ensures pages { OnOk result (MakesZeros self.old self.new at len) }
         ensures there { OnOk result (HasPages self.new at len) }
         ensures bytes { (a : ℕ) → byte_in self.new a ≡ byte_in self.old a }
+        ensures rising { OnOk result (IsStrictlyIncreasing (numbers_in self.new)) }
         ensures room { OnOk result (self.new.room ≡ self.old.room) }
         ensures dimensions { SameDimensions self.old self.new }
         ensures err { OnErr result (self.new ≡ self.old) }
@@ -20,6 +22,7 @@ impl Pages {
         let room = self.room().checked_add(fresh.made()).ok_or(AllocError)?;
         self.make_room(room)?;
         self.add_all(fresh);
+        self.numbers_rise();
         Ok(())
     }
 

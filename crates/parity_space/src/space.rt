@@ -1,12 +1,13 @@
 ghost use Rattle.std.specs.Prelude.{◌≡◌, ◌+◌, ◌*◌, ◌<◌, ◌≤◌, [], length, replicate, IfOk, OnOk, OnErr};
+ghost use Rattle.std.specs.List.Sorted.{IsStrictlyIncreasing};
 ghost use Rattle.group_types.specs.Dimensions.{space_of};
-ghost use Rattle.group_types.specs.declared.process.ProcessId.TheVariants.{ParityNode};
-ghost use Rattle.group_run.specs.Code.{bytes_in};
-ghost use Rattle.group_run.specs.Applying.{space_added};
+ghost use Rattle.erasure_code.specs.Code.{coefficient};
+ghost use Rattle.erasure_code.specs.Spaces.{bytes_at};
 ghost use Rattle.page_map.specs.Spaces.{AllMade, LiesIn, MakesOnly};
-ghost use Rattle.parity_space.specs.Space.{CanBeAdded};
+ghost use Rattle.parity_space.specs.Space.{ArePrepared, CanBeAdded, with_update};
 
 use cauchy_code::coefficient;
+use field_byte::Split;
 use group_message::{Body, Update};
 use group_types::{ByteList, Partition, Run, Shape};
 use page_map::Pages;
@@ -18,18 +19,19 @@ use std::marker::Model;
 pub struct ParitySpace {
     shape: Shape,
     number: u32,
+    coefs: Vec<Split>,
     pages: Pages,
 }
 
 impl Model for ParitySpace {
-    ghost use Rattle.std.specs.Prelude.{◌≡◌, ◌<◌};
-    ghost use Rattle.parity_space.specs.Space.{Space, space_in};
+    ghost use Rattle.std.specs.Prelude.{◌≡◌};
+    ghost use Rattle.parity_space.specs.Space.{ArePrepared, Space, space_in};
 
     ghost Value = { Space };
 
     ghost view = { λ s. space_in s.shape s.number s.pages };
 
-    ghost invariant = { λ s. (s.number < s.shape.m) × (s.pages.blocks ≡ s.shape.blocks) × (s.pages.block ≡ s.shape.block) };
+    ghost invariant = { λ s. ArePrepared s.shape s.number s.coefs.items × (s.pages.blocks ≡ s.shape.blocks) × (s.pages.block ≡ s.shape.block) };
 }
 
 impl ParitySpace {
@@ -44,6 +46,7 @@ impl ParitySpace {
         Ok(ParitySpace {
             shape,
             number,
+            coefs: coefs_of(alloc, shape, number)?,
             pages: Pages::new(alloc, shape.blocks(), shape.block())?,
         })
     }
@@ -56,6 +59,7 @@ impl ParitySpace {
         ensures bytes { self.new.bytes ≡ self.old.bytes }
         ensures ready { OnOk result (AllMade self.new.shape.block run self.new.made) }
         ensures made { OnOk result (MakesOnly self.old.shape.block run self.old.made self.new.made) }
+        ensures rising { OnOk result (IsStrictlyIncreasing self.new.made) }
         ensures err { OnErr result (self.new ≡ self.old) }
     {
         self.pages.reserve(run.at, run.len)
@@ -67,13 +71,13 @@ impl ParitySpace {
         requires ready { CanBeAdded self.old.shape self.old.made update.now.body }
         ensures shape { self.new.shape ≡ self.old.shape }
         ensures number { self.new.number ≡ self.old.number }
-        ensures bytes { self.new.bytes ≡ space_added self.old.shape (ParityNode self.old.number) d.0 update.now.body self.old.bytes }
+        ensures bytes { self.new.bytes ≡ with_update (coefficient self.old.shape.m self.old.number d.0) update.now.body self.old.bytes }
         ensures made { self.new.made ≡ self.old.made }
     {
         match &update.body {
             Body::Put { run, delta, .. } => {
-                let coef = coefficient(self.shape.m(), self.number, d.0);
-                self.pages.add_product(run.at, coef, delta.bytes());
+                let coef = &self.coefs[d.0 as usize];
+                self.pages.add(run.at, Some(coef), delta.bytes());
             }
             Body::Remove | Body::Touch { .. } => {}
         }
@@ -82,22 +86,32 @@ impl ParitySpace {
     /// The bytes of the run.
     pub fn range(&self, run: Run) -> Result<ByteList, AllocError>
         requires { LiesIn run self.now.shape }
-        ensures bytes { IfOk result (λ bytes. bytes ≡ bytes_in run self.now.bytes) }
+        ensures bytes { IfOk result (λ bytes. bytes ≡ bytes_at run.at run.len self.now.bytes) }
         ensures length { IfOk result (λ bytes. length bytes ≡ run.len) }
     {
-        let mut bytes = vec![in self.pages.alloc(); 0u8; run.len as usize]?;
-        self.pages.read_into(run.at, &mut bytes);
-        Ok(ByteList::from(bytes))
+        self.pages.range(run.at, run.len)
     }
 
     /// Reads the bytes of the run.
     pub fn read_into(&self, run: Run, into: &mut [u8])
         requires within { LiesIn run self.now.shape }
         requires length { length into.old ≡ run.len }
-        ensures { into.new ≡ bytes_in run self.now.bytes }
+        ensures { into.new ≡ bytes_at run.at run.len self.now.bytes }
     {
         self.pages.read_into(run.at, into);
     }
+}
+
+// The coefficient of each partition, prepared once for all differences.
+fn coefs_of(alloc: Global, shape: Shape, number: u32) -> Result<Vec<Split>, AllocError>
+    requires { number < shape.m }
+    ensures { IfOk result (λ coefs. ArePrepared shape number coefs.items) }
+{
+    let mut coefs = Vec::with_capacity(alloc, shape.k() as usize)?;
+    'partitions: for d in 0..shape.k() {
+        coefs.push(Split::of(coefficient(shape.m(), number, d)))?;
+    }
+    Ok(coefs)
 }
 
 #[cfg(test)]
@@ -131,6 +145,24 @@ mod tests {
         let mut read = [9u8; 2];
         space.read_into(Run { at: 13, len: 2 }, &mut read);
         assert_eq!(rt; read, [0, 0xF4]);
+        Ok(())
+    }
+
+    #[test]
+    fn keeps_no_value_beside_its_bytes(rt: HostRuntime) -> Result<(), Fail> {
+        let Ok(shape) = Shape::new(1, 1, 1, 16) else {
+            return Err(AllocError)?;
+        };
+        let ParitySpace {
+            shape,
+            number,
+            coefs,
+            pages,
+        } = ParitySpace::new(rt.alloc(), shape, 0)?;
+        let _: Shape = shape;
+        let _: u32 = number;
+        let _: Vec<Split> = coefs;
+        let _: Pages = pages;
         Ok(())
     }
 

@@ -14,9 +14,10 @@ use Rattle.request_log.specs.Logged.{Logged}
 use Rattle.run_alloc.specs.Free.{Space}
 use Rattle.run_alloc.specs.Free as alloc
 use Rattle.group_run.specs.Free.{in_run, in_some_run, is_free}
-use Rattle.group_run.specs.Lists.{any, put, same_key}
+use Rattle.std.specs.List.{list_any}
+use Rattle.group_types.specs.Lists.{put, same_key}
 use Rattle.group_run.specs.Replica.{Items, Replica, empty_replica, applied_to, callers, item_settled, run_of, with_log, with_update}
-use Rattle.partition_replica.specs.Coming.{AllCanCome, CanCome, Writes}
+use Rattle.group_run.specs.Fitting.{AllCanCome, CanCome, Writes}
 use Rattle.partition_replica.specs.Inside.{PartsAgree, items_in, replica_in}
 use Rattle.partition_replica.specs.Moves.{Gives, Takes}
 use Rattle.partition_replica.specs.Sound.{IsSound, log_runs, owners}
@@ -113,26 +114,26 @@ agrees_tidied s space fit ready key agree left = record {
 }
 
 -- the free runs once the log is dropped
-free_middle : {s : State} {old middle : Space} {fit : ℕ} → PartsAgree s old fit → Gives old middle (λ a. any (in_run a) (log_runs s.replica.log)) (length s.replica.log)
+free_middle : {s : State} {old middle : Space} {fit : ℕ} → PartsAgree s old fit → Gives old middle (λ a. list_any (in_run a) (log_runs s.replica.log)) (length s.replica.log)
     → (a : ℕ) → alloc.is_free middle a ≡ is_free (space_of s.shape) (with_log [] s.replica) a
-free_middle {s = s} agree gives a = gives.free a ∙ ap (λ b. b || any (in_run a) (log_runs s.replica.log)) (agree.free a) ∙ sym (free_emptied _ s.replica agree.sound a)
+free_middle {s = s} agree gives a = gives.free a ∙ ap (λ b. b || list_any (in_run a) (log_runs s.replica.log)) (agree.free a) ∙ sym (free_emptied _ s.replica agree.sound a)
 
 module _ {s : State} {old : Space} {fit : ℕ} (us : List Update) (agree : PartsAgree s old fit) (come : AllCanCome (space_of s.shape) (with_log [] s.replica) us) where
   sound_adopted : IsSound (space_of s.shape) (with_log us s.replica)
   sound_adopted = sound_with_all _ (with_log [] s.replica) us (sound_emptied _ s.replica agree.sound) come
 
-  module _ {middle : Space} (gives : Gives old middle (λ a. any (in_run a) (log_runs s.replica.log)) (length s.replica.log)) where
+  module _ {middle : Space} (gives : Gives old middle (λ a. list_any (in_run a) (log_runs s.replica.log)) (length s.replica.log)) where
     pub adopted_takeable : (a : ℕ) → owners a (log_runs us) ≤ (if alloc.is_free middle a then 1 else 0)
     adopted_takeable a = rw (free_middle agree gives a) (takeable _ s.replica us sound_adopted a)
 
     pub agrees_adopted : (new : Space) (ready tidy : List (List ℕ)) (dropped : List ℕ → Bool) → HasRoom (record { spare = s.room.spare; ready = ready }) us
         → ((q : List ℕ) → is_among tidy q ≡ (is_among ready q && (not (dropped q) || is_needed s.replica.items us q)))
-        → Takes middle new (λ a. any (in_run a) (log_runs us)) (length us)
+        → Takes middle new (λ a. list_any (in_run a) (log_runs us)) (length us)
         → PartsAgree (record s { replica = with_log us s.replica; room = record { spare = 0; ready = tidy } }) new 0
     agrees_adopted new ready tidy dropped room left takes = record {
       sound = sound_adopted;
       size = takes.size ∙ gives.size ∙ agree.size;
-      free = λ a. takes.free a ∙ ap (λ b. b && not (any (in_run a) (log_runs us))) (free_middle agree gives a) ∙ sym (free_refilled _ s.replica us sound_adopted a);
+      free = λ a. takes.free a ∙ ap (λ b. b && not (list_any (in_run a) (log_runs us))) (free_middle agree gives a) ∙ sym (free_refilled _ s.replica us sound_adopted a);
       runs = omega (arith, agree.runs, gives.spare, takes.spare, room.spare);
       updates = omega arith;
       ready = still_ready s.replica.items us ready tidy dropped room.ready left;

@@ -3,7 +3,8 @@ use Rattle.std.proofs.Common.{◌≡◌, ℕ, zero, suc, ◌+◌, ◌<◌, Bool,
 use Rattle.std.proofs.Math.Seq.{take-suc}
 use Rattle.std.proofs.lemmas.List.Elements.{All-push}
 use Rattle.std.specs.List.{list_any}
-use Rattle.group_run.specs.Lists.{any, at, put}
+use Rattle.std.specs.List.{list_any}
+use Rattle.group_types.specs.Lists.{at, put}
 
 module _ {X : Type 0} where
   pub at_read : (e d : X) (xs : List X) (i : ℕ) → i < length xs → get_or xs i d ≡ at e xs i
@@ -16,7 +17,7 @@ module _ {X : Type 0} where
   set_put e (x ∷ xs) zero y lt = refl
   set_put e (x ∷ xs) (suc i) y lt = ap (λ (l : List X). x ∷ l) (set_put e xs i y (omega arith))
 
-  pub any_is : (test : X → Bool) (xs : List X) → list_any test xs ≡ any test xs
+  pub any_is : (test : X → Bool) (xs : List X) → list_any test xs ≡ list_any test xs
   any_is test [] = refl
   any_is test (x ∷ xs) = ap (λ b. test x || b) (any_is test xs)
 

@@ -18,7 +18,8 @@ use Rattle.std.proofs.lemmas.Cmp.{nat_list_cmp_total, eq_by_cmp_equiv}
 use Rattle.std.proofs.lemmas.Map.Text.{is_eq-slice_cmp}
 use Rattle.group_types.specs.contracts.key.KeyPartialEq.TheImpl.{eq-value}
 use Rattle.group_message.specs.declared.update.Update.{Update}
-use Rattle.group_run.specs.Lists.{same_key, there}
+use Rattle.std.specs.Prelude.{is_some}
+use Rattle.group_types.specs.Lists.{same_key}
 use Rattle.group_run.specs.Replica.{number_on, slot_in, with_slot}
 use Rattle.item_index.specs.declared.slot.Slot.{Slot}
 use Rattle.item_index.specs.AsMap.{as_map}
@@ -41,10 +42,10 @@ equal_order a b same = (Equal-is (slice_cmp nat_cmp a b)).0 (sym (equal_is a b) 
 pub itself : (key : List ℕ) → same_key key key ≡ true
 itself key = ap is_eq (tied_itself nat_list_cmp_total key)
 
-tied : map.IsAntisymmetric (slice_cmp nat_cmp)
+pub tied : map.IsAntisymmetric (slice_cmp nat_cmp)
 tied = map.slice_cmp-IsAntisymmetric map.nat_cmp-IsAntisymmetric
 
-swapped : (a b : List ℕ) → same_key a b ≡ same_key b a
+pub swapped : (a b : List ℕ) → same_key a b ≡ same_key b a
 swapped a b = (eq_by_cmp_equiv nat_list_cmp_total).symm a b
 
 -- the item on a key is the slot of its entry
@@ -112,18 +113,18 @@ number_on-found (u ∷ us) key = later (find_last (λ v. equal v.key key) us) (n
   later None number is = rw (← is, equal_is u.key key) (here (same_key u.key key))
   later (Some v) number is = rw (← is) refl
 
-is_there : {X : Type 0} (found : Option X) → is_some found ≡ there found
+is_there : {X : Type 0} (found : Option X) → is_some found ≡ is_some found
 is_there None = refl
 is_there (Some x) = refl
 
 -- whether an update waits on a key, as the log finds it
-pub waits_as_found : (log : List Update) (key : List ℕ) (found : Option ℕ) → found ≡ option_map (λ u. u.number) (find_last (λ u. equal u.key key) log) → there (number_on log key) ≡ is_some found
-waits_as_found log key found is = sym (is_there found ∙ ap there (is ∙ number_on-found log key))
+pub waits_as_found : (log : List Update) (key : List ℕ) (found : Option ℕ) → found ≡ option_map (λ u. u.number) (find_last (λ u. equal u.key key) log) → is_some (number_on log key) ≡ is_some found
+waits_as_found log key found is = sym (is_there found ∙ ap is_some (is ∙ number_on-found log key))
 
 -- a key that has an item is ready
-with_item : (index : Keys (List ℕ)) (key : List ℕ) → there (slot_in (items_in index) key) ≡ true → is_among (ready_in index) key ≡ true
+with_item : (index : Keys (List ℕ)) (key : List ℕ) → is_some (slot_in (items_in index) key) ≡ true → is_among (ready_in index) key ≡ true
 with_item index key some =
-    ready_in-is index key ∙ is_ready-from_slot equal index key (is_there (slot_of equal index key) ∙ ap there (sym (slot_in-items_in index key)) ∙ some)
+    ready_in-is index key ∙ is_ready-from_slot equal index key (is_there (slot_of equal index key) ∙ ap is_some (sym (slot_in-items_in index key)) ∙ some)
 
 module _ (old : Keys (List ℕ)) (log : List Update) (key q : List ℕ) where
   -- whether a key is ready still, once another is tidied
@@ -133,38 +134,38 @@ module _ (old : Keys (List ℕ)) (log : List Update) (key q : List ℕ) where
   other_left : equal key q ≡ false → is_among (ready_in old) q ≡ left
   other_left other = rw (← equal_is key q, other) (sym (and-true (is_among (ready_in old) q)))
 
-  item_left : equal key q ≡ true → there (number_on log q) ≡ false → (b : Bool) → there (slot_in (items_in old) q) ≡ b → b ≡ left
+  item_left : equal key q ≡ true → is_some (number_on log q) ≡ false → (b : Bool) → is_some (slot_in (items_in old) q) ≡ b → b ≡ left
   item_left same none true some = rw (some, with_item old q some, or-true (not (same_key key q))) refl
   item_left same none false some = rw (some, none, ← equal_is key q, same) (sym (and-false (is_among (ready_in old) q)))
 
   -- a key that no update waits on is ready afterwards only if it has an item
-  pub ready_in-tidy : (new : Keys (List ℕ)) → there (number_on log key) ≡ false
+  pub ready_in-tidy : (new : Keys (List ℕ)) → is_some (number_on log key) ≡ false
       → is_ready equal new q ≡ (if equal key q then is_some (slot_of equal old q) else is_ready equal old q)
       → is_among (ready_in new) q ≡ left
   ready_in-tidy new none tidied = ready_in-is new q ∙ tidied ∙ elim (equal key q) as (λ b. equal key q ≡ b → (if b then is_some (slot_of equal old q) else is_ready equal old q) ≡ left) [
     | true ↦ λ same.
-        is_there (slot_of equal old q) ∙ ap there (sym (slot_in-items_in old q))
-        ∙ item_left same (ap (λ (k : List ℕ). there (number_on log k)) (sym (tied key q (equal_order key q same))) ∙ none) _ refl
+        is_there (slot_of equal old q) ∙ ap is_some (sym (slot_in-items_in old q))
+        ∙ item_left same (ap (λ (k : List ℕ). is_some (number_on log k)) (sym (tied key q (equal_order key q same))) ∙ none) _ refl
     | false ↦ λ other. sym (ready_in-is old q) ∙ other_left other
   ] refl
 
   -- a key that an update waits on is needed
-  pub ready_in-waiting : there (number_on log key) ≡ true → is_among (ready_in old) q ≡ left
+  pub ready_in-waiting : is_some (number_on log key) ≡ true → is_among (ready_in old) q ≡ left
   ready_in-waiting waits = elim (equal key q) as (λ b. equal key q ≡ b → is_among (ready_in old) q ≡ left) [
     | true ↦ λ same.
-        rw (ap (λ (k : List ℕ). there (number_on log k)) (sym (tied key q (equal_order key q same))) ∙ waits, or-true (there (slot_in (items_in old) q)), or-true (not (same_key key q))) (sym (and-true (is_among (ready_in old) q)))
+        rw (ap (λ (k : List ℕ). is_some (number_on log k)) (sym (tied key q (equal_order key q same))) ∙ waits, or-true (is_some (slot_in (items_in old) q)), or-true (not (same_key key q))) (sym (and-true (is_among (ready_in old) q)))
     | false ↦ λ other. other_left other
   ] refl
 
 -- each key that an update is on is needed
-pub number_on-each : (log : List Update) → All (λ u. there (number_on log u.key) ≡ true) log
-number_on-each [] = All-nil (λ u. there (number_on [] u.key) ≡ true)
-number_on-each (u ∷ us) = All-cons (λ v. there (number_on (u ∷ us) v.key) ≡ true) u us (own (number_on us u.key)) (λ k d lt. kept (number_on us (slice_index_or us k d).key) (same_key u.key (slice_index_or us k d).key) (number_on-each us k d lt)) where
-  own : (later : Option ℕ) → there (elim later [ Some n ↦ Some n | None ↦ if same_key u.key u.key then Some u.number else None ]) ≡ true
+pub number_on-each : (log : List Update) → All (λ u. is_some (number_on log u.key) ≡ true) log
+number_on-each [] = All-nil (λ u. is_some (number_on [] u.key) ≡ true)
+number_on-each (u ∷ us) = All-cons (λ v. is_some (number_on (u ∷ us) v.key) ≡ true) u us (own (number_on us u.key)) (λ k d lt. kept (number_on us (slice_index_or us k d).key) (same_key u.key (slice_index_or us k d).key) (number_on-each us k d lt)) where
+  own : (later : Option ℕ) → is_some (elim later [ Some n ↦ Some n | None ↦ if same_key u.key u.key then Some u.number else None ]) ≡ true
   own None = rw (itself u.key) refl
   own (Some n) = refl
 
-  kept : (later : Option ℕ) (b : Bool) → there later ≡ true → there (elim later [ Some n ↦ Some n | None ↦ if b then Some u.number else None ]) ≡ true
+  kept : (later : Option ℕ) (b : Bool) → is_some later ≡ true → is_some (elim later [ Some n ↦ Some n | None ↦ if b then Some u.number else None ]) ≡ true
   kept None b is = absurd (false≢true is)
   kept (Some n) b is = refl
 

@@ -5,3 +5,4 @@ pub mod Moving
 pub mod Owners
 pub mod Places
 pub mod Sound
+pub mod Owed

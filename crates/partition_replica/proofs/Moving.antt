@@ -7,7 +7,7 @@ use Rattle.group_message.specs.declared.update.Update.{Update}
 use Rattle.run_alloc.specs.Free.{Space, AllFree, NoneFree, is_free}
 use Rattle.run_alloc.proofs.Spread.{in_run-inside}
 use Rattle.group_run.specs.Free.{in_run, in_some_run}
-use Rattle.group_run.specs.Lists.{any}
+use Rattle.std.specs.List.{list_any}
 use Rattle.group_run.specs.Replica.{run_of}
 use Rattle.partition_replica.specs.Moves.{Gives, Takes}
 use Rattle.partition_replica.specs.Sound.{log_runs, owners}
@@ -111,7 +111,7 @@ module _ (start now : Space) (all left : List Update) (u : Update) where
       same false true n = grind (arith, nat_tests)
       same false false n = grind (arith, nat_tests)
 
-pub taking_end : (start now : Space) (all left : List Update) → Taking start now all left → length left ≡ 0 → Takes start now (λ a. any (in_run a) (log_runs all)) (length all)
+pub taking_end : (start now : Space) (all left : List Update) → Taking start now all left → length left ≡ 0 → Takes start now (λ a. list_any (in_run a) (log_runs all)) (length all)
 taking_end start now all (u ∷ left) at none = absurd (omega arith)
 taking_end start now all [] at none = record {
   size = at.size;
@@ -121,7 +121,7 @@ taking_end start now all [] at none = record {
   last : (f s : Bool) (n : ℕ) → (f && true) ≡ (s && (n == 0)) → f ≡ (s && not (not (n == 0)))
   last f s n is = grind (arith, nat_tests)
 
-pub giving_end : (start now : Space) (all left : List Update) → Giving start now all left → length left ≡ 0 → Gives start now (λ a. any (in_run a) (log_runs all)) (length all)
+pub giving_end : (start now : Space) (all left : List Update) → Giving start now all left → length left ≡ 0 → Gives start now (λ a. list_any (in_run a) (log_runs all)) (length all)
 giving_end start now all (u ∷ left) at none = absurd (omega arith)
 giving_end start now all [] at none = record {
   size = at.size;

@@ -17,10 +17,11 @@ use Rattle.group_message.specs.declared.update.Body.{Body}
 use Rattle.group_message.specs.declared.update.Body.TheVariants.{Put, Remove, Touch}
 use Rattle.group_message.specs.declared.update.Update.{Update}
 use Rattle.item_index.specs.declared.slot.Slot.{Slot}
-use Rattle.group_run.specs.Lists.{any, same_key}
+use Rattle.std.specs.List.{list_any}
+use Rattle.group_types.specs.Lists.{same_key}
 use Rattle.group_run.specs.Free.{in_run, in_some_run}
 use Rattle.group_run.specs.Replica.{Items, slot_in, run_in, run_of, slot_after, with_slot, item_settled}
-use Rattle.partition_replica.specs.Coming.{freed_by}
+use Rattle.group_run.specs.Replica.{freed_by}
 use Rattle.partition_replica.specs.Sound.{item_runs, front_run, log_runs, FreeTheirs}
 
 -- the order of the keys
@@ -99,15 +100,15 @@ module _ (p : Run → Bool) where
   written-append [] ys = omega arith
   written-append (u ∷ xs) ys = omega (arith, written-append xs ys)
 
-  pub any_item : (items : Items) → any (λ x. p (run_in x.1)) items ≡ not (held items == 0)
+  pub any_item : (items : Items) → list_any (λ x. p (run_in x.1)) items ≡ not (held items == 0)
   any_item [] = refl
   any_item (e ∷ es) = more (p (run_in e.1)) _ _ (any_item es)
 
-  any_front : (run : Option Run) (runs : List Run) (n : ℕ) → any p runs ≡ not (n == 0) → any p (front_run run runs) ≡ not (weight run + n == 0)
+  any_front : (run : Option Run) (runs : List Run) (n : ℕ) → list_any p runs ≡ not (n == 0) → list_any p (front_run run runs) ≡ not (weight run + n == 0)
   any_front None runs n is = grind (arith, nat_tests)
   any_front (Some run) runs n is = more (p run) _ _ is
 
-  pub any_log : (us : List Update) → any p (log_runs us) ≡ not (written us == 0)
+  pub any_log : (us : List Update) → list_any p (log_runs us) ≡ not (written us == 0)
   any_log [] = refl
   any_log (u ∷ us) = any_front (run_of u.body) (log_runs us) (written us) (any_log us)
 
@@ -205,15 +206,15 @@ pub weight-in_run : (a : ℕ) (run : Option Run) → weight (in_run a) run ≡ c
 weight-in_run a None = refl
 weight-in_run a (Some run) = refl
 
-pub any_written : (a : ℕ) (us : List Update) → any (λ u. in_some_run a (run_of u.body)) us ≡ not (written (in_run a) us == 0)
+pub any_written : (a : ℕ) (us : List Update) → list_any (λ u. in_some_run a (run_of u.body)) us ≡ not (written (in_run a) us == 0)
 any_written a [] = refl
 any_written a (u ∷ us) = rw weight-in_run (more (in_some_run a (run_of u.body)) _ _ (any_written a us))
 
 -- an address that the log's updates free is in a run
-pub freed_owned : (a : ℕ) (items : Items) (log : List Update) → FreeTheirs items log → any (λ u. in_some_run a u.frees) log ≡ true → 1 ≤ held (in_run a) items + written (in_run a) log
+pub freed_owned : (a : ℕ) (items : Items) (log : List Update) → FreeTheirs items log → list_any (λ u. in_some_run a u.frees) log ≡ true → 1 ≤ held (in_run a) items + written (in_run a) log
 freed_owned a items [] frees some = cc
 freed_owned a items (u ∷ us) frees some = here (or_cases _ _ some) (freed_owned a (item_settled u items) us frees.1) where
-  here : (in_some_run a u.frees ≡ true) ⊎ (any (λ u. in_some_run a u.frees) us ≡ true) → (any (λ u. in_some_run a u.frees) us ≡ true → 1 ≤ held (in_run a) (item_settled u items) + written (in_run a) us) → 1 ≤ held (in_run a) items + written (in_run a) (u ∷ us)
+  here : (in_some_run a u.frees ≡ true) ⊎ (list_any (λ u. in_some_run a u.frees) us ≡ true) → (list_any (λ u. in_some_run a u.frees) us ≡ true → 1 ≤ held (in_run a) (item_settled u items) + written (in_run a) us) → 1 ≤ held (in_run a) items + written (in_run a) (u ∷ us)
   here (inl now) later = let one : weight (in_run a) u.frees ≡ 1 = weight-in_run a u.frees ∙ ap (λ (b : Bool). cond b 1 0) now in omega (arith, freed_held (in_run a) u items frees.0)
   here (inr then) later = omega (arith, later then, settled_most (in_run a) u items)
 

@@ -5,7 +5,7 @@ use Rattle.run_alloc.specs.Free.{AllFree, IsFreeRun, IsBestRun, IsPlace, NoPlace
 use Rattle.group_run.specs.Free.{is_free, place_for}
 use Rattle.group_run.specs.Replica.{Replica}
 use Rattle.group_laws.specs.Placing.{IsPlaced}
-use Rattle.partition_replica.specs.Coming.{IsRunOf}
+use Rattle.group_run.specs.Fitting.{IsRunOf}
 use Rattle.group_laws.proofs.Placing.{places_are_best}
 
 module _ (space : ℕ) (r : Replica) (len : ℕ) where

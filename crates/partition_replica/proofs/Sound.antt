@@ -14,10 +14,11 @@ use Rattle.group_message.specs.declared.update.Update.{Update}
 use Rattle.item_index.specs.declared.slot.Slot.{Slot}
 use Rattle.run_alloc.specs.Free.{AllFree, NoneFree}
 use Rattle.run_alloc.proofs.Spread.{in_run-true, in_run-inside}
-use Rattle.group_run.specs.Lists.{any}
+use Rattle.std.specs.List.{list_any}
 use Rattle.group_run.specs.Free.{in_run, in_some_run, is_free}
 use Rattle.group_run.specs.Replica.{Items, Replica, empty_replica, callers, slot_in, run_of, item_settled, items_after, kept_after, applied_to, with_update, with_log}
-use Rattle.partition_replica.specs.Coming.{Writes, freed_by, CanCome, AllCanCome}
+use Rattle.group_run.specs.Replica.{freed_by}
+use Rattle.group_run.specs.Fitting.{Writes, CanCome, AllCanCome}
 use Rattle.partition_replica.specs.Sound.{log_runs, runs_of, owners, AreApart, FreeTheirs, IsSound}
 use Rattle.partition_replica.proofs.Owners.{weight, has, held, found_most, written, count_log, count_all, written-append, any_item, any_log, any_written, weight-in_run, freed_held, settled_count, freed_owned, outside, none_outside, all_inside, none_behind}
 
@@ -143,7 +144,7 @@ givable space r sound a = rw (count_log (in_run a) r.log) (split (is_free space 
 given_test : (a space i w : ℕ) → i + w ≤ 1 → (1 ≤ i + w → a < space) → (nat_lt a space && (i + 0 == 0)) ≡ ((nat_lt a space && (i + w == 0)) || not (w == 0))
 given_test a space i w once inside = grind (arith, nat_tests)
 
-pub free_emptied : (space : ℕ) (r : Replica) → IsSound space r → (a : ℕ) → is_free space (with_log [] r) a ≡ (is_free space r a || any (in_run a) (log_runs r.log))
+pub free_emptied : (space : ℕ) (r : Replica) → IsSound space r → (a : ℕ) → is_free space (with_log [] r) a ≡ (is_free space r a || list_any (in_run a) (log_runs r.log))
 free_emptied space r sound a =
     rw (free_untaken space (with_log [] r) (sound_emptied space r sound) a, free_untaken space r sound a, any_log (in_run a) r.log)
     (given_test a space (held (in_run a) r.items) (written (in_run a) r.log) (taken_once space r sound a) (taken_inside space r sound a))
@@ -156,7 +157,7 @@ takeable space r us sound a =
       test : (i w : ℕ) → i + w ≤ 1 → (1 ≤ i + w → a < space) → w ≤ (if nat_lt a space && (i + 0 == 0) then 1 else 0)
       test i w once inside = grind (arith, nat_tests)
 
-pub free_refilled : (space : ℕ) (r : Replica) (us : List Update) → IsSound space (with_log us r) → (a : ℕ) → is_free space (with_log us r) a ≡ (is_free space (with_log [] r) a && not (any (in_run a) (log_runs us)))
+pub free_refilled : (space : ℕ) (r : Replica) (us : List Update) → IsSound space (with_log us r) → (a : ℕ) → is_free space (with_log us r) a ≡ (is_free space (with_log [] r) a && not (list_any (in_run a) (log_runs us)))
 free_refilled space r us sound a =
     rw (free_untaken space (with_log us r) sound a, free_untaken space (with_log [] r) (sound_emptied space (with_log us r) sound) a, any_log (in_run a) us)
     (test (held (in_run a) r.items) (written (in_run a) us)) where

@@ -1,5 +1,4 @@
 pub mod State
-pub mod Coming
 pub mod Sound
 pub mod Moves
 pub mod Inside

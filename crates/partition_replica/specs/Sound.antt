@@ -5,7 +5,8 @@ use Rattle.group_types.specs.declared.run.Run.{Run}
 use Rattle.group_message.specs.declared.update.Update.{Update}
 use Rattle.group_run.specs.Free.{in_run}
 use Rattle.group_run.specs.Replica.{Items, Replica, callers, slot_in, run_in, run_of, item_settled}
-use Rattle.partition_replica.specs.Coming.{Writes, freed_by}
+use Rattle.group_run.specs.Replica.{freed_by}
+use Rattle.group_run.specs.Fitting.{Writes}
 
 -- the runs of items
 abbrev pub item_runs : Items → List Run

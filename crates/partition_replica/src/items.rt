@@ -1,10 +1,11 @@
 // What updates do to an index of items.
 ghost use Rattle.std.specs.Prelude.{true, ◌≡◌, ℕ, List, All, OnOk, ◌||◌, ◌&&◌, not};
 ghost use Rattle.group_message.specs.declared.update.Body.TheVariants.{Touch};
-ghost use Rattle.group_run.specs.Lists.{any, same_key};
+ghost use Rattle.std.specs.List.{list_any};
+ghost use Rattle.group_types.specs.Lists.{same_key};
 ghost use Rattle.group_run.specs.Replica.{item_settled, slot_after, slot_in, with_slot};
 ghost use Rattle.partition_replica.specs.Inside.{items_in, ready_in};
-ghost use Rattle.partition_replica.specs.State.{is_among, is_needed};
+ghost use Rattle.partition_replica.specs.State.{is_among, is_needed, is_touched};
 
 use crate::updates::Updates;
 use group_message::{Body, Update};
@@ -18,6 +19,7 @@ pub fn prepare(index: &mut Index<Key>, updates: &[Update]) -> Result<(), AllocEr
     ensures items { items_in index.new ≡ items_in index.old }
     ensures kept { (q : List ℕ) → is_among (ready_in index.old) q ≡ true → is_among (ready_in index.new) q ≡ true }
     ensures ready { OnOk result (All (λ u. is_among (ready_in index.new) u.key ≡ true) updates.now) }
+    ensures most { (q : List ℕ) → is_among (ready_in index.new) q ≡ true → (is_among (ready_in index.old) q || is_touched updates.now q) ≡ true }
 {
     'updates: for update in updates {
         index.prepare(&update.key)?;
@@ -78,7 +80,7 @@ pub fn tidy(index: &mut Index<Key>, log: &Log<Updates>, key: &Key)
 pub fn tidy_dropped(index: &mut Index<Key>, log: &Log<Updates>, dropped: &[Update])
     ensures items { items_in index.new ≡ items_in index.old }
     ensures ready { (q : List ℕ) → is_among (ready_in index.new) q
-        ≡ (is_among (ready_in index.old) q && (not (any (λ u. same_key u.key q) dropped.now) || is_needed (items_in index.old) log.now.updates q)) }
+        ≡ (is_among (ready_in index.old) q && (not (list_any (λ u. same_key u.key q) dropped.now) || is_needed (items_in index.old) log.now.updates q)) }
 {
     'dropped: for update in dropped {
         tidy(index, log, &update.key);

@@ -1,11 +1,13 @@
-ghost use Rattle.std.specs.Prelude.{◌≡◌, ◌+◌, ◌<◌, ◌≤◌, ◌==◌, ◌&&◌, None, All, IfOk, IfSome, option_copied};
+ghost use Rattle.std.specs.Prelude.{◌≡◌, ◌+◌, ◌<◌, ◌≤◌, ◌==◌, ◌&&◌, false, None, All, IfOk, IfSome, option_copied};
 ghost use Rattle.group_types.specs.Dimensions.{space_of};
 ghost use Rattle.run_alloc.specs.Free.{AllFree};
 ghost use Rattle.group_run.specs.Free.{is_free, place_for};
-ghost use Rattle.group_run.specs.Lists.{any, at};
+ghost use Rattle.std.specs.List.{list_any};
+ghost use Rattle.group_types.specs.Lists.{at};
 ghost use Rattle.group_run.specs.Replica.{callers, empty_replica, last_of, number_on, slot_in};
 ghost use Rattle.request_log.specs.Logged.{IsNumbered};
-ghost use Rattle.partition_replica.specs.Coming.{IsRunOf, Writes};
+ghost use Rattle.group_run.specs.Fitting.{IsRunOf, Writes};
+ghost use Rattle.partition_replica.specs.State.{IsTidyBut};
 
 use crate::updates::Updates;
 use group_message::{Kept, UpdateList};
@@ -50,6 +52,7 @@ impl Replica {
     pub fn new(alloc: Global, shape: Shape) -> Result<Replica, AllocError>
         ensures shape { IfOk result (λ r. r.shape ≡ shape) }
         ensures replica { IfOk result (λ r. r.replica ≡ empty_replica) }
+        ensures owed { IfOk result (λ r. IsTidyBut r (λ _. false)) }
     {
         Ok(Replica {
             shape,
@@ -93,7 +96,7 @@ impl Replica {
 
     /// Whether the update of this call is in the log.
     pub fn waits(&self, caller: u32, call: u64) -> bool
-        ensures { result ≡ any (λ u. u.caller == caller && u.call == call) self.now.replica.log }
+        ensures { result ≡ list_any (λ u. u.caller == caller && u.call == call) self.now.replica.log }
     {
         self.log
             .iter()

@@ -2,7 +2,7 @@
 ghost use Rattle.std.specs.Prelude.{◌≡◌, ℕ, ◌+◌, ◌<◌, ◌≤◌, length, All, IfSome, if◌then◌else◌};
 ghost use Rattle.run_alloc.specs.Free.{AllFree, NoneFree, is_free};
 ghost use Rattle.group_run.specs.Free.{in_run, in_some_run};
-ghost use Rattle.group_run.specs.Lists.{any};
+ghost use Rattle.std.specs.List.{list_any};
 ghost use Rattle.group_run.specs.Replica.{run_of};
 ghost use Rattle.partition_replica.specs.Moves.{Gives, Takes};
 ghost use Rattle.partition_replica.specs.Sound.{log_runs, owners};
@@ -50,7 +50,7 @@ pub fn give_run(runs: &mut FreeRuns, run: Option<Run>)
 pub fn take_runs(runs: &mut FreeRuns, log: &Log<Updates>)
     requires free { (a : ℕ) → owners a (log_runs log.now.updates) ≤ (if is_free runs.old a then 1 else 0) }
     requires room { length log.now.updates ≤ runs.old.spare }
-    ensures { Takes runs.old runs.new (λ a. any (in_run a) (log_runs log.now.updates)) (length log.now.updates) }
+    ensures { Takes runs.old runs.new (λ a. list_any (in_run a) (log_runs log.now.updates)) (length log.now.updates) }
 {
     'updates: for update in log.iter() {
         take_run(runs, run_of(update));
@@ -62,7 +62,7 @@ pub fn give_runs(runs: &mut FreeRuns, updates: &[Update])
     requires inside { All (λ r. r.at + r.len ≤ runs.old.size) (log_runs updates.now) }
     requires taken { (a : ℕ) → owners a (log_runs updates.now) ≤ (if is_free runs.old a then 0 else 1) }
     requires room { length updates.now ≤ runs.old.spare }
-    ensures { Gives runs.old runs.new (λ a. any (in_run a) (log_runs updates.now)) (length updates.now) }
+    ensures { Gives runs.old runs.new (λ a. list_any (in_run a) (log_runs updates.now)) (length updates.now) }
 {
     'updates: for update in updates {
         give_run(runs, run_of(update));

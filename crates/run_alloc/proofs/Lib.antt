@@ -1,5 +1,10 @@
+pub mod Around
+pub mod Ranks
+pub mod Laid
+pub mod Moves
+pub mod Splits
+pub mod Searches
 pub mod Spread
-pub mod Cuts
-pub mod Joins
+pub mod Apart
 pub mod Best
-pub mod Sets
+pub mod Pairs

@@ -4,7 +4,7 @@ use Rattle.std.specs.List.{list_any}
 use Rattle.std.specs.FinSet as set
 use Rattle.std.proofs.lemmas.List.Folds.{list_any-append}
 use Rattle.std.proofs.lemmas.Bool.Decides.{nat_tests}
-use Rattle.run_alloc.specs.declared.runs.Run.{Run}
+use Rattle.run_alloc.specs.declared.order.Run.{Run}
 use Rattle.run_alloc.specs.Free.{in_run}
 use Rattle.run_alloc.specs.Runs.{addresses_from, addresses, free_set, in_runs, IsSpread}
 

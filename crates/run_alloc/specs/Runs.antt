@@ -1,10 +1,10 @@
 -- The maximal free runs as a list in the order of their addresses.
-use Rattle.std.specs.Prelude.{◌≡◌, ℕ, zero, suc, ◌+◌, ◌<◌, ◌≤◌, Bool, ◌&&◌, ◌||◌, not, List, [], ◌∷◌, ◌++◌, length, slice_index_or}
+use Rattle.std.specs.Prelude.{◌≡◌, ℕ, zero, suc, ◌+◌, ◌<◌, ◌≤◌, ◌⊎◌, Bool, ◌&&◌, ◌||◌, not, List, [], ◌∷◌, ◌++◌, length, slice_index_or}
 use Rattle.std.specs.Ordering.{nat_cmp}
 use Rattle.std.specs.FinSet as set
-use Rattle.std.specs.List.{list_any}
+use Rattle.std.specs.List.{Contains, list_any}
 use Rattle.run_alloc.specs.Free.{in_run}
-use Rattle.run_alloc.specs.declared.runs.Run.{Run}
+use Rattle.run_alloc.specs.declared.order.Run.{Run}
 
 -- the addresses from `at` on, `len` of them
 abbrev pub addresses_from : ℕ → ℕ → List ℕ
@@ -43,19 +43,29 @@ pub record IsJoined (old new : List Run) (at len : ℕ) : Type 0 where
   pub spread : (high : ℕ) → at + len < high → IsSpread 0 old high → IsSpread 0 new high
   pub given : (a : ℕ) → in_runs new a ≡ (in_runs old a || in_run at len a)
 
--- so many runs begin at or below the address
-pub record IsPlaceOf (runs : List Run) (at place : ℕ) : Type 0 where
-  pub in_range : place ≤ length runs
-  pub below : (j : ℕ) → j < place → (run_at runs j).at ≤ at
-  pub above : (j : ℕ) → place ≤ j → j < length runs → at < (run_at runs j).at
+-- no address of one run is in the other, nor beside it
+abbrev pub IsApart : Run → Run → Type 0
+IsApart run other = (other.at + other.len < run.at) ⊎ (run.at + run.len < other.at)
 
--- the run at `place` is the shortest of the first `end` that have `want` addresses, and the first of these
-pub record IsShortest (runs : List Run) (want end place : ℕ) : Type 0 where
-  pub in_range : place < end
-  pub fits : want ≤ (run_at runs place).len
-  pub shortest : (j : ℕ) → j < end → want ≤ (run_at runs j).len → (run_at runs place).len ≤ (run_at runs j).len
-  pub first : (j : ℕ) → j < place → want ≤ (run_at runs j).len → (run_at runs place).len < (run_at runs j).len
+-- no address of one run is in the other
+abbrev pub IsClear : Run → Run → Type 0
+IsClear run other = (other.at + other.len ≤ run.at) ⊎ (run.at + run.len ≤ other.at)
 
--- none of the first `end` runs has `want` addresses
-abbrev pub NoneFits : List Run → ℕ → ℕ → Type 0
-NoneFits runs want end = (j : ℕ) → j < end → (run_at runs j).len < want
+-- the wider run has the addresses of the run and of those that were taken out
+pub record IsWidened (old new : List Run) (run wide : Run) : Type 0 where
+  pub spread : (high : ℕ) → IsSpread 0 old high → IsSpread 0 new high
+  pub given : (a : ℕ) → (in_runs new a || in_run wide.at wide.len a) ≡ (in_runs old a || in_run run.at run.len a)
+  pub some : run.len ≤ wide.len
+  pub inside : (high : ℕ) → run.at + run.len < high → IsSpread 0 old high → wide.at + wide.len < high
+
+-- the run has `want` addresses, and each other that has as many is longer, or as long and not below it
+pub record IsShortest (runs : List Run) (want : ℕ) (run : Run) : Type 0 where
+  pub kept : Contains runs run
+  pub fits : want ≤ run.len
+  pub least : (other : Run) → Contains runs other → want ≤ other.len → (run.len < other.len) ⊎ ((run.len ≡ other.len) × (run.at ≤ other.at))
+
+-- both lists have the same runs
+pub record IsSame (xs ys : List Run) : Type 0 where
+  pub long : length ys ≡ length xs
+  pub there : (run : Run) → Contains xs run → Contains ys run
+  pub back : (run : Run) → Contains ys run → Contains xs run

@@ -3,21 +3,32 @@
 //! kept. What the addresses hold is left to the caller.
 #![tactic(auto)]
 
-ghost use Rattle.std.specs.Prelude.{◌≡◌, ℕ, ◌+◌, ◌<◌, ◌≤◌, ◌||◌, ◌&&◌, nat_lt, not, IfOk, OnOk, OnErr, MatchOption, MatchResult};
+ghost use Rattle.std.specs.Prelude.{◌≡◌, ℕ, ◌+◌, ◌<◌, ◌≤◌, ◌||◌, ◌&&◌, Some, codes, max, nat_lt, not, IfOk, OnOk, OnErr, MatchOption, MatchResult};
 ghost use Rattle.run_alloc.specs.Free.{is_free, in_run, AllFree, NoneFree, IsPlace, NoPlace};
 
-use runs::{Run, carve, join, place_of, shortest};
+use cuts::carve;
+use joins::join;
+use order::Run;
+use runs::Runs;
 use std::alloc::{AllocError, Global};
 use std::fmt;
 use std::marker::Model;
 
+mod chunk;
+mod chunks;
+mod cuts;
+mod joins;
+mod order;
 mod runs;
+mod shelf;
 
 /// No free run has the length that was asked for.
 #[derive(Clone, Copy, Debug, PartialEq, Eq)]
 pub struct NoRun;
 
 impl fmt::Display for NoRun {
+    ghost output = { λ _. Some (codes "no free run is long enough") };
+
     fn fmt<W: fmt::Write>(&self, f: &mut fmt::Formatter<W>) -> fmt::Result {
         f.write_str("no free run is long enough")
     }
@@ -26,12 +37,12 @@ impl fmt::Display for NoRun {
 /// The free addresses of a space, which begins with all of them free.
 #[derive(Debug, Drop)]
 pub struct FreeRuns {
-    runs: Vec<Run>,
+    kept: Runs,
     size: u32,
 }
 
 impl Model for FreeRuns {
-    ghost use Rattle.std.specs.Prelude.{◌-◌, ◌+◌, ◌<◌, ◌^◌, vec_len, vec_capacity};
+    ghost use Rattle.std.specs.Prelude.{◌+◌};
     ghost use Rattle.run_alloc.specs.Free.{Space, space_code};
 
     ghost Value = { Space };
@@ -40,9 +51,9 @@ impl Model for FreeRuns {
 
     ghost use Rattle.run_alloc.specs.Runs.{free_set, IsSpread};
 
-    ghost view = { λ r. record { size = r.size; free = free_set r.runs.items; spare = vec_capacity r.runs - vec_len r.runs } };
+    ghost view = { λ r. record { size = r.size; free = free_set r.kept.runs; spare = r.kept.spare } };
 
-    ghost invariant = { λ r. IsSpread 0 r.runs.items (r.size + 1) };
+    ghost invariant = { λ r. IsSpread 0 r.kept.runs (r.size + 1) };
 }
 
 impl FreeRuns {
@@ -50,12 +61,14 @@ impl FreeRuns {
     pub fn new(alloc: Global, size: u32) -> Result<Self, AllocError>
         ensures size { IfOk result (λ space. space.size ≡ size) }
         ensures free { IfOk result (λ space. (a : ℕ) → is_free space a ≡ nat_lt a size) }
+        ensures most { IfOk result (λ space. space.spare ≤ 1) }
     {
-        let mut runs = Vec::new(alloc);
+        let mut kept = Runs::new(alloc)?;
+        kept.reserve(1)?;
         if size > 0 {
-            runs.push(Run { at: 0, len: size })?;
+            kept.add(Run { at: 0, len: size });
         }
-        Ok(Self { runs, size })
+        Ok(Self { kept, size })
     }
 
     /// Makes room for `n` calls of `give` or `take_at`.
@@ -64,8 +77,10 @@ impl FreeRuns {
         ensures free { self.new.free ≡ self.old.free }
         ensures spare { self.old.spare ≤ self.new.spare }
         ensures ok { OnOk result (n ≤ self.new.spare) }
+        ensures most { self.new.spare ≤ max self.old.spare n }
+        ensures err { OnErr result (self.new.spare ≡ self.old.spare) }
     {
-        self.runs.reserve(n as usize)
+        self.kept.reserve(n)
     }
 
     /// The address that `take` would give.
@@ -74,8 +89,8 @@ impl FreeRuns {
         ensures { MatchOption result (NoPlace self.now.size (is_free self.now) len)
             (IsPlace self.now.size (is_free self.now) len) }
     {
-        let place = shortest(&self.runs, len)?;
-        Some(self.runs[place].at)
+        let run = self.kept.shortest(len)?;
+        Some(run.at)
     }
 
     /// Takes the first `len` addresses of the shortest free run that has as many, the lowest on a
@@ -88,13 +103,13 @@ impl FreeRuns {
         ensures none { OnErr result (self.new.free ≡ self.old.free) }
         ensures size { self.new.size ≡ self.old.size }
         ensures spare { self.old.spare ≤ self.new.spare }
+        ensures most { self.new.spare ≤ self.old.spare + 1 }
     {
-        let Some(place) = shortest(&self.runs, len) else {
+        let Some(run) = self.kept.shortest(len) else {
             return Err(NoRun);
         };
-        let at = self.runs[place].at;
-        carve(&mut self.runs, place, at, len);
-        Ok(at)
+        carve(&mut self.kept, run, run.at, len);
+        Ok(run.at)
     }
 
     /// Takes the run of `len` addresses from `at` on. A run of no addresses changes nothing.
@@ -104,10 +119,13 @@ impl FreeRuns {
         ensures taken { (a : ℕ) → is_free self.new a ≡ (is_free self.old a && not (in_run at len a)) }
         ensures size { self.new.size ≡ self.old.size }
         ensures spare { self.old.spare ≤ self.new.spare + 1 }
+        ensures most { self.new.spare ≤ self.old.spare + 1 }
     {
         if len > 0 {
-            let place = place_of(&self.runs, at) - 1;
-            carve(&mut self.runs, place, at, len);
+            match self.kept.last_to(at) {
+                Some(run) => carve(&mut self.kept, run, at, len),
+                None => unreachable!(),
+            }
         }
     }
 
@@ -119,9 +137,10 @@ impl FreeRuns {
         ensures given { (a : ℕ) → is_free self.new a ≡ (is_free self.old a || in_run at len a) }
         ensures size { self.new.size ≡ self.old.size }
         ensures spare { self.old.spare ≤ self.new.spare + 1 }
+        ensures most { self.new.spare ≤ self.old.spare + 1 }
     {
         if len > 0 {
-            join(&mut self.runs, at, len);
+            join(&mut self.kept, Run { at, len });
         }
     }
 }
@@ -141,7 +160,7 @@ mod tests {
         space.give(0, 10);
         assert_eq!(rt; space.take(7), Ok(0));
         space.take_at(8, 1);
-        assert_eq!(rt; space.fits(1), Some(7));
+        assert_eq!(rt; (space.fits(1), space.fits(2)), (Some(7), None));
         assert_eq!(rt;
             format!(in rt.alloc(); "{NoRun}")?.as_str(),
             "no free run is long enough"

@@ -1,126 +1,119 @@
-// Maximal runs in the order of their addresses.
-ghost use Rattle.std.specs.Prelude.{true, false, ◌≡◌, ◌≢◌, ℕ, ◌+◌, ◌-◌, ◌<◌, ◌≤◌, ◌⊎◌, ◌^◌, ◌||◌, ◌&&◌, not, length, take, drop, vec_len, vec_capacity, MatchOption};
-ghost use Rattle.run_alloc.specs.Free.{in_run, NoneFree};
-ghost use Rattle.run_alloc.specs.Runs.{in_runs, IsSpread, run_at, IsCut, IsJoined, IsPlaceOf, IsShortest, NoneFits};
+// Runs with gaps between them, searched by their addresses and by their lengths.
+ghost use Rattle.std.specs.Prelude.{◌≡◌, ◌≢◌, ◌+◌, ◌<◌, ◌≤◌, ◌^◌, [], max, MatchOption, IfOk, OnOk, OnErr};
+ghost use Rattle.std.specs.List.{All, Contains};
+ghost use Rattle.run_alloc.specs.Runs.{IsSpread, IsApart, IsShortest, IsCut, IsJoined};
+ghost use Rattle.run_alloc.specs.Shelves.{Adds, IsLastBelow};
 
-/// The `len` addresses from `at` on.
-#[derive(Clone, Copy, Debug, PartialEq, Eq)]
-pub struct Run {
-    pub at: u32,
-    pub len: u32,
+use crate::order::{Order, Run};
+use crate::shelf::Shelf;
+use std::alloc::{AllocError, Global};
+use std::marker::Model;
+
+/// Runs, and room for more.
+#[derive(Debug, Drop)]
+pub struct Runs {
+    by_address: Shelf,
+    by_length: Shelf,
+    spare: usize,
 }
 
-/// How many runs begin at or below `at`.
-pub fn place_of(runs: &[Run], at: u32) -> usize
-    requires { IsSpread 0 runs.now (2 ^ 32) }
-    ensures { IsPlaceOf runs.now at result }
-{
-    runs.partition_point(|run| run.at <= at)
+impl Model for Runs {
+    ghost use Rattle.run_alloc.specs.Kept.{Kept, IsPaired};
+
+    ghost Value = { Kept };
+
+    ghost view = { λ r. record { runs = r.by_address.runs; spare = r.spare } };
+
+    ghost invariant = { λ r. IsPaired r.by_address r.by_length r.spare };
 }
 
-/// The first of the shortest runs that have `len` addresses.
-pub fn shortest(runs: &[Run], len: u32) -> Option<usize>
-    ensures { MatchOption result (NoneFits runs.now len (length runs.now)) (IsShortest runs.now len (length runs.now)) }
-{
-    let mut best: Option<usize> = None;
-    'runs: for place in 0..runs.len() {
-        let shorter = match best {
-            Some(other) => runs[place].len < runs[other].len,
-            None => true,
-        };
-        if runs[place].len >= len && shorter {
-            best = Some(place);
+impl Runs {
+    /// No runs, and no room for any.
+    pub fn new(alloc: Global) -> Result<Self, AllocError>
+        ensures runs { IfOk result (λ kept. kept.runs ≡ []) }
+        ensures spare { IfOk result (λ kept. kept.spare ≡ 0) }
+    {
+        let by_address = Shelf::new(alloc, Order::Address)?;
+        let by_length = Shelf::new(alloc, Order::Length)?;
+        Ok(Self {
+            by_address,
+            by_length,
+            spare: 0,
+        })
+    }
+
+    /// Makes room for `n` more runs.
+    pub fn reserve(&mut self, n: u32) -> Result<(), AllocError>
+        ensures runs { self.new.runs ≡ self.old.runs }
+        ensures ok { OnOk result (self.new.spare ≡ max self.old.spare n) }
+        ensures err { OnErr result (self.new.spare ≡ self.old.spare) }
+    {
+        self.by_address.reserve(n)?;
+        self.by_length.reserve(n)?;
+        self.spare = self.spare.max(n as usize);
+        Ok(())
+    }
+
+    /// The shortest run that has `len` addresses, the lowest on a tie.
+    pub fn shortest(&self, len: u32) -> Option<Run>
+        ensures { MatchOption result (All (λ run. run.len < len) self.now.runs) (IsShortest self.now.runs len) }
+    {
+        self.by_length.first_from(u64::from(len) * (1 << 32))
+    }
+
+    /// The last run that begins at or below `at`.
+    pub fn last_to(&self, at: u32) -> Option<Run>
+        ensures last { MatchOption result (All (λ run. at + 1 ≤ run.at) self.now.runs) (IsLastBelow (λ run. run.at) self.now.runs (at + 1)) }
+        ensures spread { IsSpread 0 self.now.runs (2 ^ 32) }
+    {
+        self.by_address.last_below(u64::from(at) + 1)
+    }
+
+    /// The run that begins at `at`.
+    pub fn from(&self, at: u32) -> Option<Run>
+        ensures { MatchOption result (All (λ run. run.at ≢ at) self.now.runs) (λ run. Contains self.now.runs run × (run.at ≡ at)) }
+    {
+        let last = self.last_to(at)?;
+        if last.at == at { Some(last) } else { None }
+    }
+
+    /// The run that ends at `at`.
+    pub fn to(&self, at: u32) -> Option<Run>
+        ensures { MatchOption result (All (λ run. run.at + run.len ≢ at) self.now.runs) (λ run. Contains self.now.runs run × (run.at + run.len ≡ at)) }
+    {
+        let last = self.last_to(at)?;
+        if last.at + last.len == at {
+            Some(last)
+        } else {
+            None
         }
     }
-    best
-}
 
-/// Takes `len` addresses from `at` on out of the run at `place`, and keeps what stands before and
-/// behind them.
-pub fn carve(runs: &mut Vec<Run>, place: usize, at: u32, len: u32)
-    requires spread { IsSpread 0 runs.old.items (2 ^ 32) }
-    requires in_range { place < vec_len runs.old }
-    requires some { 0 < len }
-    requires begins { (run_at runs.old.items place).at ≤ at }
-    requires ends { at + len ≤ (run_at runs.old.items place).at + (run_at runs.old.items place).len }
-    requires room { ((run_at runs.old.items place).at ≡ at) ⊎ (vec_len runs.old < vec_capacity runs.old) }
-    ensures cut { IsCut runs.old.items runs.new.items at len }
-    ensures len { vec_len runs.new ≤ vec_len runs.old + 1 }
-    ensures whole { (run_at runs.old.items place).at ≡ at → vec_len runs.new ≤ vec_len runs.old }
-    ensures capacity { vec_capacity runs.new ≡ vec_capacity runs.old }
-{
-    let run = runs[place];
-    let front = Run {
-        at: run.at,
-        len: at - run.at,
-    };
-    let behind = Run {
-        at: at + len,
-        len: run.len - front.len - len,
-    };
-    if front.len > 0 {
-        runs[place] = front;
-        if behind.len > 0 {
-            match runs.insert(place + 1, behind) {
-                Ok(()) => {}
-                Err(_) => unreachable!(),
-            }
-        }
-    } else if behind.len > 0 {
-        runs[place] = behind;
-    } else {
-        runs.remove(place);
+    /// Adds a run that touches none. It takes no memory.
+    pub fn add(&mut self, run: Run)
+        requires apart { All (IsApart run) self.old.runs }
+        requires some { 0 < run.len }
+        requires inside { run.at + run.len < 2 ^ 32 }
+        requires room { 0 < self.old.spare }
+        ensures adds { Adds self.old.runs self.new.runs run }
+        ensures joined { IsJoined self.old.runs self.new.runs run.at run.len }
+        ensures spare { self.new.spare + 1 ≡ self.old.spare }
+    {
+        self.by_address.insert(run);
+        self.by_length.insert(run);
+        self.spare -= 1;
     }
-}
 
-/// Adds a run, joined with the neighbours that it touches.
-pub fn join(runs: &mut Vec<Run>, at: u32, len: u32)
-    requires spread { IsSpread 0 runs.old.items (2 ^ 32) }
-    requires inside { at + len < 2 ^ 32 }
-    requires some { 0 < len }
-    requires apart { NoneFree (in_runs runs.old.items) at len }
-    requires room { vec_len runs.old < vec_capacity runs.old }
-    ensures joined { IsJoined runs.old.items runs.new.items at len }
-    ensures len { vec_len runs.new ≤ vec_len runs.old + 1 }
-    ensures capacity { vec_capacity runs.new ≡ vec_capacity runs.old }
-{
-    let place = place_of(runs, at);
-    let len = len + absorb(runs, place, at + len);
-    if meets(runs, place, at) {
-        runs[place - 1].len += len;
-        return;
+    /// Takes a run out.
+    pub fn remove(&mut self, run: Run)
+        requires kept { Contains self.old.runs run }
+        ensures adds { Adds self.new.runs self.old.runs run }
+        ensures cut { IsCut self.old.runs self.new.runs run.at run.len }
+        ensures apart { All (IsApart run) self.new.runs }
+        ensures spare { self.new.spare ≡ self.old.spare + 1 }
+    {
+        self.by_address.remove(run);
+        self.by_length.remove(run);
+        self.spare += 1;
     }
-    match runs.insert(place, Run { at, len }) {
-        Ok(()) => {}
-        Err(_) => unreachable!(),
-    }
-}
-
-/// Whether the run before `place` ends at `at`.
-fn meets(runs: &[Run], place: usize, at: u32) -> bool
-    requires in_range { place ≤ length runs.now }
-    requires fits { (j : ℕ) → j < place → (run_at runs.now j).at + (run_at runs.now j).len < 2 ^ 32 }
-    ensures meets { result ≡ true → (0 < place) × ((run_at runs.now (place - 1)).at + (run_at runs.now (place - 1)).len ≡ at) }
-    ensures apart { result ≡ false → 0 < place → (run_at runs.now (place - 1)).at + (run_at runs.now (place - 1)).len ≢ at }
-{
-    if place == 0 {
-        return false;
-    }
-    let last = runs[place - 1];
-    last.at + last.len == at
-}
-
-/// Takes the run at `place` out where it begins at `end`, and gives its length, or 0.
-fn absorb(runs: &mut Vec<Run>, place: usize, end: u32) -> u32
-    ensures before { take place runs.new.items ≡ take place runs.old.items }
-    ensures spread { (high : ℕ) → IsSpread end (drop place runs.old.items) high → end < high
-        → IsSpread (end + result + 1) (drop place runs.new.items) high }
-    ensures given { (a : ℕ) → in_runs (drop place runs.old.items) a ≡ (in_run end result a || in_runs (drop place runs.new.items) a) }
-    ensures len { vec_len runs.new ≤ vec_len runs.old }
-    ensures capacity { vec_capacity runs.new ≡ vec_capacity runs.old }
-{
-    if place < runs.len() && runs[place].at == end {
-        return runs.remove(place).len;
-    }
-    0
 }

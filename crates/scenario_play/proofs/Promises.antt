@@ -5,14 +5,14 @@ use Rattle.std.proofs.lemmas.Grind.{common_steps}
 use Rattle.group_types.specs.Dimensions.{Dimensions}
 use Rattle.group_types.specs.declared.process.ProcessId.{ProcessId}
 use Rattle.memc_table.specs.Contents.{Contents, table_after, reply_of}
-use Rattle.memc_table.specs.Log.{IsLegal, IsLegalFrom}
+use Rattle.group_calls.specs.Log.{IsLegal, IsLegalFrom}
 use Rattle.memc_table.specs.Asked.{Asked}
-use Rattle.memc_table.specs.Turns.{Turn, CallName, log_of, asks_in, entry_of}
-use Rattle.memc_table.specs.declared.entry.Entry.{Entry}
-use Rattle.memc_table.specs.declared.event.Answer.TheVariants as answered
+use Rattle.group_calls.specs.Turns.{Turn, CallName, log_of, asks_in, entry_of}
+use Rattle.group_calls.specs.declared.entry.Entry.{Entry}
+use Rattle.group_calls.specs.declared.event.Answer.TheVariants as answered
 use Rattle.memc_table.specs.declared.reply.Reply.{Reply}
 use Rattle.memc_table.specs.declared.act.Act.{Act}
-use Rattle.memc_table.specs.declared.event.Event.TheVariants as event
+use Rattle.group_calls.specs.declared.event.Event.TheVariants as event
 use Rattle.scenario_text.specs.Meaning.{line_of}
 use Rattle.scenario_text.specs.declared.line.Line.{Line}
 use Rattle.scenario_text.specs.declared.line.Line.TheVariants.{Skipped, Group, Ask, Stop}

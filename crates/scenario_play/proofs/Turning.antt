@@ -2,12 +2,12 @@ use Rattle.std.proofs.Common.{zero, suc, ◌≡◌, ℕ, ◌+◌, ◌<◌, ◌�
 use Rattle.std.proofs.lemmas.List.Elements.{Contains-append_cases}
 use Rattle.std.proofs.lemmas.Option.{slice_get_within, get_or_from_slice_get}
 use Rattle.memc_table.specs.Asked.{Asked}
-use Rattle.memc_table.specs.Turns.{Turn, CallName, log_of, asks_in, asks_of, name_of, entry_of}
-use Rattle.memc_table.specs.Within.{AnswersWithin, IsTaken, Fetches, Traces}
-use Rattle.memc_table.specs.declared.entry.Entry.{Entry}
-use Rattle.memc_table.specs.declared.event.Answer.TheVariants as answered
-use Rattle.memc_table.specs.declared.event.Event.{Event}
-use Rattle.memc_table.specs.declared.event.Event.TheVariants.{Ask}
+use Rattle.group_calls.specs.Turns.{Turn, CallName, log_of, asks_in, asks_of, name_of, entry_of}
+use Rattle.group_calls.specs.Within.{AnswersWithin, IsTaken, Fetches, Traces}
+use Rattle.group_calls.specs.declared.entry.Entry.{Entry}
+use Rattle.group_calls.specs.declared.event.Answer.TheVariants as answered
+use Rattle.group_calls.specs.declared.event.Event.{Event}
+use Rattle.group_calls.specs.declared.event.Event.TheVariants.{Ask}
 use Rattle.memc_table.specs.declared.reply.Reply.{Reply}
 use Rattle.group_types.specs.declared.process.ProcessId.{ProcessId}
 

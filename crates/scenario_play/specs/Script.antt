@@ -1,9 +1,9 @@
 use Rattle.std.specs.Prelude.{◌≡◌, ℕ, ◌+◌, ◌==◌, List, [], ◌∷◌, ◌++◌, Option, Some, None, option_map, if◌then◌else◌}
 use Rattle.group_types.specs.Dimensions.{Dimensions}
-use Rattle.memc_table.specs.Log.{IsLegal}
-use Rattle.memc_table.specs.Turns.{Turn, log_of}
-use Rattle.memc_table.specs.Within.{AnswersWithin}
-use Rattle.memc_table.specs.declared.entry.Entry.{Entry}
+use Rattle.group_calls.specs.Log.{IsLegal}
+use Rattle.group_calls.specs.Turns.{Turn, log_of}
+use Rattle.group_calls.specs.Within.{AnswersWithin}
+use Rattle.group_calls.specs.declared.entry.Entry.{Entry}
 use Rattle.scenario_text.specs.Meaning.{line_of}
 use Rattle.scenario_text.specs.Texts.{answer_text, entry_text}
 use Rattle.scenario_text.specs.declared.line.Line.{Line}

@@ -6,13 +6,13 @@ use Rattle.group_types.specs.declared.process.ProcessId.TheVariants.{DataNode, P
 use Rattle.memc_table.specs.Act.{key_of}
 use Rattle.memc_table.specs.Asked.{Asked}
 use Rattle.memc_table.specs.Contents.{Contents, empty_table, reply_of, table_after}
-use Rattle.memc_table.specs.Turns.{Turn, entry_of}
+use Rattle.group_calls.specs.Turns.{Turn, entry_of}
 use Rattle.memc_table.specs.declared.act.Act.{Act}
 use Rattle.memc_table.specs.declared.act.Act.TheVariants.{Set}
-use Rattle.memc_table.specs.declared.entry.Entry.{Entry}
-use Rattle.memc_table.specs.declared.event.Answer.{Answer}
-use Rattle.memc_table.specs.declared.event.Answer.TheVariants.{Reply, Moved}
-use Rattle.memc_table.specs.declared.event.Event.TheVariants.{Ask}
+use Rattle.group_calls.specs.declared.entry.Entry.{Entry}
+use Rattle.group_calls.specs.declared.event.Answer.{Answer}
+use Rattle.group_calls.specs.declared.event.Answer.TheVariants.{Reply, Moved}
+use Rattle.group_calls.specs.declared.event.Event.TheVariants.{Ask}
 
 -- a group without parity processes: its table, how many calls each caller made, and how many bytes
 -- the sets brought that named each process

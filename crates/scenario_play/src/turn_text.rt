@@ -2,7 +2,7 @@ ghost use Rattle.std.specs.Prelude.{◌≡◌, ◌++◌, ◌∷◌, [], IfOk};
 ghost use Rattle.scenario_text.specs.Texts.{answer_text};
 ghost use Rattle.scenario_play.specs.Script.{entries_text};
 
-use memc_table::{Answer, Entry};
+use group_calls::{Answer, Entry};
 use scenario_text::write_answer::write_answer;
 use scenario_text::write_entry::write_entry;
 use std::alloc::{AllocError, Global};

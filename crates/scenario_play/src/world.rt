@@ -3,12 +3,13 @@ ghost use Rattle.group_types.specs.Dimensions.{space_of};
 ghost use Rattle.memc_table.specs.Act.{key_of};
 ghost use Rattle.memc_table.specs.Contents.{count_of, reply_of, table_after};
 ghost use Rattle.memc_table.specs.Table.{contents};
-ghost use Rattle.memc_table.specs.Turns.{entry_of};
+ghost use Rattle.group_calls.specs.Turns.{entry_of};
 ghost use Rattle.scenario_text.specs.Meaning.{IsProcessOf};
 ghost use Rattle.scenario_play.specs.World.{bytes_of, op_of, bytes_at, bytes_after, IsIndexOf, new_world};
 
+use group_calls::{Answer, Entry};
 use group_types::{ProcessId, Shape, home};
-use memc_table::{Act, Answer, Entry, Op, Table};
+use memc_table::{Act, Op, Table};
 use std::alloc::{AllocError, Global};
 
 /// A group without parity processes, with the calls that each caller made, the bytes that sets

@@ -3,11 +3,11 @@ use Rattle.std.specs.Fmt.{decimal, signed_decimal}
 use Rattle.hex.specs.Hex.{encode_lower}
 use Rattle.memc_table.specs.declared.act.Act.{Act}
 use Rattle.memc_table.specs.declared.act.Act.TheVariants.{Get, Set, Add, Replace, Cas, Delete, Touch, Append, Prepend, Incr, Decr}
-use Rattle.memc_table.specs.declared.entry.Entry.{Entry}
-use Rattle.memc_table.specs.declared.event.Answer.{Answer}
-use Rattle.memc_table.specs.declared.event.Answer.TheVariants as answered
-use Rattle.memc_table.specs.declared.event.Cause.{Cause}
-use Rattle.memc_table.specs.declared.event.Cause.TheVariants.{Pending, Block}
+use Rattle.group_calls.specs.declared.entry.Entry.{Entry}
+use Rattle.group_calls.specs.declared.event.Answer.{Answer}
+use Rattle.group_calls.specs.declared.event.Answer.TheVariants as answered
+use Rattle.group_calls.specs.declared.event.Cause.{Cause}
+use Rattle.group_calls.specs.declared.event.Cause.TheVariants.{Pending, Block}
 use Rattle.memc_table.specs.declared.reply.Reply.{Reply}
 use Rattle.memc_table.specs.declared.reply.Reply.TheVariants.{Value, Miss, Stored, NotStored, Exists, NotFound, Deleted, Touched, Number, NotNumber, TooLarge}
 

@@ -1,6 +1,7 @@
 ghost use Rattle.std.specs.Prelude.{◌≡◌, ◌+◌, ◌*◌, ◌≤◌, [], length, replicate, IfOk, OnOk, OnErr};
+ghost use Rattle.std.specs.List.Sorted.{IsStrictlyIncreasing};
 ghost use Rattle.group_types.specs.Dimensions.{space_of};
-ghost use Rattle.group_run.specs.Code.{added_at, bytes_in};
+ghost use Rattle.erasure_code.specs.Spaces.{added_at, bytes_at};
 ghost use Rattle.field_byte.specs.Vectors.{add_bytes};
 ghost use Rattle.page_map.specs.Pages.{HasPages, SameDimensions, numbers_in};
 ghost use Rattle.page_map.specs.Spaces.{AllMade, LiesIn, MakesOnly, bytes_of};
@@ -42,9 +43,10 @@ impl ValueSpace {
         })
     }
 
-    /// How many pages were made.
+    /// How many pages were made. No two are of one block.
     pub fn made(&self) -> u32
-        ensures { result ≡ length self.now.made }
+        ensures count { result ≡ length self.now.made }
+        ensures rising { IsStrictlyIncreasing self.now.made }
     {
         self.pages.made()
     }
@@ -56,6 +58,7 @@ impl ValueSpace {
         ensures bytes { self.new.bytes ≡ self.old.bytes }
         ensures ready { OnOk result (AllMade self.new.shape.block run self.new.made) }
         ensures made { OnOk result (MakesOnly self.old.shape.block run self.old.made self.new.made) }
+        ensures rising { OnOk result (IsStrictlyIncreasing self.new.made) }
         ensures err { OnErr result (self.new ≡ self.old) }
     {
         self.pages.reserve(run.at, run.len)
@@ -76,19 +79,17 @@ impl ValueSpace {
     /// The bytes of the run.
     pub fn copy(&self, run: Run) -> Result<ByteList, AllocError>
         requires { LiesIn run self.now.shape }
-        ensures bytes { IfOk result (λ bytes. bytes ≡ bytes_in run self.now.bytes) }
+        ensures bytes { IfOk result (λ bytes. bytes ≡ bytes_at run.at run.len self.now.bytes) }
         ensures length { IfOk result (λ bytes. length bytes ≡ run.len) }
     {
-        let mut bytes = vec![in self.pages.alloc(); 0u8; run.len as usize]?;
-        self.pages.read_into(run.at, &mut bytes);
-        Ok(ByteList::from(bytes))
+        self.pages.range(run.at, run.len)
     }
 
     /// What has to be added to the bytes of the run to make them this value.
     pub fn delta_for(&self, run: Run, value: &Payload) -> Result<Payload, AllocError>
         requires within { LiesIn run self.now.shape }
         requires length { length value.now ≡ run.len }
-        ensures { IfOk result (λ delta. delta ≡ add_bytes value.now (bytes_in run self.now.bytes)) }
+        ensures { IfOk result (λ delta. delta ≡ add_bytes value.now (bytes_at run.at run.len self.now.bytes)) }
     {
         let mut bytes = Vec::from(self.copy(run)?);
         xor_into(value.bytes(), &mut bytes);
@@ -103,7 +104,7 @@ fn add(pages: &mut Pages, at: u32, bytes: &[u8])
     ensures made { numbers_in pages.new ≡ numbers_in pages.old }
     ensures dimensions { SameDimensions pages.old pages.new }
 {
-    pages.add_product(at, 1, bytes);
+    pages.add(at, None, bytes);
 }
 
 #[cfg(test)]

@@ -1,11 +1,13 @@
-ghost use Rattle.std.specs.Prelude.{◌≡◌, ℕ, ◌+◌, ◌-◌, ◌≤◌, ◌||◌, ◌&&◌, not, [], ◌∷◌, length, drop, List, IfSome};
+ghost use Rattle.std.specs.Prelude.{◌≡◌, ℕ, ◌+◌, ◌-◌, ◌≤◌, ◌||◌, ◌&&◌, not, [], ◌∷◌, length, drop, Bool, List, IfSome};
+ghost use Rattle.std.specs.Option.{option_to_list};
 ghost use Rattle.std.specs.List.{slice_get};
 ghost use Rattle.group_types.specs.Dimensions.{space_of};
-ghost use Rattle.group_run.specs.Lists.{any, same_key};
+ghost use Rattle.std.specs.List.{list_any};
+ghost use Rattle.group_types.specs.Lists.{same_key};
 ghost use Rattle.group_run.specs.Replica.{applied_to, last_of, with_log, with_update};
 ghost use Rattle.request_log.specs.Logged.{IsNumbered};
-ghost use Rattle.partition_replica.specs.Coming.{AllCanCome, CanCome, Writes};
-ghost use Rattle.partition_replica.specs.State.{HasRoom, is_among, is_needed};
+ghost use Rattle.group_run.specs.Fitting.{AllCanCome, CanCome, Writes};
+ghost use Rattle.partition_replica.specs.State.{HasRoom, IsTidyBut, is_among, is_needed, is_touched};
 
 use super::Replica;
 use crate::items;
@@ -22,13 +24,15 @@ impl Replica {
         ensures shape { self.new.shape ≡ self.old.shape }
         ensures replica { self.new.replica ≡ with_update update self.old.replica }
         ensures room { self.new.room ≡ record self.old.room { spare = self.old.room.spare - 1 } }
+        ensures owed { (owed : List ℕ → Bool) → IsTidyBut self.old owed → IsTidyBut self.new owed }
     {
         take_run(&mut self.runs, run_of(&update));
         self.spare -= 1;
         self.log.push(update);
     }
 
-    /// Settles the first update of the log, and hands it out. It takes no memory.
+    /// Settles the first update of the log, and hands it out. It takes no memory. The caller owes a
+    /// `tidy` of the update's key.
     pub fn settle_next(&mut self) -> Option<Update>
         ensures handed { result ≡ slice_get self.old.replica.log 0 }
         ensures number { IfSome result (λ u. u.number ≡ self.old.replica.applied + 1) }
@@ -36,6 +40,7 @@ impl Replica {
         ensures shape { self.new.shape ≡ self.old.shape }
         ensures replica { self.new.replica ≡ applied_to (self.old.replica.applied + 1) self.old.replica }
         ensures room { self.new.room ≡ self.old.room }
+        ensures owed { (owed : List ℕ → Bool) → IsTidyBut self.old owed → IsTidyBut self.new (λ q. owed q || is_touched (option_to_list result) q) }
     {
         let update = self.log.apply_next()?;
         items::settle(&mut self.index, &update);
@@ -61,7 +66,8 @@ impl Replica {
         ensures replica { self.new.replica ≡ with_log (drop (self.old.replica.applied - base) list) self.old.replica }
         ensures spare { self.new.room.spare ≡ 0 }
         ensures ready { (q : List ℕ) → is_among self.new.room.ready q ≡ (is_among self.old.room.ready q
-            && (not (any (λ u. same_key u.key q) self.old.replica.log) || is_needed self.new.replica.items self.new.replica.log q)) }
+            && (not (list_any (λ u. same_key u.key q) self.old.replica.log) || is_needed self.new.replica.items self.new.replica.log q)) }
+        ensures owed { (owed : List ℕ → Bool) → IsTidyBut self.old owed → IsTidyBut self.new owed }
     {
         let dropped = self.log.adopt(base, Taken::new(Vec::from(list)));
         give_runs(&mut self.runs, dropped.as_slice());

@@ -1,6 +1,6 @@
-ghost use Rattle.std.specs.Prelude.{◌≡◌, ℕ, ◌+◌, ◌*◌, ◌||◌, ◌&&◌, not, [], ◌∷◌, length, List, IfOk, OnOk};
-ghost use Rattle.group_run.specs.Lists.{same_key};
-ghost use Rattle.partition_replica.specs.State.{HasRoom, is_among, is_needed};
+ghost use Rattle.std.specs.Prelude.{◌≡◌, ℕ, ◌+◌, ◌*◌, ◌||◌, ◌&&◌, not, [], ◌∷◌, length, Bool, List, IfOk, OnOk, OnErr};
+ghost use Rattle.group_types.specs.Lists.{same_key};
+ghost use Rattle.partition_replica.specs.State.{GrowsFor, HasRoom, IsTidyBut, is_among, is_needed, is_touched};
 
 use super::Replica;
 use crate::items;
@@ -12,22 +12,29 @@ use std::alloc::AllocError;
 use std::slice;
 
 impl Replica {
-    /// Makes room to receive an update, to settle it and to drop it.
+    /// Makes room to receive an update, to settle it and to drop it. The caller owes a `tidy` of the
+    /// update's key once its step is done.
     pub fn reserve(&mut self, update: &Update) -> Result<(), AllocError>
         ensures shape { self.new.shape ≡ self.old.shape }
         ensures replica { self.new.replica ≡ self.old.replica }
         ensures ok { OnOk result (HasRoom self.new.room (update.now ∷ [])) }
         ensures kept { (us : List Update) → HasRoom self.old.room us → HasRoom self.new.room us }
+        ensures most { GrowsFor self.old.room self.new.room (update.now ∷ []) }
+        ensures owed { (owed : List ℕ → Bool) → IsTidyBut self.old owed → IsTidyBut self.new (λ q. owed q || is_touched (update.now ∷ []) q) }
+        ensures err { OnErr result (self.new.room.spare ≡ self.old.room.spare) }
     {
         self.reserve_all(slice::from_ref(update))
     }
 
-    /// Makes room for all updates of a list.
+    /// Makes room for all updates of a list. The caller owes a `tidy` of each key.
     pub fn reserve_list(&mut self, list: &UpdateList) -> Result<(), AllocError>
         ensures shape { self.new.shape ≡ self.old.shape }
         ensures replica { self.new.replica ≡ self.old.replica }
         ensures ok { OnOk result (HasRoom self.new.room list.now) }
         ensures kept { (us : List Update) → HasRoom self.old.room us → HasRoom self.new.room us }
+        ensures most { GrowsFor self.old.room self.new.room list.now }
+        ensures owed { (owed : List ℕ → Bool) → IsTidyBut self.old owed → IsTidyBut self.new (λ q. owed q || is_touched list.now q) }
+        ensures err { OnErr result (self.new.room.spare ≡ self.old.room.spare) }
     {
         self.reserve_all(list.updates())
     }
@@ -37,6 +44,8 @@ impl Replica {
         ensures replica { self.new.replica ≡ self.old.replica }
         ensures ok { OnOk result (HasRoom self.new.room updates.now) }
         ensures kept { (us : List Update) → HasRoom self.old.room us → HasRoom self.new.room us }
+        ensures most { GrowsFor self.old.room self.new.room updates.now }
+        ensures err { OnErr result (self.new.room.spare ≡ self.old.room.spare) }
     {
         let count = u32::try_from(updates.len()).map_err(|_| AllocError)?;
         let spare = self.spare.max(count);
@@ -55,6 +64,7 @@ impl Replica {
         ensures spare { self.new.room.spare ≡ self.old.room.spare }
         ensures ready { (q : List ℕ) → is_among self.new.room.ready q ≡ (is_among self.old.room.ready q
             && (not (same_key key.now q) || is_needed self.old.replica.items self.old.replica.log q)) }
+        ensures owed { (owed : List ℕ → Bool) → IsTidyBut self.old owed → IsTidyBut self.new (λ q. owed q && not (same_key key.now q)) }
     {
         items::tidy(&mut self.index, &self.log, key);
     }

@@ -1,6 +1,6 @@
 use Rattle.std.proofs.Common.{◌<◌, get_or, bit_xor, sym, ap, ◌∙◌, refl}
 use Rattle.field_byte.specs.Field.{product}
-use Rattle.group_run.specs.Code.{coefficient}
+use Rattle.erasure_code.specs.Code.{coefficient}
 use Rattle.group_types.proofs.Places.{number_at}
 use Rattle.cauchy_code.specs.Solving.{row_coefficient}
 use Rattle.cauchy_code.proofs.Terms.{sum_none, number_holds, weight_more}

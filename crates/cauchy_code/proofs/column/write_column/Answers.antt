@@ -1,19 +1,17 @@
-use Rattle.std.proofs.Common.{◌≡◌, ℕ, ◌<◌, ◌≤◌, List, length, get_or, bit_xor, below_more, sym, ap, ◌∙◌, refl, arith}
+use Rattle.std.proofs.Common.{◌≡◌, ℕ, ◌≤◌, List, length, get_or, bit_xor, sym, ap, ◌∙◌, refl, arith}
 use Rattle.std.proofs.lemmas.List.{length-replicate}
 use Rattle.std.proofs.lemmas.List.Elements.{All-get_or}
 use Rattle.field_byte.proofs.Vectors.{length-add_scaled}
-use Rattle.field_matrix.specs.Grids.{entry}
 use Rattle.group_types.proofs.Places.{number_at}
 use Rattle.group_types.specs.declared.piece_list.Piece.{Piece}
-use Rattle.group_types.specs.Pieces.{contents_of, numbers_of}
-use Rattle.cauchy_code.specs.Solving.{rows_sum, known_sum, known_weight}
+use Rattle.group_types.specs.Pieces.{numbers_of}
+use Rattle.cauchy_code.specs.Solving.{pieces_sum, known_sum, known_weight}
 use Rattle.cauchy_code.proofs.Terms.{cleared, column_begun, content_at, number_holds, rows_more, known_more}
 use Rattle.cauchy_code.proofs.column.write_column.Goals as goal
 
 pub rows-init : goal.rows-init
 rows-init c = record {
   long = ap length c.clear.ensures ∙ length-replicate (length c.args.into.now) 0;
-  bytes = λ a below. absurd (omega (arith, below));
   sum = cleared c.clear.new.bytes (length c.args.into.now) (λ a. get_or c.args.weights.now a 0) c.args.rows.now c.clear.ensures;
 }
 
@@ -24,10 +22,8 @@ rows-preserved c =
     let long : length c.bytes.result.now ≡ length c.rows.into =
     ap length c.bytes.ensures ∙ (All-get_or (λ (p : Piece). length p.bytes ≡ length c.args.into.now) c.args.rows.now c.rows.a p c.rows-test.true c.requires.rows_long ∙ sym c.rows.invariant.long) in
     record {
-      bytes = below_more (λ a. (at : ℕ) → entry (contents_of c.args.rows.now) a at < 256) c.rows.a c.rows.invariant.bytes
-          (λ at. rw (content ∙ sym c.bytes.ensures) (c.add_multiple.ensures.bytes at));
-      long = ap length c.add_multiple.ensures.sum ∙ (length-add_scaled _ _ _ long ∙ c.rows.invariant.long);
-      sum = λ at. ap (λ (bytes : List ℕ). get_or bytes at 0) c.add_multiple.ensures.sum
+      long = ap length c.mul_add_into.ensures ∙ (length-add_scaled _ _ _ long ∙ c.rows.invariant.long);
+      sum = λ at. ap (λ (bytes : List ℕ). get_or bytes at 0) c.mul_add_into.ensures
           ∙ rows_more c.rows.a (λ a. get_or c.args.weights.now a 0) c.args.rows.now _ _ _ long refl (c.bytes.ensures ∙ sym content) c.rows.invariant.sum at;
     }
 
@@ -36,9 +32,7 @@ known-init c =
     let all : c.rows.a ≡ length c.args.rows.now = omega (arith, c.rows-test.false, c.rows.auto.a-end) in
     record {
       long = c.rows.invariant.long;
-      rows = λ a below. c.rows.invariant.bytes a (omega (arith, all, below));
-      bytes = λ j below. absurd (omega (arith, below));
-      sum = λ at. c.rows.invariant.sum at ∙ (ap (λ n. rows_sum n (λ a. get_or c.args.weights.now a 0) c.args.rows.now at) all
+      sum = λ at. c.rows.invariant.sum at ∙ (ap (λ n. pieces_sum n (λ a. get_or c.args.weights.now a 0) c.args.rows.now at) all
           ∙ column_begun c.args.m (λ a. get_or c.args.weights.now a 0) c.args.rows.now c.args.known.now at);
     }
 
@@ -59,13 +53,10 @@ known-preserved c =
     let number : p.number ≡ get_or (numbers_of c.args.known.now) c.known.piece-index 0 =
     ap (λ (p : Piece). p.number) is ∙ sym (number_at c.args.known.now c.known.piece-index p c.known-test.true) in
     record {
-      rows = c.known.invariant.rows;
-      bytes = below_more (λ j. (at : ℕ) → entry (contents_of c.args.known.now) j at < 256) c.known.piece-index c.known.invariant.bytes
-          (λ at. rw (content ∙ sym bytes) (c.add_multiple-in-known.ensures.bytes at));
-      long = ap length c.add_multiple-in-known.ensures.sum ∙ (length-add_scaled _ _ _ long ∙ c.known.invariant.long);
-      sum = λ at. ap (λ (bytes : List ℕ). get_or bytes at 0) c.add_multiple-in-known.ensures.sum
+      long = ap length c.mul_add_into-in-known.ensures ∙ (length-add_scaled _ _ _ long ∙ c.known.invariant.long);
+      sum = λ at. ap (λ (bytes : List ℕ). get_or bytes at 0) c.mul_add_into-in-known.ensures
           ∙ known_more c.known.piece-index c.args.m (λ a. get_or c.args.weights.now a 0) c.args.rows.now c.args.known.now _ _ _
-          (rows_sum (length c.args.rows.now) (λ a. get_or c.args.weights.now a 0) c.args.rows.now) long
+          (pieces_sum (length c.args.rows.now) (λ a. get_or c.args.weights.now a 0) c.args.rows.now) long
           (c.known_weight-weight.ensures ∙ ap (known_weight (length c.args.rows.now) c.args.m (λ a. get_or c.args.weights.now a 0) c.args.rows.now) number)
           (bytes ∙ sym content) c.known.invariant.sum at;
     }
@@ -73,9 +64,5 @@ known-preserved c =
 pub returns : goal.returns
 returns c =
     let all : c.known.piece-index ≡ length c.args.known.now = omega (arith, c.known-test.false, c.known.auto.piece-index-end) in
-    record {
-      sum = λ at. c.known.invariant.sum at
-          ∙ ap (λ n. bit_xor (rows_sum (length c.args.rows.now) (λ a. get_or c.args.weights.now a 0) c.args.rows.now at) (known_sum n c.args.m (λ a. get_or c.args.weights.now a 0) c.args.rows.now c.args.known.now at)) all;
-      row_bytes = λ a at below. c.known.invariant.rows a below at;
-      known_bytes = λ j at below. c.known.invariant.bytes j (omega (arith, all, below)) at;
-    }
+    λ at. c.known.invariant.sum at
+    ∙ ap (λ n. bit_xor (pieces_sum (length c.args.rows.now) (λ a. get_or c.args.weights.now a 0) c.args.rows.now at) (known_sum n c.args.m (λ a. get_or c.args.weights.now a 0) c.args.rows.now c.args.known.now at)) all

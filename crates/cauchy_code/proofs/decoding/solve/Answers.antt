@@ -1,79 +1,94 @@
-use Rattle.std.proofs.Common.{◌≡◌, ℕ, ◌<◌, ◌++◌, List, length, get_or, Contains, inl, inr, sym, ap, ◌∙◌, refl, arith}
-use Rattle.std.proofs.lemmas.Bool.{cases_eq}
+use Rattle.std.proofs.Common.{◌≡◌, ◌+◌, ◌<◌, ◌++◌, List, length, get_or, All, Contains, sym, ap, ◌∙◌, refl, arith}
 use Rattle.std.proofs.lemmas.List.Elements.{All-get_or}
 use Rattle.field_matrix.specs.Grids.{entry}
-use Rattle.group_types.specs.Pieces.{bytes_of, length_of, numbers_of, with_bytes}
+use Rattle.group_types.specs.Pieces.{HaveOneLength, length_of, numbers_of}
 use Rattle.group_types.specs.declared.piece_list.Piece.{Piece}
-use Rattle.group_types.proofs.Places.{bytes_kept, bytes_written, numbers_kept}
-use Rattle.cauchy_code.specs.Solving.{lost_byte}
-use Rattle.cauchy_code.proofs.Parts.{All-left, All-right, long_at, same_place}
+use Rattle.erasure_code.proofs.Lists.{All-left, All-right}
+use Rattle.cauchy_code.proofs.Parts.{long_at}
+use Rattle.cauchy_code.proofs.Progress.{is_there, one_written, two_written, weights_from}
 use Rattle.cauchy_code.proofs.Solutions.{lost_byte_same, solved_from}
 use Rattle.cauchy_code.proofs.decoding.solve.Goals as goal
 
+rows_have : (rows known out : List Piece) → HaveOneLength (rows ++ known ++ out) → All (λ p. length p.bytes ≡ length_of (rows ++ known ++ out)) rows
+rows_have rows known out long = All-left (λ (p : Piece). length p.bytes ≡ length_of (rows ++ known ++ out)) rows known (All-left (λ (p : Piece). length p.bytes ≡ length_of (rows ++ known ++ out)) (rows ++ known) out long)
+
+known_have : (rows known out : List Piece) → HaveOneLength (rows ++ known ++ out) → All (λ p. length p.bytes ≡ length_of (rows ++ known ++ out)) known
+known_have rows known out long = All-right (λ (p : Piece). length p.bytes ≡ length_of (rows ++ known ++ out)) rows known (All-left (λ (p : Piece). length p.bytes ≡ length_of (rows ++ known ++ out)) (rows ++ known) out long)
+
 pub columns-init : goal.columns-init
 columns-init g c = record {
+  within = omega arith;
   numbers = refl;
-  long = λ b below. long_at (c.args.rows.now ++ c.args.known.now) c.args.out.now (get_or c.args.lost.now b 0) c.requires.long
-      (All-get_or (λ d. Contains (numbers_of c.args.out.now) d) c.args.lost.now b 0 (omega (arith, c.requires.lost, below)) c.requires.out);
-  bytes = λ some. absurd (omega (arith, some));
-  columns = λ b at below. absurd (omega (arith, below));
+  long = λ i below. long_at (c.args.rows.now ++ c.args.known.now) c.args.out.now (get_or c.args.lost.now i 0) c.requires.long
+      (All-get_or (λ d. Contains (numbers_of c.args.out.now) d) c.args.lost.now i 0 below c.requires.out);
+  columns = λ i at below. absurd (omega (arith, below));
+  kept = λ i p apart. refl;
 }
+
+pub write_two-requires-clause-d : goal.write_two-requires-clause-d
+write_two-requires-clause-d g c =
+    is_there _ _ c.args.lost.now c.args.rows.now c.args.known.now c.args.out.now (entry c.invert-inverse.result) c.requires.lost_differ c.requires.out (rows_have _ _ _ c.requires.long) (known_have _ _ _ c.requires.long)
+    c.columns.b c.columns.out c.columns.invariant c.columns.b (omega (arith, c.requires.lost, c.if-b.true))
+
+pub write_two-requires-clause-e : goal.write_two-requires-clause-e
+write_two-requires-clause-e g c =
+    is_there _ _ c.args.lost.now c.args.rows.now c.args.known.now c.args.out.now (entry c.invert-inverse.result) c.requires.lost_differ c.requires.out (rows_have _ _ _ c.requires.long) (known_have _ _ _ c.requires.long)
+    c.columns.b c.columns.out c.columns.invariant (c.columns.b + 1) (omega (arith, c.requires.lost, c.if-b.true))
+
+pub write_two-requires-clause-rows_long : goal.write_two-requires-clause-rows_long
+write_two-requires-clause-rows_long g c = λ k d below.
+    rows_have c.args.rows.now c.args.known.now c.args.out.now c.requires.long k d below ∙ sym (c.columns.invariant.long c.columns.b (omega (arith, c.requires.lost, c.if-b.true)))
+
+pub write_two-requires-clause-known_long : goal.write_two-requires-clause-known_long
+write_two-requires-clause-known_long g c = λ k d below.
+    known_have c.args.rows.now c.args.known.now c.args.out.now c.requires.long k d below ∙ sym (c.columns.invariant.long c.columns.b (omega (arith, c.requires.lost, c.if-b.true)))
+
+pub write_two-requires-clause-same : goal.write_two-requires-clause-same
+write_two-requires-clause-same g c =
+    c.columns.invariant.long (c.columns.b + 1) (omega (arith, c.requires.lost, c.if-b.true)) ∙ sym (c.columns.invariant.long c.columns.b (omega (arith, c.requires.lost, c.if-b.true)))
+
+pub columns-preserved-then-b : goal.columns-preserved-then-b
+columns-preserved-then-b g c =
+    let b = c.columns.b in
+    let rows = c.args.rows.now in
+    let known = c.args.known.now in
+    let n = length_of (rows ++ known ++ c.args.out.now) in
+    let long = c.columns.invariant.long b (omega (arith, c.requires.lost, c.if-b.true)) in
+    let inverse = entry c.invert-inverse.result in
+    let first = weights_from c.args.m (inverse b) c.row_of.result rows known c.weights_of-first.result (λ a below. c.row_of.ensures a (omega (arith, below, c.requires.rows, c.requires.lost))) c.weights_of-first.ensures.rows c.weights_of-first.ensures.known in
+    let second = weights_from c.args.m (inverse (b + 1)) c.row_of-then-b.result rows known c.weights_of-second.result (λ a below. c.row_of-then-b.ensures a (omega (arith, below, c.requires.rows, c.requires.lost))) c.weights_of-second.ensures.rows c.weights_of-second.ensures.known in
+    two_written c.args.m n c.args.lost.now rows known c.args.out.now inverse c.requires.lost_differ c.requires.out (rows_have rows known c.args.out.now c.requires.long) (known_have rows known c.args.out.now c.requires.long)
+    b c.columns.out c.columns.invariant c.write_two.new.out c.weights_of-first.result c.weights_of-second.result (omega (arith, c.requires.lost, c.if-b.true)) first second c.write_two.ensures.numbers
+    (rw (← long) c.write_two.ensures.first) (rw (← long) c.write_two.ensures.second) c.write_two.ensures.kept
 
 pub piece_mut-requires : goal.piece_mut-requires
 piece_mut-requires g c =
-    rw c.columns.invariant.numbers
-    (All-get_or (λ d. Contains (numbers_of c.args.out.now) d) c.args.lost.now c.columns.b 0 (omega (arith, c.requires.lost, c.columns-test.true)) c.requires.out)
+    is_there _ _ c.args.lost.now c.args.rows.now c.args.known.now c.args.out.now (entry c.invert-inverse.result) c.requires.lost_differ c.requires.out (rows_have _ _ _ c.requires.long) (known_have _ _ _ c.requires.long)
+    c.columns.b c.columns.out c.columns.invariant c.columns.b (omega (arith, c.requires.lost, c.columns-test.true))
 
 pub write_column-requires-clause-rows_long : goal.write_column-requires-clause-rows_long
 write_column-requires-clause-rows_long g c = λ k d below.
-    let long = λ (p : Piece). length p.bytes ≡ length_of (c.args.rows.now ++ c.args.known.now ++ c.args.out.now) in
-    All-left long c.args.rows.now c.args.known.now (All-left long (c.args.rows.now ++ c.args.known.now) c.args.out.now c.requires.long) k d below
-    ∙ sym (ap length c.piece_mut.ensures.value ∙ c.columns.invariant.long c.columns.b c.columns-test.true)
+    rows_have c.args.rows.now c.args.known.now c.args.out.now c.requires.long k d below ∙ sym (ap length c.piece_mut.ensures.value ∙ c.columns.invariant.long c.columns.b (omega (arith, c.requires.lost, c.columns-test.true)))
 
 pub write_column-requires-clause-known_long : goal.write_column-requires-clause-known_long
 write_column-requires-clause-known_long g c = λ k d below.
-    let long = λ (p : Piece). length p.bytes ≡ length_of (c.args.rows.now ++ c.args.known.now ++ c.args.out.now) in
-    All-right long c.args.rows.now c.args.known.now (All-left long (c.args.rows.now ++ c.args.known.now) c.args.out.now c.requires.long) k d below
-    ∙ sym (ap length c.piece_mut.ensures.value ∙ c.columns.invariant.long c.columns.b c.columns-test.true)
+    known_have c.args.rows.now c.args.known.now c.args.out.now c.requires.long k d below ∙ sym (ap length c.piece_mut.ensures.value ∙ c.columns.invariant.long c.columns.b (omega (arith, c.requires.lost, c.columns-test.true)))
 
 pub columns-preserved : goal.columns-preserved
 columns-preserved g c =
-    let lost = c.args.lost.now in
-    let here = c.columns.b in
-    let d = get_or lost here 0 in
-    let old = c.columns.out in
-    let bytes = c.write_column.new.into in
-    let within : here < length lost = omega (arith, c.requires.lost, c.columns-test.true) in
-    let found : Contains (numbers_of old) d =
-    rw c.columns.invariant.numbers (All-get_or (λ d. Contains (numbers_of c.args.out.now) d) lost here 0 within c.requires.out) in
-    let long : length bytes ≡ length (bytes_of old d) = c.write_column.auto.into ∙ ap length c.piece_mut.ensures.value in
-    let written = bytes_written old d bytes found long in
-    record {
-      numbers = numbers_kept old d bytes found ∙ c.columns.invariant.numbers;
-      long = λ b below. elim (cases_eq (get_or lost b 0) d) [
-        | inl same ↦ ap length (ap (bytes_of (with_bytes old d bytes)) same ∙ written) ∙ (long ∙ c.columns.invariant.long here c.columns-test.true)
-        | inr other ↦ ap length (bytes_kept old d bytes (get_or lost b 0) found other) ∙ c.columns.invariant.long b below
-      ];
-      bytes = λ some. (c.write_column.ensures.row_bytes, c.write_column.ensures.known_bytes);
-      columns = λ b at below. elim (cases_eq b here) [
-        | inl same ↦
-            ap (λ x. get_or (bytes_of (with_bytes old d bytes) (get_or lost x 0)) at 0) same
-            ∙ (ap (λ (bs : List ℕ). get_or bs at 0) written
-            ∙ (c.write_column.ensures.sum at
-            ∙ (lost_byte_same c.args.m _ (entry c.invert-inverse.result here) c.args.rows.now c.args.known.now at
-            (λ a a_below. c.weights.invariant.done a (omega (arith, c.weights-test.false, c.requires.rows, c.requires.lost, a_below)))
-            ∙ ap (λ x. lost_byte c.args.m (entry c.invert-inverse.result x) c.args.rows.now c.args.known.now at) (sym same))))
-        | inr other ↦
-            let before : b < here = omega (arith, below, other) in
-            ap (λ (bs : List ℕ). get_or bs at 0)
-            (bytes_kept old d bytes (get_or lost b 0) found (λ same. other (same_place lost c.requires.lost_differ b here (omega (arith, before, within)) within same)))
-            ∙ c.columns.invariant.columns b at before
-      ];
-    }
+    let b = c.columns.b in
+    let rows = c.args.rows.now in
+    let known = c.args.known.now in
+    let here : b < length c.args.lost.now = omega (arith, c.requires.lost, c.columns-test.true) in
+    let long = c.write_column.auto.into ∙ (ap length c.piece_mut.ensures.value ∙ c.columns.invariant.long b here) in
+    one_written c.args.m _ c.args.lost.now rows known c.args.out.now (entry c.invert-inverse.result) c.requires.lost_differ c.requires.out (rows_have rows known c.args.out.now c.requires.long) (known_have rows known c.args.out.now c.requires.long)
+    b c.columns.out c.columns.invariant c.write_column.new.into here long
+    (λ at. c.write_column.ensures at ∙ lost_byte_same c.args.m _ (entry c.invert-inverse.result b) rows known at (λ a below. c.row_of-last.ensures a (omega (arith, below, c.requires.rows, c.requires.lost))))
 
 pub returns-clause-solved : goal.returns-clause-solved
 returns-clause-solved g c =
+    let all : c.columns.b ≡ length c.args.lost.now = omega (arith, c.columns-test.false, c.requires.lost, c.columns.invariant.within) in
     solved_from g.row.F c.args.m _ c.args.lost.now c.args.rows.now c.args.known.now c.columns.out (entry c.square.result) (entry c.invert-inverse.result) c.requires.lost
     c.square.ensures.entries c.invert-inverse.ensures.bytes c.invert-inverse.ensures.left c.invert-inverse.ensures.right
-    (λ some. c.columns.invariant.bytes (omega (arith, some, c.columns-test.false))) c.columns.invariant.long
-    (λ b at below. c.columns.invariant.columns b at (omega (arith, below, c.columns-test.false)))
+    (λ some. (c.are_bytes.ensures, c.are_bytes-2.ensures)) (λ b below. c.columns.invariant.long b (omega (arith, below, c.requires.lost)))
+    (λ b at below. c.columns.invariant.columns b at (omega (arith, below, all, c.requires.lost)))

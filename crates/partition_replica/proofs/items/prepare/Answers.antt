@@ -3,10 +3,11 @@ use Rattle.std.proofs.Math.Bool.{or-true}
 use Rattle.std.proofs.lemmas.Bool.{or_left}
 use Rattle.std.proofs.lemmas.List.{take_all}
 use Rattle.group_message.specs.declared.update.Update.{Update}
-use Rattle.group_run.specs.Lists.{same_key}
+use Rattle.group_types.specs.Lists.{same_key}
 use Rattle.partition_replica.specs.Inside.{ready_in}
 use Rattle.partition_replica.specs.State.{is_among}
 use Rattle.partition_replica.proofs.Keys.{itself, items_in-same, ready_in-prepare}
+use Rattle.partition_replica.proofs.Owed.{most_next, touched_at}
 use Rattle.partition_replica.proofs.Indices.{all_next}
 use Rattle.partition_replica.proofs.items.prepare.Goals as goal
 
@@ -17,6 +18,8 @@ updates-preserved c =
     record {
       items = items_in-same _ _ c.prepare.ensures.slots ∙ c.updates.invariant.items;
       kept = λ q was. stays q (c.updates.invariant.kept q was);
+      most = λ q now. most_next (same_key c.update-item.result.key q) _ _ _ _ (ready q) (c.updates.invariant.most q)
+          (touched_at c.args.updates.now c.updates.update-index c.update-item.result q (omega arith) c.update-item.is) now;
       ready = all_next (λ u. is_among (ready_in c.prepare.new.self) u.key ≡ true) c.args.updates.now c.updates.update-index c.update-item.result (omega arith) c.update-item.is
           (λ k d lt. stays (slice_index_or (take c.updates.update-index c.args.updates.now) k d).key (c.updates.invariant.ready k d lt))
           (ready c.update-item.result.key ∙ or_left _ _ (itself c.update-item.result.key));

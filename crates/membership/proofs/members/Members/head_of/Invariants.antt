@@ -1,5 +1,6 @@
 use Rattle.std.proofs.Common.{ℕ, ◌≡◌, ◌≤◌, true}
-use Rattle.membership.specs.Members.{knows_dead, of_rank}
+use Rattle.group_types.specs.Names.{of_rank}
+use Rattle.membership.specs.Members.{knows_dead}
 use Rattle.membership.proofs.members.Members.head_of.Given as goal
 
 abbrev pub invariant-ranks : goal.invariant-ranks

@@ -1,10 +1,11 @@
+use Rattle.partition_replica.proofs.Owed.{tidy_adopted}
 use Rattle.std.proofs.Common.{◌≡◌, ◌-◌, ℕ, true, List, [], drop, ap, ◌∙◌, arith}
 use Rattle.std.proofs.lemmas.List.{length-drop}
 use Rattle.std.proofs.lemmas.List.Elements.{All-drop}
 use Rattle.group_types.specs.Dimensions.{space_of}
 use Rattle.group_message.specs.declared.update.Update.{Update}
 use Rattle.group_run.specs.Replica.{with_log}
-use Rattle.partition_replica.specs.Coming.{AllCanCome}
+use Rattle.group_run.specs.Fitting.{AllCanCome}
 use Rattle.partition_replica.specs.Inside.{replica_in, state_in}
 use Rattle.partition_replica.specs.State.{Room, HasRoom, is_among}
 use Rattle.partition_replica.proofs.Agree.{adopted_takeable, agrees_adopted}
@@ -47,3 +48,9 @@ invariant_of-self c =
     let gives = rw (c.as_slice.ensures, c.adopt-dropped.ensures.handed) at c.give_runs.ensures in
     rw (c.tidy_dropped.ensures.items, c.adopt-dropped.ensures.applied, c.adopt-dropped.ensures.spare)
     (agrees_adopted c.adopt-dropped.new.self.updates c.self.invariant come gives c.take_runs.new.runs _ _ _ room c.tidy_dropped.ensures.ready c.take_runs.ensures)
+
+pub returns-clause-owed : goal.returns-clause-owed
+returns-clause-owed c owed tidy q is =
+    let was = rw (← c.self.view_is) at tidy in
+    let kept = rw (c.as_slice-2.ensures, c.adopt-dropped.ensures.handed) at c.tidy_dropped.ensures.ready in
+    rw c.tidy_dropped.ensures.items (tidy_adopted (state_in c.self.inside.shape c.self.inside.index c.self.inside.log c.self.inside.kept.items c.self.inside.spare) _ c.adopt-dropped.new.self.updates owed kept was q is)

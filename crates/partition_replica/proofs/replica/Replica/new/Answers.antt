@@ -1,8 +1,9 @@
-use Rattle.std.proofs.Common.{◌≡◌, None, refl, replicate, rules, ◌∙◌}
+use Rattle.std.proofs.Common.{◌≡◌, None, refl, sym, [], replicate, rules, ◌∙◌}
 use Rattle.group_run.specs.Replica.{callers, empty_replica}
 use Rattle.partition_replica.specs.Inside.{replica_in, state_in}
 use Rattle.partition_replica.proofs.Agree.{agrees_at_start}
-use Rattle.partition_replica.proofs.Keys.{items_in-empty}
+use mathlib.Core.Bool.{false≢true}
+use Rattle.partition_replica.proofs.Keys.{items_in-empty, ready_in-is}
 use Rattle.partition_replica.proofs.replica.Replica.new.Goals as goal
 
 kept_none : (c : goal.In_ok-vec) → c.in_ok-vec.field-0.items ≡ replicate callers None
@@ -18,3 +19,8 @@ invariant_of-result c =
 
 pub returns-clause-replica : goal.returns-clause-replica
 returns-clause-replica c = started c
+
+pub returns-clause-owed : goal.returns-clause-owed
+returns-clause-owed c q is =
+    let none = rw c.new.ensures at is in
+    absurd (false≢true (sym (ready_in-is [] q) ∙ none))

@@ -1,3 +1,4 @@
+use Rattle.partition_replica.proofs.Owed.{tidy_settled}
 use Rattle.std.proofs.Common.{◌≡◌, ◌+◌, sym, subst, Some, arith, slice_set}
 use Rattle.group_types.specs.Dimensions.{space_of}
 use Rattle.group_run.specs.Replica.{Replica, applied_to}
@@ -36,3 +37,9 @@ returns-clause-replica c = rw (← c.self.view_is) (settled c)
 
 pub returns-clause-writes : goal.returns-clause-writes
 returns-clause-writes c = rw (← c.self.view_is) (first_writes (items_in-sorted c.self.inside.index) c.in_ok-update.ensures.updates c.self.invariant)
+
+pub returns-clause-owed : goal.returns-clause-owed
+returns-clause-owed c owed tidy q is =
+    let was = rw (← c.self.view_is) at tidy in
+    let ready = rw c.settle.ensures.ready at is in
+    rw c.settle.ensures.items (tidy_settled (state_in c.self.inside.shape c.self.inside.index c.self.inside.log c.self.inside.kept.items c.self.inside.spare) c.in_ok-update.update c.apply_next.new.self.updates owed c.in_ok-update.ensures.updates was q ready)

@@ -4,7 +4,8 @@ ghost use Rattle.group_types.specs.Dimensions.{space_of};
 ghost use Rattle.run_alloc.specs.Free.{AllFree};
 ghost use Rattle.group_run.specs.Free.{is_free};
 ghost use Rattle.group_run.specs.Replica.{empty_replica, run_of, slot_in, with_log};
-ghost use Rattle.partition_replica.specs.Coming.{Writes, freed_by};
+ghost use Rattle.group_run.specs.Replica.{freed_by};
+ghost use Rattle.group_run.specs.Fitting.{Writes};
 
 use crate::Replica;
 use group_message::{Body, Outcome, Update, UpdateList};

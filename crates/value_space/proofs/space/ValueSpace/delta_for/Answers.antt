@@ -1,7 +1,7 @@
 use Rattle.std.proofs.Common.{◌≡◌, length, sym, ap, ◌∙◌}
 use Rattle.field_byte.specs.Vectors.{add_bytes}
 use Rattle.field_byte.proofs.Vectors.{add_bytes_comm, length-add_bytes}
-use Rattle.group_run.specs.Code.{bytes_in}
+use Rattle.erasure_code.specs.Spaces.{bytes_at}
 use Rattle.value_space.proofs.Deltas.{delta_is}
 use Rattle.value_space.proofs.space.ValueSpace.delta_for.Goals as goal
 
@@ -13,7 +13,7 @@ xor_into-requires c =
 pub returns : goal.returns
 returns c =
     let copied = c.deref_mut.ensures.value ∙ c.from-bytes.ensures in
-    let part = bytes_in c.args.run c.args.self.now.bytes in
+    let part = bytes_at c.args.run.at c.args.run.len c.args.self.now.bytes in
     let long : length c.deref_mut.result.now ≡ c.args.run.len = ap length copied ∙ c.in_ok-copy.ensures.length in
     let same : length c.deref_mut.result.now ≡ length c.args.value.now = long ∙ sym c.requires.length in
     let sum : c.xor_into.new.dst ≡ add_bytes c.deref_mut.result.now c.args.value.now = c.xor_into.ensures ∙ ap (add_bytes c.deref_mut.result.now) c.bytes.ensures in

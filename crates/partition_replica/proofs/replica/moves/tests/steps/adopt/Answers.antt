@@ -3,7 +3,7 @@ use Rattle.group_message.specs.declared.update.Update.{Update}
 use Rattle.run_alloc.specs.Free.{AllFree}
 use Rattle.group_run.specs.Free.{is_free}
 use Rattle.group_run.specs.Replica.{Replica, empty_replica, with_log}
-use Rattle.partition_replica.specs.Coming.{AllCanCome, CanCome}
+use Rattle.group_run.specs.Fitting.{AllCanCome, CanCome}
 use Rattle.partition_replica.proofs.replica.moves.tests.steps.adopt.Goals as goal
 
 -- where nothing is settled, the first update can come in place of the log

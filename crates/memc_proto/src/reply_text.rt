@@ -1,0 +1,167 @@
+ghost use Rattle.std.specs.Prelude.{◌≡◌, ◌++◌, ◌∷◌, [], IfOk};
+ghost use Rattle.memc_proto.specs.Text.{end_text, reply_text, item_text, fail_text, refusal_text, version_text, end_of_items, too_long_text, cas_text};
+
+use crate::end::{CallEnd, FailEnd};
+use crate::request::Refusal;
+use group_types::{ByteList, Key};
+use memc_table::{Item, Reply};
+use std::alloc::{AllocError, Global};
+
+/// The text of the end of one call on a key, without the `END` of a get.
+pub fn write_reply(
+    alloc: Global,
+    key: &Key,
+    with_cas: bool,
+    end: &CallEnd,
+) -> Result<ByteList, AllocError>
+    ensures { IfOk result (λ text. text ≡ end_text key.now with_cas end.now) }
+{
+    match end {
+        CallEnd::Reply(reply) => reply_bytes(alloc, key, with_cas, reply),
+        CallEnd::NoSpace => ByteList::of(alloc, b"SERVER_ERROR out of memory storing object\r\n"),
+        CallEnd::Down => ByteList::of(alloc, b"SERVER_ERROR group down\r\n"),
+        CallEnd::Worn => ByteList::of(alloc, b"SERVER_ERROR group worn\r\n"),
+    }
+}
+
+fn reply_bytes(
+    alloc: Global,
+    key: &Key,
+    with_cas: bool,
+    reply: &Reply,
+) -> Result<ByteList, AllocError>
+    ensures { IfOk result (λ text. text ≡ reply_text key.now with_cas reply.now) }
+{
+    match reply {
+        Reply::Value(item) => item_bytes(alloc, key, with_cas, item),
+        Reply::Miss => ByteList::of(alloc, b""),
+        Reply::Stored => ByteList::of(alloc, b"STORED\r\n"),
+        Reply::NotStored => ByteList::of(alloc, b"NOT_STORED\r\n"),
+        Reply::Exists => ByteList::of(alloc, b"EXISTS\r\n"),
+        Reply::NotFound => ByteList::of(alloc, b"NOT_FOUND\r\n"),
+        Reply::Deleted => ByteList::of(alloc, b"DELETED\r\n"),
+        Reply::Touched => ByteList::of(alloc, b"TOUCHED\r\n"),
+        Reply::Number(number) => {
+            let text = format!(in alloc; "{number}\r\n")?;
+            Ok(ByteList::from(text.into_bytes()))
+        }
+        Reply::NotNumber => ByteList::of(
+            alloc,
+            b"CLIENT_ERROR cannot increment or decrement non-numeric value\r\n",
+        ),
+        Reply::TooLarge => ByteList::of(alloc, b"SERVER_ERROR object too large for cache\r\n"),
+    }
+}
+
+/// An item that was found: its line, and its value with a line end.
+fn item_bytes(alloc: Global, key: &Key, with_cas: bool, item: &Item) -> Result<ByteList, AllocError>
+    ensures { IfOk result (λ text. text ≡ item_text key.now with_cas item.now) }
+{
+    let mut text = Vec::with_capacity(alloc, item.value.len().saturating_add(320))?;
+    text.extend_from_slice(b"VALUE ")?;
+    text.extend_from_slice(key.bytes())?;
+    text.extend_from_slice(format!(in alloc; " {}", item.flags)?.as_bytes())?;
+    text.extend_from_slice(format!(in alloc; " {}", item.value.len())?.as_bytes())?;
+    if with_cas {
+        text.extend_from_slice(format!(in alloc; " {}", item.cas)?.as_bytes())?;
+    }
+    text.extend_from_slice(b"\r\n")?;
+    text.extend_from_slice(item.value.bytes())?;
+    text.extend_from_slice(b"\r\n")?;
+    Ok(ByteList::from(text))
+}
+
+/// The text of the end of an order that a process fail.
+pub fn fail_text(end: FailEnd) -> &'static [u8]
+    ensures { result.now ≡ fail_text end }
+{
+    match end {
+        FailEnd::Made => b"OK\r\n",
+        FailEnd::AlreadyDead => b"ALREADY_DEAD\r\n",
+        FailEnd::NoProcess => b"CLIENT_ERROR no such process\r\n",
+        FailEnd::Off => b"ERROR\r\n",
+        FailEnd::Worn => b"SERVER_ERROR group worn\r\n",
+    }
+}
+
+/// The text of a refusal.
+pub fn refusal_text(refusal: Refusal) -> &'static [u8]
+    ensures { result.now ≡ refusal_text refusal }
+{
+    match refusal {
+        Refusal::Unknown => b"ERROR\r\n",
+        Refusal::BadLine { .. } => b"CLIENT_ERROR bad command line format\r\n",
+        Refusal::TooLarge { .. } => b"SERVER_ERROR object too large for cache\r\n",
+        Refusal::BadChunk => b"CLIENT_ERROR bad data chunk\r\n",
+    }
+}
+
+/// The answer to `version`.
+pub fn version_text() -> &'static [u8]
+    ensures { result.now ≡ version_text }
+{
+    b"VERSION cocytus-1\r\n"
+}
+
+/// What follows the items of a get.
+pub fn end_of_items() -> &'static [u8]
+    ensures { result.now ≡ end_of_items }
+{
+    b"END\r\n"
+}
+
+/// What is written of a line that is too long, which ends the connection.
+pub fn too_long_text() -> &'static [u8]
+    ensures { result.now ≡ too_long_text }
+{
+    b"CLIENT_ERROR line too long\r\n"
+}
+
+#[cfg(test)]
+mod tests {
+    use super::*;
+    use group_types::Payload;
+    use std::test::Fail;
+
+    fn item(alloc: Global, value: &[u8]) -> Result<CallEnd, AllocError> {
+        Ok(CallEnd::Reply(Reply::Value(Item {
+            flags: 5,
+            cas: 17,
+            value: Payload::of(alloc, value)?,
+        })))
+    }
+
+    #[test]
+    fn writes_items(rt: HostRuntime) -> Result<(), Fail> {
+        let key = Key::read(rt.alloc(), b"a")?;
+        for (value, with_cas, text) in [
+            ("A", false, "VALUE a 5 1\r\nA\r\n"),
+            ("A", true, "VALUE a 5 1 17\r\nA\r\n"),
+            ("", false, "VALUE a 5 0\r\n\r\n"),
+        ] {
+            let end = item(rt.alloc(), value.as_bytes())?;
+            let written = write_reply(rt.alloc(), &key, with_cas, &end)?;
+            assert_eq!(rt; written.bytes(), text.as_bytes());
+        }
+        Ok(())
+    }
+
+    #[test]
+    fn writes_the_other_ends(rt: HostRuntime) -> Result<(), Fail> {
+        let key = Key::read(rt.alloc(), b"a")?;
+        for (end, text) in [
+            (CallEnd::Reply(Reply::Miss), ""),
+            (CallEnd::Reply(Reply::Stored), "STORED\r\n"),
+            (CallEnd::Reply(Reply::Number(10)), "10\r\n"),
+            (
+                CallEnd::NoSpace,
+                "SERVER_ERROR out of memory storing object\r\n",
+            ),
+            (CallEnd::Down, "SERVER_ERROR group down\r\n"),
+        ] {
+            let written = write_reply(rt.alloc(), &key, true, &end)?;
+            assert_eq!(rt; written.bytes(), text.as_bytes());
+        }
+        Ok(())
+    }
+}

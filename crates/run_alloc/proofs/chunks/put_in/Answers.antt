@@ -1,0 +1,43 @@
+use Rattle.std.proofs.Common.{◌^◌, ◌∷◌, length, refl, ap, ◌∙◌, length-append, arith}
+use Rattle.run_alloc.specs.Order.{rank_of}
+use Rattle.run_alloc.proofs.Ranks.{rises-steady}
+use Rattle.run_alloc.proofs.Laid.{laid-steady}
+use Rattle.run_alloc.proofs.Moves.{found_rises_all, found_light, set_amid, set_starts, put_laid, put_adds}
+use Rattle.run_alloc.proofs.chunks.put_in.Goals as goal
+
+pub chunk_of-place-requires-clause-rises : goal.chunk_of-place-requires-clause-rises
+chunk_of-place-requires-clause-rises c = rw c.deref.ensures.value (laid-steady (rank_of c.args.order) c.args.chunks.now.items (2 ^ 64) c.requires.laid)
+
+pub put-requires-clause-rises : goal.put-requires-clause-rises
+put-requires-clause-rises c =
+    let is = rw (c.deref.ensures.value, c.rank.ensures) at c.chunk_of-place.ensures in
+    rises-steady (rank_of c.args.order) c.index_mut.result.now.runs.items 0 (2 ^ 64) (found_rises_all (rank_of c.args.order) c.args.chunks.now.items c.args.run _ is c.index_mut.result.now c.index_mut.ensures.value c.requires.laid c.requires.even)
+
+pub put-requires-clause-room : goal.put-requires-clause-room
+put-requires-clause-room c =
+    let is = rw (c.deref.ensures.value, c.rank.ensures) at c.chunk_of-place.ensures in
+    omega (arith, found_light (rank_of c.args.order) c.args.chunks.now.items c.args.run _ is c.index_mut.result.now c.index_mut.ensures.value c.requires.laid c.requires.even)
+
+pub returns-clause-adds : goal.returns-clause-adds
+returns-clause-adds c =
+    let is = rw (c.deref.ensures.value, c.rank.ensures) at c.chunk_of-place.ensures in
+    put_adds (rank_of c.args.order) c.args.chunks.now.items c.args.run _ is c.index_mut.result.now c.index_mut.ensures.value c.requires.laid c.requires.even _ refl c.put.ensures.puts
+
+pub returns-clause-laid : goal.returns-clause-laid
+returns-clause-laid c =
+    let is = rw (c.deref.ensures.value, c.rank.ensures) at c.chunk_of-place.ensures in
+    put_laid (rank_of c.args.order) c.args.chunks.now.items c.args.run _ is c.index_mut.result.now c.index_mut.ensures.value c.requires.laid c.requires.even _ refl c.put.ensures.puts c.requires.fresh
+
+pub returns-clause-starts : goal.returns-clause-starts
+returns-clause-starts c =
+    let is = rw (c.deref.ensures.value, c.rank.ensures) at c.chunk_of-place.ensures in
+    set_starts (rank_of c.args.order) c.args.chunks.now.items c.args.run _ is c.index_mut.result.now c.index_mut.ensures.value c.requires.laid c.requires.even _ refl ∙ c.requires.starts
+
+pub returns-clause-amid : goal.returns-clause-amid
+returns-clause-amid c =
+    let is = rw (c.deref.ensures.value, c.rank.ensures) at c.chunk_of-place.ensures in
+    let light = found_light (rank_of c.args.order) c.args.chunks.now.items c.args.run _ is c.index_mut.result.now c.index_mut.ensures.value c.requires.laid c.requires.even in
+    let puts = c.put.ensures.puts in
+    set_amid (rank_of c.args.order) c.args.chunks.now.items c.args.run _ is c.index_mut.result.now c.index_mut.ensures.value c.requires.laid c.requires.even _ refl
+    (omega (arith, light, ap length puts.was, ap length puts.is, length-append puts.before puts.after, length-append puts.before (c.args.run ∷ puts.after)))
+    (omega (arith, light, c.put.ensures.capacity))
