@@ -1,3 +1,6 @@
+use std::error::Error;
+use std::fmt;
+
 /// A read, a `listen` or an `accept` failed, and the object counted a fault.
 #[derive(Clone, Copy, Debug, PartialEq, Eq)]
 pub struct Failed;
@@ -10,3 +13,22 @@ pub enum SinkFault {
     /// There was no memory for the bytes.
     Want,
 }
+
+impl fmt::Display for Failed {
+    fn fmt<W: fmt::Write>(&self, f: &mut fmt::Formatter<W>) -> fmt::Result {
+        f.write_str("the outside failed")
+    }
+}
+
+impl fmt::Display for SinkFault {
+    fn fmt<W: fmt::Write>(&self, f: &mut fmt::Formatter<W>) -> fmt::Result {
+        f.write_str(match self {
+            SinkFault::Failed => "the write failed",
+            SinkFault::Want => "no memory for the bytes",
+        })
+    }
+}
+
+impl Error for Failed {}
+
+impl Error for SinkFault {}

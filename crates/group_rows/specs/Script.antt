@@ -14,18 +14,13 @@ use Rattle.group_calls.specs.declared.entry.Entry.{Entry}
 use Rattle.group_calls.specs.declared.event.Event.{Event}
 use Rattle.group_calls.specs.declared.event.Event.TheVariants.{Ask}
 use Rattle.memc_table.specs.declared.act.Act.{Act}
-use Rattle.scenario_text.specs.Texts.{answer_text, entry_text, value_text}
+use Rattle.scenario_text.specs.Texts.{answer_text, entries_text, value_text}
 
 -- a line of a script: an event, draining, or a look at the bytes of a process
 pub data Line : Type 0 where
   Do : Event → Line
   Drain : Line
   Show : ProcessId → ℕ → ℕ → Line
-
--- entries, a line each
-abbrev pub entries_text : List Entry → List ℕ
-entries_text [] = []
-entries_text (e ∷ es) = entry_text e ++ 10 ∷ entries_text es
 
 -- an event's answer, and what it logged
 abbrev pub turn_text : Turn → List ℕ

@@ -4,6 +4,7 @@ use Rattle.std.specs.Prelude.{ℕ, ◌+◌, ◌-◌, List, [], ◌∷◌, ◌++�
 use Rattle.std.specs.Cmp.Lexicographic.{slice_cmp}
 use Rattle.std.specs.FinMap.Entries as entries
 use Rattle.std.specs.Ordering.{nat_cmp}
+pub use Rattle.group_types.specs.Dimensions.{callers}
 use Rattle.group_types.specs.Lists.{put, same_key}
 use Rattle.group_types.specs.declared.run.Run.{Run}
 use Rattle.group_message.specs.declared.kept.Kept.{Kept}
@@ -15,10 +16,6 @@ use Rattle.item_index.specs.declared.slot.Slot.{Slot}
 -- the settled items, each key with its slot, in the order of the keys
 abbrev pub Items : Type 0
 Items = List (List ℕ × Slot)
-
--- how many callers there may be
-abbrev pub callers : ℕ
-callers = 256
 
 -- the replica of a partition at one process
 pub record Replica : Type 0 where

@@ -7,6 +7,10 @@ pub record Dimensions : Type 0 where
   pub blocks : ℕ
   pub block : ℕ
 
+-- how many callers there may be
+abbrev pub callers : ℕ
+callers = 256
+
 -- the bytes of one space
 abbrev pub space_of : Dimensions → ℕ
 space_of d = d.blocks * d.block

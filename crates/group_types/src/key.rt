@@ -4,6 +4,8 @@ ghost use Rattle.std.specs.Result.{IsErrOf};
 use crate::key_limits::is_key;
 use bytes::Bytes;
 use std::alloc::{AllocError, Global};
+use std::error::Error;
+use std::fmt;
 use std::marker::Model;
 
 /// Why bytes are no key here.
@@ -12,6 +14,17 @@ pub enum KeyFault {
     BadKey,
     Want,
 }
+
+impl fmt::Display for KeyFault {
+    fn fmt<W: fmt::Write>(&self, f: &mut fmt::Formatter<W>) -> fmt::Result {
+        f.write_str(match self {
+            KeyFault::BadKey => "a key has 1 to 250 bytes, no control characters and no spaces",
+            KeyFault::Want => "no memory for a key",
+        })
+    }
+}
+
+impl Error for KeyFault {}
 
 /// A key of memcached: 1 to 250 bytes without control characters and spaces.
 #[derive(Debug, Drop, PartialEq, Eq, PartialOrd, Ord, Hash)]

@@ -20,6 +20,6 @@ pub use key::{Key, KeyFault};
 pub use key_limits::is_key;
 pub use payload::Payload;
 pub use piece_list::{Piece, PieceList};
-pub use process::{Partition, ProcessId, Rank};
+pub use process::{CALLERS, Partition, ProcessId, Rank};
 pub use run::Run;
 pub use shape::{BadShape, Field, Shape};

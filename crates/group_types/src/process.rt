@@ -1,3 +1,6 @@
+/// How many callers there may be: each is a number below this.
+pub const CALLERS: u32 = 256;
+
 /// A process of a group: a data process or a parity process, by its number.
 #[derive(Clone, Copy, Debug, PartialEq, Eq)]
 pub enum ProcessId {

@@ -1,6 +1,8 @@
 ghost use Rattle.std.specs.Prelude.{◌≡◌, ◌↔◌, ◌*◌, IsTrue, MatchResult};
 ghost use Rattle.group_types.specs.Dimensions.{Dimensions, space_of};
 
+use std::error::Error;
+use std::fmt;
 use std::marker::Model;
 
 /// A field of a shape, as a refusal names it.
@@ -17,6 +19,19 @@ pub enum Field {
 pub struct BadShape {
     pub field: Field,
 }
+
+impl fmt::Display for BadShape {
+    fn fmt<W: fmt::Write>(&self, f: &mut fmt::Formatter<W>) -> fmt::Result {
+        f.write_str(match self.field {
+            Field::K => "a group has 1 to 16 data processes",
+            Field::M => "a group has at most 4 parity processes",
+            Field::Blocks => "a space has at least one block, and at most 67108864 bytes",
+            Field::Block => "a block has a power of two of bytes, from 16 to 65536",
+        })
+    }
+}
+
+impl Error for BadShape {}
 
 /// The shape of a coding group: k data processes (1 to 16), m parity processes (0 to 4), and in
 /// each space `blocks` blocks of `block` bytes (a power of two from 16 to 65,536), which are at

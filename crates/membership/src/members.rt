@@ -4,11 +4,21 @@ ghost use Rattle.group_types.specs.Lists.{at};
 ghost use Rattle.membership.specs.Members.{count_dead};
 
 use group_types::{Partition, ProcessId, Shape};
+use std::error::Error;
+use std::fmt;
 use std::marker::Model;
 
 /// The process was known dead before.
 #[derive(Clone, Copy, Debug, PartialEq, Eq)]
 pub struct AlreadyDead;
+
+impl fmt::Display for AlreadyDead {
+    fn fmt<W: fmt::Write>(&self, f: &mut fmt::Formatter<W>) -> fmt::Result {
+        f.write_str("the process is known dead already")
+    }
+}
+
+impl Error for AlreadyDead {}
 
 /// The processes of a group that are known dead: a small value that is copied.
 #[derive(Clone, Copy, Debug)]

@@ -116,7 +116,7 @@ impl Pages {
     }
 
     /// What the pages take their memory from.
-    pub fn alloc(&self) -> Global {
+    pub(crate) fn alloc(&self) -> Global {
         *self.pages.allocator()
     }
 

@@ -11,7 +11,7 @@ ghost use Rattle.partition_replica.specs.State.{IsTidyBut};
 
 use crate::updates::Updates;
 use group_message::{Kept, UpdateList};
-use group_types::{Key, Run, Shape};
+use group_types::{CALLERS, Key, Run, Shape};
 use item_index::{Index, Slot};
 use request_log::Log;
 use run_alloc::FreeRuns;
@@ -20,9 +20,6 @@ use std::marker::Model;
 
 mod moves;
 mod room;
-
-/// How many callers there may be.
-const CALLERS: usize = 256;
 
 /// The replica of a partition at one process.
 #[derive(Drop)]
@@ -59,7 +56,7 @@ impl Replica {
             index: Index::new(alloc),
             runs: FreeRuns::new(alloc, shape.space())?,
             log: Log::new(alloc),
-            kept: vec![in alloc; None; CALLERS]?,
+            kept: vec![in alloc; None; CALLERS as usize]?,
             spare: 0,
         })
     }

@@ -2,10 +2,10 @@ use Rattle.std.proofs.Common.{◌≡◌, ℕ, ◌+◌, List, [], ◌∷◌, ◌+
 use Rattle.std.proofs.KnownBytes.{Appends-trans, Appends-nil}
 use Rattle.std.specs.Io.KnownBytes.{Appends}
 use Rattle.group_calls.specs.Turns.{Turn}
-use Rattle.scenario_text.specs.Texts.{answer_text}
+use Rattle.scenario_text.specs.Texts.{answer_text, entries_text}
 use Rattle.scenario_text.specs.declared.line.LineFault.TheVariants as line
 use Rattle.scenario_play.specs.Ends.{HasDone}
-use Rattle.scenario_play.specs.Script.{Next, Goes, Ends, Refused, next_of, turns_from, fault_from, turns_text, entries_text}
+use Rattle.scenario_play.specs.Script.{Next, Goes, Ends, Refused, next_of, turns_from, fault_from, turns_text}
 use Rattle.scenario_play.specs.World.{World}
 
 -- some of a text was written, and this is the rest

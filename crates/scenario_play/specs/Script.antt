@@ -5,7 +5,7 @@ use Rattle.group_calls.specs.Turns.{Turn, log_of}
 use Rattle.group_calls.specs.Within.{AnswersWithin}
 use Rattle.group_calls.specs.declared.entry.Entry.{Entry}
 use Rattle.scenario_text.specs.Meaning.{line_of}
-use Rattle.scenario_text.specs.Texts.{answer_text, entry_text}
+use Rattle.scenario_text.specs.Texts.{answer_text, entries_text}
 use Rattle.scenario_text.specs.declared.line.Line.{Line}
 use Rattle.scenario_text.specs.declared.line.Line.TheVariants.{Skipped, Group, Ask, Stop}
 use Rattle.scenario_play.specs.Lines.{lines_of}
@@ -64,11 +64,6 @@ first_fault text = fault_from 1 None (lines_of text)
 
 abbrev pub shape_of : List ℕ → Option Dimensions
 shape_of text = shape_from None (lines_of text)
-
--- entries of the log, each on a line
-abbrev pub entries_text : List Entry → List ℕ
-entries_text [] = []
-entries_text (entry ∷ entries) = entry_text entry ++ 10 ∷ [] ++ entries_text entries
 
 -- what is written for turns: each answer on a line, and then what the turn logged
 abbrev pub turns_text : List Turn → List ℕ

@@ -1,5 +1,5 @@
 use Rattle.std.specs.Prelude.{ℕ, ◌+◌, ◌<◌, ◌≤◌, ⊤, ◌==◌, nat_le, Bool, false, List, [], ◌∷◌, length, replicate, slice_index, slice_set, if◌then◌else◌}
-use Rattle.group_types.specs.Dimensions.{Dimensions, space_of}
+use Rattle.group_types.specs.Dimensions.{Dimensions, callers, space_of}
 use Rattle.group_types.specs.Hash.{home_of}
 use Rattle.group_types.specs.declared.process.ProcessId.{ProcessId}
 use Rattle.group_types.specs.declared.process.ProcessId.TheVariants.{DataNode, ParityNode}
@@ -24,7 +24,7 @@ pub record World : Type 0 where
 
 -- the group before its first call
 abbrev pub new_world : Dimensions → World
-new_world shape = record { shape = shape; table = empty_table shape.k; asks = replicate 256 0; brought = replicate shape.k 0 }
+new_world shape = record { shape = shape; table = empty_table shape.k; asks = replicate callers 0; brought = replicate shape.k 0 }
 
 -- the op of an act at the moment 0
 abbrev pub op_of : Act → Asked

@@ -1,5 +1,7 @@
 ghost use Rattle.std.specs.Prelude.{◌≡◌, ◌^◌, ◌<◌, [], IfSome, IfOk};
-ghost use Rattle.scenario_text.specs.Meaning.{IsProcessOf, IsLineOf};
+ghost use Rattle.group_types.specs.Dimensions.{callers};
+ghost use Rattle.group_types.specs.Names.{IsProcess};
+ghost use Rattle.scenario_text.specs.Meaning.{IsLineOf};
 ghost use Rattle.scenario_play.specs.Ends.{HasDone, text_in};
 ghost use Rattle.scenario_play.specs.PlainWorld.{world_in, world_of};
 ghost use Rattle.scenario_play.specs.Script.{next_by, next_of, Goes, Refused};
@@ -69,8 +71,8 @@ fn ask(
     at: ProcessId,
     act: Act,
 ) -> Result<Option<Vec<u8>>, LineFault>
-    requires caller { caller < 256 }
-    requires process { IsProcessOf world.old.shape at }
+    requires caller { caller < callers }
+    requires process { IsProcess world.old.shape at }
     requires counts { CountsAtMost (2 ^ 61) (world_of world.old) }
     ensures { HasDone (next_by (Some (world_of world.old)) (Some (Line.Ask caller at act))) (Some (world_of world.new)) (text_in result) }
 {

@@ -1,6 +1,5 @@
 ghost use Rattle.std.specs.Prelude.{◌≡◌, ◌++◌, ◌∷◌, [], IfOk};
-ghost use Rattle.scenario_text.specs.Texts.{answer_text};
-ghost use Rattle.scenario_play.specs.Script.{entries_text};
+ghost use Rattle.scenario_text.specs.Texts.{answer_text, entries_text};
 
 use group_calls::{Answer, Entry};
 use scenario_text::write_answer::write_answer;

@@ -1,14 +1,14 @@
 ghost use Rattle.std.specs.Prelude.{◌≡◌, ◌+◌, ◌^◌, ◌<◌, ◌∷◌, [], ◌++◌, vec_len, IfOk, OnOk, IsTrue, slice_index};
-ghost use Rattle.group_types.specs.Dimensions.{space_of};
+ghost use Rattle.group_types.specs.Dimensions.{callers, space_of};
 ghost use Rattle.memc_table.specs.Act.{key_of};
 ghost use Rattle.memc_table.specs.Contents.{count_of, reply_of, table_after};
 ghost use Rattle.memc_table.specs.Table.{contents};
 ghost use Rattle.group_calls.specs.Turns.{entry_of};
-ghost use Rattle.scenario_text.specs.Meaning.{IsProcessOf};
+ghost use Rattle.group_types.specs.Names.{IsProcess};
 ghost use Rattle.scenario_play.specs.World.{bytes_of, op_of, bytes_at, bytes_after, IsIndexOf, new_world};
 
 use group_calls::{Answer, Entry};
-use group_types::{ProcessId, Shape, home};
+use group_types::{CALLERS, ProcessId, Shape, home};
 use memc_table::{Act, Op, Table};
 use std::alloc::{AllocError, Global};
 
@@ -21,7 +21,7 @@ pub(crate) struct PlainWorld {
     asks: Vec<u64>,
     brought: Vec<u64>,
     log: Vec<Entry>,
-    ghost callers: { vec_len asks ≡ 256 },
+    ghost callers: { vec_len asks ≡ callers },
     ghost processes: { vec_len brought ≡ shape.k },
     ghost small: { space_of shape < 2 ^ 32 },
 }
@@ -37,7 +37,7 @@ impl PlainWorld {
         Ok(PlainWorld {
             shape,
             table: Table::new(alloc, shape.k())?,
-            asks: vec![in alloc; 0; 256]?,
+            asks: vec![in alloc; 0; CALLERS as usize]?,
             brought: vec![in alloc; 0; shape.k() as usize]?,
             log: Vec::new(alloc),
         })
@@ -58,7 +58,7 @@ impl PlainWorld {
 
     /// Whether what the act brings still fits into the space of the process.
     pub(crate) fn fits(&self, at: ProcessId, act: &Act) -> bool
-        requires { IsProcessOf self.now.shape at }
+        requires { IsProcess self.now.shape at }
         ensures { result ≡ fits (world_of self.now) at act.now }
     {
         let brought = match at {
@@ -70,8 +70,8 @@ impl PlainWorld {
 
     /// Treats a call, and logs its entry where the process is the home of its key.
     pub(crate) fn ask(&mut self, caller: u32, at: ProcessId, act: Act) -> Result<Answer, AllocError>
-        requires caller { caller < 256 }
-        requires process { IsProcessOf self.old.shape at }
+        requires caller { caller < callers }
+        requires process { IsProcess self.old.shape at }
         requires fits { IsTrue (fits (world_of self.old) at act) }
         requires counts { CountsAtMost (2 ^ 61) (world_of self.old) }
         ensures answer { IfOk result (λ answer. answer ≡ answer_of (world_of self.old) at act) }

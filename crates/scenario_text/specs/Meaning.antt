@@ -1,10 +1,10 @@
 use Rattle.std.specs.Prelude.{ℕ, ◌<◌, ⊤, pos, ◌==◌, ◌^◌, nat_le, ◌&&◌, Bool, true, List, [], ◌∷◌, codes, Option, Some, None, if◌then◌else◌}
 use Rattle.std.specs.Int.{is_power_of_two}
 use Rattle.std.specs.Str.{bytes_eq}
-use Rattle.group_types.specs.Dimensions.{Dimensions, space_of}
+use Rattle.group_types.specs.Dimensions.{Dimensions, callers, space_of}
+use Rattle.group_types.specs.Names.{IsProcess}
 use Rattle.group_types.specs.Shape.{most_space}
 use Rattle.group_types.specs.declared.process.ProcessId.{ProcessId}
-use Rattle.group_types.specs.declared.process.ProcessId.TheVariants.{DataNode, ParityNode}
 use Rattle.memc_table.specs.declared.act.Act.{Act}
 use Rattle.memc_table.specs.declared.act.Act.TheVariants.{Get, Set}
 use Rattle.scenario_text.specs.Words.{words_of, number_below, process_of_word, key_of_word, value_of_word}
@@ -58,7 +58,7 @@ ask_line _ _ _ = None
 -- what the words mean after the group line: `stop`, or `ask <caller> <process> <op>`
 abbrev pub event_line : Dimensions → List (List ℕ) → Option Line
 event_line shape (name ∷ []) = if bytes_eq name (codes "stop") then Some Stop else None
-event_line shape (name ∷ caller ∷ at ∷ op) = if bytes_eq name (codes "ask") then ask_line (number_below 256 caller) (process_of_word shape at) (act_of op) else None
+event_line shape (name ∷ caller ∷ at ∷ op) = if bytes_eq name (codes "ask") then ask_line (number_below callers caller) (process_of_word shape at) (act_of op) else None
 event_line shape _ = None
 
 -- what words mean where the group is not named yet, and after it
@@ -70,13 +70,8 @@ meaning_of (Some shape) words = event_line shape words
 abbrev pub line_of : Option Dimensions → List ℕ → Option Line
 line_of shape line = if is_skipped line then Some Skipped else meaning_of shape (words_of line)
 
--- the process is one of the group's
-abbrev pub IsProcessOf : Dimensions → ProcessId → Type 0
-IsProcessOf shape (DataNode d) = d < shape.k
-IsProcessOf shape (ParityNode i) = i < shape.m
-
 -- the caller and the process of an ask are within the group's limits
 abbrev pub IsLineOf : Option Dimensions → Line → Type 0
-IsLineOf (Some shape) (Ask caller at act) = (caller < 256) × IsProcessOf shape at
+IsLineOf (Some shape) (Ask caller at act) = (caller < callers) × IsProcess shape at
 IsLineOf None (Ask caller at act) = ⊥
 IsLineOf _ _ = ⊤

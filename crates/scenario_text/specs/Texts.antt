@@ -94,3 +94,8 @@ name_text caller call moment = codes "= " ++ decimal caller ++ (codes "." ++ dec
 -- an entry of the log
 abbrev pub entry_text : Entry → List ℕ
 entry_text entry = name_text entry.caller entry.call entry.op.moment ++ act_text entry.op.act ++ codes " " ++ reply_text entry.reply
+
+-- entries of the log, each on a line
+abbrev pub entries_text : List Entry → List ℕ
+entries_text [] = []
+entries_text (entry ∷ entries) = entry_text entry ++ 10 ∷ entries_text entries

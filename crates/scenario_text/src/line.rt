@@ -1,6 +1,8 @@
 use group_types::{KeyFault, ProcessId, Shape};
 use memc_table::Act;
 use std::alloc::AllocError;
+use std::error::Error;
+use std::fmt;
 
 /// What a line of a script means.
 #[derive(Debug, Drop, PartialEq, Eq)]
@@ -27,6 +29,17 @@ pub enum LineFault {
     BadLine,
     Want,
 }
+
+impl fmt::Display for LineFault {
+    fn fmt<W: fmt::Write>(&self, f: &mut fmt::Formatter<W>) -> fmt::Result {
+        f.write_str(match self {
+            LineFault::BadLine => "no line of a script",
+            LineFault::Want => "no memory for the line",
+        })
+    }
+}
+
+impl Error for LineFault {}
 
 impl From<AllocError> for LineFault {
     ghost use Rattle.std.specs.Prelude.{◌≡◌};

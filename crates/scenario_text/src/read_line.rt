@@ -5,7 +5,7 @@ ghost use Rattle.scenario_text.specs.Meaning.{line_of, is_skipped, group_line, g
 
 use crate::line::{Line, LineFault};
 use crate::read_word::{read_key, read_number, read_process, read_u32, read_value};
-use group_types::Shape;
+use group_types::{CALLERS, Shape};
 use memc_table::Act;
 use std::alloc::{AllocError, Global};
 
@@ -70,7 +70,7 @@ fn read_event(alloc: Global, shape: Shape, words: &[&[u8]]) -> Result<Line, Line
     match words {
         [name] if *name == b"stop".as_slice() => Ok(Line::Stop),
         [name, caller, at, act @ ..] if *name == b"ask".as_slice() => Ok(Line::Ask {
-            caller: read_number(caller, 256)? as u32,
+            caller: read_number(caller, u64::from(CALLERS))? as u32,
             at: read_process(shape, at)?,
             act: read_act(alloc, act)?,
         }),

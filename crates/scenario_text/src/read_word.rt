@@ -1,6 +1,6 @@
 ghost use Rattle.std.specs.Prelude.{◌^◌, ◌<◌, IfOk};
+ghost use Rattle.group_types.specs.Names.{IsProcess};
 ghost use Rattle.scenario_text.specs.Reads.{IsReadAs, IsReadBy};
-ghost use Rattle.scenario_text.specs.Meaning.{IsProcessOf};
 ghost use Rattle.scenario_text.specs.Words.{number_below, key_of_word, value_of_word, hex_value, process_of_word};
 
 use crate::line::LineFault;
@@ -33,7 +33,7 @@ pub fn read_u32(word: &[u8]) -> Result<u32, LineFault>
 #[tactic(auto, unfolding(crate::specs::Words::process_of_word))]
 pub fn read_process(shape: Shape, word: &[u8]) -> Result<ProcessId, LineFault>
     ensures value { IsReadAs result (process_of_word shape word.now) }
-    ensures within { IfOk result (IsProcessOf shape) }
+    ensures within { IfOk result (IsProcess shape) }
 {
     match word {
         [b'd', digits @ ..] => {

@@ -1,6 +1,6 @@
 use Rattle.std.proofs.Common.{◌≡◌, [], ◌∷◌, ◌++◌, drop}
 use Rattle.scenario_text.specs.Texts.{answer_text}
-use Rattle.scenario_play.specs.Script.{entries_text}
+use Rattle.scenario_text.specs.Texts.{entries_text}
 use Rattle.scenario_play.proofs.turn_text.write_turn.Given as goal
 
 abbrev pub invariant-entries : goal.invariant-entries
