@@ -1,0 +1,16 @@
+pub mod Areas
+pub mod Values
+pub mod Applying
+pub mod Finds
+pub mod Finding
+pub mod Copies
+pub mod Stepping
+pub mod Marking
+pub mod Treating
+pub mod Receipts
+pub mod Keeping
+pub mod Rising
+pub mod Decode
+pub mod Blocks
+pub mod Rebuilding
+pub mod Survivors

@@ -1,0 +1,5 @@
+pub mod Areas
+pub mod Held
+pub mod Premises
+pub mod Law
+pub mod Decoding

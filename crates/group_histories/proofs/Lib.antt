@@ -1,0 +1,4 @@
+pub mod Folds
+pub mod Lanes
+pub mod Histories
+pub mod Applies

@@ -1,0 +1,15 @@
+pub mod Books
+pub mod Calls
+pub mod Refusals
+pub mod Tables
+pub mod Ledgers
+pub mod Entries
+pub mod Logs
+pub mod Asks
+pub mod Logging
+pub mod Turnings
+pub mod Fates
+pub mod Fetches
+pub mod Prompts
+pub mod Withins
+pub mod Ones

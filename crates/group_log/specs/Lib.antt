@@ -1,0 +1,5 @@
+pub mod Book
+pub mod Calls
+pub mod Stands
+pub mod Ties
+pub mod Laws

@@ -1,0 +1,15 @@
+pub mod Ranks
+pub mod Around
+pub mod Acts
+pub mod Heads
+pub mod Hears
+pub mod Steps
+pub mod Rows
+pub mod Deciding
+pub mod Calls
+pub mod Messages
+pub mod Notices
+pub mod Keeping
+pub mod Weaker
+pub mod Numbers
+pub mod Fits

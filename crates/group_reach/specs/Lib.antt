@@ -1,0 +1,4 @@
+pub mod Reach
+pub mod Issuing
+pub mod Numbers
+pub mod Fits

@@ -1,0 +1,13 @@
+pub mod Sums
+pub mod Groups
+pub mod Local
+pub mod Marks
+pub mod Taking
+pub mod Starting
+pub mod Tallying
+pub mod Keeping
+pub mod Fresh
+pub mod Sending
+pub mod Exacts
+pub mod Leading
+pub mod Sound

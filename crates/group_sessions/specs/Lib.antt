@@ -1,0 +1,4 @@
+pub mod Tokens
+pub mod Fresh
+pub mod Exact
+pub mod Leading

@@ -1,0 +1,11 @@
+pub mod Eaches
+pub mod Keys
+pub mod Spaces
+pub mod Rules
+pub mod Blind
+pub mod Steps
+pub mod Decides
+pub mod Histories
+pub mod Clears
+pub mod Fines
+pub mod Homes

@@ -1,0 +1,5 @@
+pub mod Cuts
+pub mod Shows
+pub mod Values
+pub mod Written
+pub mod Keeping
