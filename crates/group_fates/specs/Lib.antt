@@ -1,0 +1,4 @@
+pub mod Held
+pub mod Gone
+pub mod Kept
+pub mod Headline
