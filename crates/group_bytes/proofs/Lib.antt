@@ -6,6 +6,7 @@ pub mod Finding
 pub mod Copies
 pub mod Stepping
 pub mod Marking
+pub mod Unasked
 pub mod Treating
 pub mod Receipts
 pub mod Keeping

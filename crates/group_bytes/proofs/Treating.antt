@@ -1,5 +1,5 @@
 -- Calls that a process treats leave its bytes right.
-use Rattle.std.proofs.Common.{IfSome, map, ◌≡◌, ◌≢◌, ℕ, zero, suc, ◌+◌, ◌<◌, ◌≤◌, ◌%◌, ◌==◌, nat_le, Bool, true, false, not, List, [], ◌∷◌, ◌++◌, length, take, filter, find, Option, Some, None, ◌⊎◌, inl, inr, sym, ap, subst, ◌∙◌, refl, arith, cond}
+use Rattle.std.proofs.Common.{IfSome, ◌≡◌, ◌≢◌, ℕ, zero, suc, ◌+◌, ◌<◌, ◌≤◌, ◌%◌, ◌==◌, nat_le, Bool, true, false, not, List, [], ◌∷◌, ◌++◌, length, take, filter, find, Option, Some, None, ◌⊎◌, inl, inr, sym, ap, subst, ◌∙◌, refl, arith, cond}
 use Rattle.std.proofs.lemmas.Bool.{cases_eq, eq-eqb}
 use Rattle.std.specs.List.{list_any, range_with_len}
 use Rattle.group_types.specs.Dimensions.{Dimensions, space_of}
@@ -14,23 +14,20 @@ use Rattle.group_message.specs.declared.update.Update.{Update}
 use Rattle.group_calls.specs.Turns.{CallName}
 use Rattle.group_calls.specs.declared.decision.Decision.{Decision}
 use Rattle.group_calls.specs.declared.decision.Decision.TheVariants as decides
-use Rattle.group_run.specs.Applying.{Sent, ProcessStep, Settlement, head_at, held_at, replica_of, when, with_held, with_replica}
+use Rattle.group_run.specs.Applying.{ProcessStep, Settlement, head_at, held_at, replica_of, when, with_held, with_replica}
 use Rattle.group_run.specs.Asking.{Oldest, act_on, ask_head, collect_from, collect_held, found_at, handed_out, holding, is_call, issued, oldest_inherited, retry_block, ticketed, update_of}
 use Rattle.group_run.specs.Deciding.{decide}
 use Rattle.group_run.specs.Heading.{judge, judge_head, least_acked, other_parities, settle_to, settlements}
-use Rattle.group_run.specs.Leaders.{left_of, lost_of, rows_of, session_of, session_opened, session_starts, start_session}
+use Rattle.group_run.specs.Leaders.{lost_of, session_opened, start_session}
 use Rattle.group_run.specs.Process.{Head, Held, Process}
 use Rattle.group_run.specs.Replica.{Replica, empty_replica, last_of, up_to, with_update}
 use Rattle.group_run.specs.Rows.{copy_in, parity_number}
 use Rattle.group_run.specs.World.{settled_in}
 use Rattle.group_frame.specs.Moves.{Treats, Asks, Collects, Flushes}
-use Rattle.group_members.specs.Members.{Each, IsParity}
+use Rattle.group_members.specs.Members.{Each}
 use Rattle.group_members.proofs.Calls.{Owes, Seated, each-below, step-treats}
-use Rattle.group_members.proofs.Cores.{MaySend, SentWell}
+use Rattle.group_members.proofs.Cores.{SentWell}
 use Rattle.group_members.proofs.Eaches.{each-weaker}
-use Rattle.erasure_code.proofs.Nodes.{Among}
-use Rattle.group_bytes.proofs.Rising.{among-range, each-among, filter-among}
-use Rattle.group_message.specs.declared.message.Message.TheVariants as tells
 use Rattle.group_types.specs.Names.{IsProcess}
 use Rattle.group_types.specs.declared.process.ProcessId.{ProcessId}
 use Rattle.group_bytes.specs.Premises.{AppliesSettled, SettlesNext, NextIsNew, SettledWrite}
@@ -39,6 +36,7 @@ use Rattle.group_bytes.proofs.Copies.{holding-same}
 use Rattle.group_bytes.proofs.Finds.{each-filter, if-weaker}
 use Rattle.group_bytes.proofs.Marking.{Differ, IsOpen, owns-hold}
 use Rattle.group_bytes.proofs.Stepping.{Ready}
+use Rattle.group_bytes.proofs.Unasked.{never-asks}
 use Rattle.group_bytes.proofs.Values.{Concerns, Inside}
 
 -- what is settled of one partition is of it
@@ -133,40 +131,12 @@ module _ (s : Dimensions) (settled : ℕ → List Update) (write : SettledWrite 
       opened : Process
       opened = session_opened s number block p
 
-  -- a data process never opens one: it would ask itself
-  never-asks : (e block : ℕ) (p : Process) → p.name ≡ DataNode e → e < s.k → knows_dead p.known (DataNode e) ≡ false → SentWell Owes s.k (start_session s block p).process (start_session s block p).sent
-      → (start_session s block p).process.name ≡ p.name → ⊥
-  never-asks e block p name inside living well same = subst IsParity (same ∙ name) (each-among (λ d. IsParity (start_session s block p).process.name) (left_of s p) e asked there) where
-    l : ℕ
-    l = parity_number p.name
-
-    number : ℕ
-    number = suc p.as_leader.last_session
-
-    question : ℕ → Sent
-    question d = record { to = DataNode d; message = tells.ReadBlock (session_of l number) block (rows_of s p) }
-
-    front : {X : Type 0} (P : X → Type 0) (xs ys : List X) → Each P (xs ++ ys) → Each P xs
-    front P [] ys all = tt
-    front P (x ∷ xs) ys all = (all.0, front P xs ys all.1)
-
-    asked_of : (P : Sent → Type 0) (Q : ℕ → Type 0) → ((d : ℕ) → P (question d) → Q d) → (ds : List ℕ) → Each P (map question ds) → Each Q ds
-    asked_of P Q turn [] all = tt
-    asked_of P Q turn (d ∷ ds) all = (turn d all.0, asked_of P Q turn ds all.1)
-
-    asked : Each (λ d. IsParity (start_session s block p).process.name) (left_of s p)
-    asked = asked_of (λ z. MaySend Owes s.k (start_session s block p).process z.to z.message) (λ d. IsParity (start_session s block p).process.name) (λ d may. may.1) (left_of s p)
-        (front (λ z. MaySend Owes s.k (start_session s block p).process z.to z.message) (map question (left_of s p)) _ (front (λ z. MaySend Owes s.k (start_session s block p).process z.to z.message) (session_starts s l number block p) _ well))
-
-    there : Among e (left_of s p)
-    there = filter-among (λ d. not (knows_dead p.known (DataNode d))) e (range_with_len 0 s.k) (among-range e 0 s.k (omega arith) (omega (arith, inside))) (ap not living)
-
   module _ (p : Process) (x : ProcessId) (name : p.name ≡ x) (in_group : IsProcess s x) (living : knows_dead p.known x ≡ false) (inside : Inside s p.name) (new : NextIsNew s p) (holding : Holding s settled old p) where
     session-holds : (block : ℕ) → SentWell Owes s.k (start_session s block p).process (start_session s block p).sent → (start_session s block p).process.name ≡ p.name → Holding s settled old (start_session s block p).process
     session-holds block well same = by x name in_group living where
       by : (y : ProcessId) → p.name ≡ y → IsProcess s y → knows_dead p.known y ≡ false → Holding s settled old (start_session s block p).process
       by (ParityNode l) is within lives = parity-holds block l p is inside new holding
-      by (DataNode e) is within lives = absurd (never-asks e block p is within lives well same)
+      by (DataNode e) is within lives = absurd (never-asks s e block p is within lives well same)
 
     retry-holds : (block : ℕ) (o : Option Oldest) → SentWell Owes s.k (retry_block s block o p).step.process (retry_block s block o p).step.sent → (retry_block s block o p).step.process.name ≡ p.name → Holding s settled old (retry_block s block o p).step.process
     retry-holds block (Some o) well same = holding

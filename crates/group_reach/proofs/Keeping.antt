@@ -72,7 +72,7 @@ module _ (s : Dimensions) (v : State) (members : Members s v) (p : ProcessId) (p
   pub known-dead : (q : ProcessId) → IsProcess s q → q ≢ p → knows_dead (v.process p).known q ≡ true → v.dead q ≡ true
   known-dead q qin other knows = known-is-dead q (v.dead q) (knows_dead (v.process p).known q) (v.link q p) (members.stands q p qin pin other lives) knows
 
-  leads-lost : (e : ℕ) (h : Head) (run : Run) (b : ℕ) → e < s.k → head_at (v.process p) e ≡ Some h → (y : ProcessId) → p ≡ y → found_at s e (v.process p) y run ≡ Missing b → LeadsLost s (v.process p)
+  pub leads-lost : (e : ℕ) (h : Head) (run : Run) (b : ℕ) → e < s.k → head_at (v.process p) e ≡ Some h → (y : ProcessId) → p ≡ y → found_at s e (v.process p) y run ≡ Missing b → LeadsLost s (v.process p)
   leads-lost e h run b below heads (DataNode z) is missing l lin lost = absurd (bytes_not missing) where
     bytes_not : {bytes : List ℕ} → Bytes bytes ≡ Missing b → ⊥
     bytes_not m = cc m

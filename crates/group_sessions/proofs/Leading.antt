@@ -243,7 +243,7 @@ module _ (s : Dimensions) where
   sender-lives x true true m rest stands = absurd (cc stands)
   sender-lives x false true m rest stands = absurd stands
 
-  fits-keeps : IsShape s → Keeps s (λ v. Members s v × SessionsFit s v)
+  pub fits-keeps : IsShape s → Keeps s (λ v. Members s v × SessionsFit s v)
   fits-keeps shaped = record {
     opens = λ v starts. (kept.opens v starts, λ p pin lives. subst (λ (y : Process). Each (IsFor s y.known) y.as_leader.sessions) (sym (starts.process p pin)) tt);
     treats = λ v w p t pin up lives treats both acts. (kept.treats v w p t pin up lives treats both.0 acts, acted-fits v w p t acts both.1 (fits-after (v.process p) t.process (treats-leads (v.process p) t treats) (both.1 p pin lives)));

@@ -1,5 +1,5 @@
 -- What a process makes of each message, and of each call: how a session's tokens change.
-use Rattle.std.proofs.Common.{◌≡◌, ℕ, suc, ◌+◌, ◌<◌, ◌≤◌, ◌==◌, ◌&&◌, nat_le, Bool, true, false, not, List, [], ◌∷◌, ◌++◌, length, map, filter, find, Option, Some, None, ◌⊎◌, inl, inr, sym, ap, subst, ◌∙◌, refl, arith}
+use Rattle.std.proofs.Common.{◌≡◌, ℕ, suc, ◌+◌, ◌<◌, ◌≤◌, ◌==◌, ◌&&◌, nat_le, Bool, true, false, not, List, [], ◌∷◌, length, filter, find, Option, Some, None, ◌⊎◌, inl, inr, sym, ap, subst, ◌∙◌, refl, arith}
 use Rattle.std.specs.List.{list_any, range_with_len}
 use Rattle.group_types.specs.Dimensions.{Dimensions, space_of}
 use Rattle.group_types.specs.Hash.{home_of}
@@ -16,11 +16,11 @@ use Rattle.group_message.specs.declared.update.Update.{Update}
 use Rattle.group_calls.specs.Turns.{CallName}
 use Rattle.group_calls.specs.declared.decision.Decision.{Decision}
 use Rattle.group_calls.specs.declared.decision.Decision.TheVariants as decides
-use Rattle.group_run.specs.Applying.{ProcessStep, Sent, and_then, apply_to, for_each, head_at, held_at, quiet, replica_of, sending, when, with_head, with_held, with_replica}
+use Rattle.group_run.specs.Applying.{ProcessStep, and_then, apply_to, for_each, head_at, held_at, quiet, replica_of, sending, when, with_head, with_held, with_replica}
 use Rattle.group_run.specs.Asking.{Oldest, act_on, ask_head, collect_from, collect_held, found_at, handed_out, holding, is_call, issued, oldest_inherited, retry_block, ticketed, update_of}
 use Rattle.group_run.specs.Deciding.{decide}
 use Rattle.group_run.specs.Heading.{acknowledge, acknowledged, judge, tell_stable, tell_stables, to_others}
-use Rattle.group_run.specs.Leaders.{left_of, lost_of, mark_comes, open_session, own_mark, rows_of, session_of, session_opened, session_starts, start_session}
+use Rattle.group_run.specs.Leaders.{lost_of, mark_comes, open_session, own_mark, session_opened, session_starts, start_session}
 use Rattle.group_run.specs.Process.{Head, Held, LeaderState, Process, RowState}
 use Rattle.group_run.specs.Receiving.{ack_to, adopting, log_adopted, read_comes, receive, update_taken, with_rank}
 use Rattle.group_run.specs.Replica.{with_update}
@@ -28,10 +28,9 @@ use Rattle.group_run.specs.Rows.{copy_in, parity_number}
 use Rattle.group_frame.specs.Moves.{Treats, Asks, Collects, Flushes}
 use Rattle.group_members.specs.Members.{Each, IsData, IsParity}
 use Rattle.group_members.proofs.Calls.{Owes, Seated, step-treats}
-use Rattle.group_members.proofs.Cores.{MaySend, SentWell}
+use Rattle.group_members.proofs.Cores.{SentWell}
 use Rattle.group_members.proofs.Eaches.{each-append}
-use Rattle.erasure_code.proofs.Nodes.{Among}
-use Rattle.group_bytes.proofs.Rising.{among-range, each-among, filter-among}
+use Rattle.group_bytes.proofs.Unasked.{never-asks}
 use Rattle.group_sessions.specs.Tokens.{Token, block_way, is_kept_in, is_marked_in, is_token, marks_way, of_session, one_if, row_way}
 use Rattle.group_sessions.proofs.Local.{Fact, Fewer, Gains, Silent, fewer-apply, fewer-at, fewer-ceased, fewer-self, fewer-trans, gains-fewer, gains-from, gains-judge, gains-more, gains-notice, gains-then, gains-when, silent-others}
 use Rattle.group_sessions.proofs.Marks.{same_session, session-cases}
@@ -125,40 +124,12 @@ module _ (s : Dimensions) (t : Token) (below : t.partition < s.k) where
     by (inl same) = inr (record { leader = name ∙ ap ParityNode same.0; number = sym same.1; last = start-last s t block l p name below; gains = start-new s t block l p name below })
     by (inr other) = inl (start-other s t block l p name other below)
 
-  -- a data process never opens one: it would ask itself
-  never-asks : (e block : ℕ) (p : Process) → p.name ≡ DataNode e → e < s.k → knows_dead p.known (DataNode e) ≡ false → SentWell Owes s.k (start_session s block p).process (start_session s block p).sent
-      → (start_session s block p).process.name ≡ p.name → ⊥
-  never-asks e block p name inside living well same = subst IsParity (same ∙ name) (each-among (λ d. IsParity (start_session s block p).process.name) (left_of s p) e asked there) where
-    l : ℕ
-    l = parity_number p.name
-
-    number : ℕ
-    number = suc p.as_leader.last_session
-
-    question : ℕ → Sent
-    question d = record { to = DataNode d; message = tells.ReadBlock (session_of l number) block (rows_of s p) }
-
-    front : {X : Type 0} (P : X → Type 0) (xs ys : List X) → Each P (xs ++ ys) → Each P xs
-    front P [] ys all = tt
-    front P (x ∷ xs) ys all = (all.0, front P xs ys all.1)
-
-    asked_of : (P : Sent → Type 0) (Q : ℕ → Type 0) → ((d : ℕ) → P (question d) → Q d) → (ds : List ℕ) → Each P (map question ds) → Each Q ds
-    asked_of P Q turn [] all = tt
-    asked_of P Q turn (d ∷ ds) all = (turn d all.0, asked_of P Q turn ds all.1)
-
-    asked : Each (λ d. IsParity (start_session s block p).process.name) (left_of s p)
-    asked = asked_of (λ z. MaySend Owes s.k (start_session s block p).process z.to z.message) (λ d. IsParity (start_session s block p).process.name) (λ d may. may.1) (left_of s p)
-        (front (λ z. MaySend Owes s.k (start_session s block p).process z.to z.message) (map question (left_of s p)) _ (front (λ z. MaySend Owes s.k (start_session s block p).process z.to z.message) (session_starts s l number block p) _ well))
-
-    there : Among e (left_of s p)
-    there = filter-among (λ d. not (knows_dead p.known (DataNode d))) e (range_with_len 0 s.k) (among-range e 0 s.k (omega arith) (omega (arith, inside))) (ap not living)
-
   module _ (p : Process) (x : ProcessId) (name : p.name ≡ x) (inside : IsProcess s x) (living : knows_dead p.known x ≡ false) where
     session-claims : (block : ℕ) → SentWell Owes s.k (start_session s block p).process (start_session s block p).sent → (start_session s block p).process.name ≡ p.name → Claims p (start_session s block p)
     session-claims block well same = by x name inside living where
       by : (y : ProcessId) → p.name ≡ y → IsProcess s y → knows_dead p.known y ≡ false → Claims p (start_session s block p)
       by (ParityNode l) is within lives = start-claims block l p is
-      by (DataNode e) is within lives = absurd (never-asks e block p is within lives well same)
+      by (DataNode e) is within lives = absurd (never-asks s e block p is within lives well same)
 
     retry-claims : (block : ℕ) (o : Option Oldest) → SentWell Owes s.k (retry_block s block o p).step.process (retry_block s block o p).step.sent → (retry_block s block o p).step.process.name ≡ p.name → Claims p (retry_block s block o p).step
     retry-claims block (Some o) well same = inl (gains-fewer t p (quiet p) (fewer-self t p) tt)

@@ -1,0 +1,16 @@
+pub mod Following
+pub mod Gathering
+pub mod Marking
+pub mod Receiving
+pub mod Opening
+pub mod Calls
+pub mod Growing
+pub mod Nothing
+pub mod Keeping
+pub mod Gathers
+pub mod Bearing
+pub mod Giving
+pub mod Rebuilds
+pub mod Owning
+pub mod Asked
+pub mod Backing
