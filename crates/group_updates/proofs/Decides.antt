@@ -19,8 +19,8 @@ use Rattle.group_message.specs.declared.update.Body.{Body}
 use Rattle.group_message.specs.declared.update.Body.TheVariants.{Put, Remove, Touch}
 use Rattle.group_calls.specs.declared.decision.Decision.TheVariants.{Issue}
 use Rattle.run_alloc.specs.Free.{AllFree}
-use Rattle.group_laws.proofs.Placing.{places_are_best}
-use Rattle.group_laws.specs.Placing.{IsPlaced}
+use Rattle.group_places.proofs.Placing.{places_are_best}
+use Rattle.group_places.specs.Placing.{IsPlaced}
 use Rattle.group_run.specs.Deciding.{Bytes, Found, Missing, blind_reply, decide_accepted, decide_blind, decide_found, decide_left, decide_placed, decide_ruled, decide_waiting, decide_written, held_as, is_blind, is_get, is_touch, item_found, length_of, outcome_of, reads_bytes, ruling_with, unseen, waits_for, window}
 use Rattle.group_run.specs.Fitting.{IsRunOf}
 use Rattle.group_run.specs.Free.{is_free, place_for}

@@ -5,7 +5,7 @@ use Rattle.group_types.specs.declared.run.Run.{Run}
 use Rattle.run_alloc.specs.Free.{IsFreeRun}
 use Rattle.group_run.specs.Free.{is_free, walk, closed, shorter, counted, best_so_far, front_of, place_for}
 use Rattle.group_run.specs.Replica.{Replica}
-use Rattle.group_laws.specs.Placing.{IsChosen, WalkFindsBest, IsPlaced, PlacesAreBest}
+use Rattle.group_places.specs.Placing.{IsChosen, WalkFindsBest, IsPlaced, PlacesAreBest}
 
 not_both : (b : Bool) → b ≡ true → b ≡ false → ⊥
 not_both b one other = let e : true ≡ false = sym one ∙ other in cc

@@ -1,3 +1,0 @@
-pub mod Lanes
-pub mod Receives
-pub mod Placing

@@ -1,3 +1,0 @@
-pub mod Lane
-pub mod Seen
-pub mod Placing
