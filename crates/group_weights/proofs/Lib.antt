@@ -1,0 +1,5 @@
+pub mod Differing
+pub mod Sending
+pub mod Loads
+pub mod Always
+pub mod Drained
