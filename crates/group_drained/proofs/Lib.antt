@@ -1,0 +1,10 @@
+pub mod Heads
+pub mod Plain
+pub mod Newest
+pub mod Handling
+pub mod Keeping
+pub mod Receiving
+pub mod Finished
+pub mod Quiet
+pub mod Whole
+pub mod Copies
