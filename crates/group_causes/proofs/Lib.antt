@@ -1,0 +1,13 @@
+pub mod Walks
+pub mod Ready
+pub mod Leaves
+pub mod Traces
+pub mod Same
+pub mod Numbers
+pub mod Reasons
+pub mod Oldest
+pub mod Tickets
+pub mod Asks
+pub mod Distinct
+pub mod Awaited
+pub mod Answering
