@@ -72,7 +72,7 @@ use Rattle.group_sessions.proofs.Sound.{enough}
 use Rattle.std.proofs.lemmas.List.{length-take-le}
 use Rattle.group_causes.proofs.Numbers.{SameButNumber, SameValue, accepted-alike, numbers-alike, refused-alike}
 use Rattle.group_causes.proofs.Oldest.{IsOldest, is-oldest}
-use Rattle.group_causes.proofs.Ready.{ready-from, seat-from-ready}
+use Rattle.group_members.proofs.Aways.{ready-from, seat-from-ready}
 use Rattle.group_causes.proofs.Reasons.{Accepts, Caused, caused}
 use Rattle.group_causes.proofs.Same.{same-held}
 use Rattle.group_causes.proofs.Tickets.{unfinished}

@@ -1,5 +1,4 @@
 pub mod Walks
-pub mod Ready
 pub mod Leaves
 pub mod Traces
 pub mod Same

@@ -28,7 +28,7 @@ use Rattle.group_members.specs.Members.{Members, seat_of}
 use Rattle.group_members.proofs.Calls.{seat-head}
 use Rattle.group_members.proofs.Keeping.{members_always}
 use Rattle.group_causes.specs.Laws.{TracesAlways, TracesHaveCauses}
-use Rattle.group_causes.proofs.Ready.{ready-from, seat-from-ready}
+use Rattle.group_members.proofs.Aways.{ready-from, seat-from-ready}
 use Rattle.group_causes.proofs.Walks.{is-down, is-up, not-down}
 
 and-both : (a b : Bool) → (a && b) ≡ true → (a ≡ true) × (b ≡ true)

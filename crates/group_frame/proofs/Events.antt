@@ -1,5 +1,5 @@
 -- Each event of a history makes a move, and the frame of the group stays.
-use Rattle.std.proofs.Common.{ℕ, ◌≡◌, ◌≢◌, ◌<◌, ◌≤◌, ◌+◌, ◌⊎◌, inl, inr, Bool, true, false, nat_lt, List, [], ◌∷◌, ◌++◌, length, map, refl, sym, ap, subst, ◌∙◌, arith}
+use Rattle.std.proofs.Common.{ℕ, ◌≡◌, ◌≢◌, ◌<◌, ◌≤◌, ◌+◌, ◌⊎◌, inl, inr, Bool, true, false, nat_lt, List, [], ◌∷◌, length, map, refl, sym, ap, subst, ◌∙◌, arith}
 use Rattle.std.proofs.lemmas.Grind.{common_steps}
 use Rattle.std.proofs.lemmas.List.{length-map}
 use Rattle.std.specs.List.{range_with_len}
@@ -115,7 +115,7 @@ module _ (s : Dimensions) (nodes : List Node) (settled : List (List Update)) (fr
       (comes_same (with_node s p node.node nodes) (ap (λ (n : Node). with_node s p n nodes) same ∙ node-back s nodes p pin framed.nodes_many))
 
 -- to empty a link changes no word
-emptied-dead : (s : Dimensions) (m : Message) (node : Node) → (link_emptied s m node).dead ≡ node.dead
+pub emptied-dead : (s : Dimensions) (m : Message) (node : Node) → (link_emptied s m node).dead ≡ node.dead
 emptied-dead s (tells.Notice dead) node = refl
 emptied-dead s (tells.Update r d u stable) node = refl
 emptied-dead s (tells.Ack r d n) node = refl

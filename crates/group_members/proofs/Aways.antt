@@ -1,5 +1,5 @@
 -- A call is sent away exactly where the process doesn't head its partition.
-use Rattle.std.proofs.Common.{ℕ, zero, suc, ◌≡◌, ◌≢◌, ◌<◌, ◌≤◌, ◌+◌, ◌%◌, nat_le, nat_lt, Bool, true, false, ◌&&◌, List, [], ◌∷◌, ◌++◌, length, slice_index_or, Option, Some, None, ◌==◌, if◌then◌else◌, ◌⊎◌, refl, sym, ap, subst, ◌∙◌, arith}
+use Rattle.std.proofs.Common.{ℕ, zero, suc, ◌≡◌, ◌≢◌, ◌<◌, ◌≤◌, ◌+◌, ◌%◌, nat_le, nat_lt, Bool, true, false, ◌&&◌, List, [], ◌∷◌, ◌++◌, length, slice_index_or, Option, Some, None, ◌==◌, if◌then◌else◌, refl, sym, ap, subst, ◌∙◌, arith}
 use Rattle.std.proofs.lemmas.Grind.{common_steps}
 use Rattle.std.specs.Prelude.{◌↔◌, Contains, option_map}
 use Rattle.std.specs.List.{list_all, range_with_len}
@@ -78,7 +78,7 @@ some-seat p d r (Some y) is seat = (y, refl)
 
 module _ (h : History) (members : Members h.world.shape (state_of h)) (p : ProcessId) (d : ℕ) (pin : IsProcess h.world.shape p) (lives : is_dead h.world p ≡ false) (below : d < h.world.shape.k) where
   -- whoever sits there is the head and has taken over
-  ready-from : (r : ℕ) → seat_of (process_of h.world p) d ≡ Some r → IsReady h.world p d
+  pub ready-from : (r : ℕ) → seat_of (process_of h.world p) d ≡ Some r → IsReady h.world p d
   ready-from r seat = record {
     rank = r;
     name = from.0;
@@ -119,7 +119,7 @@ module _ (h : History) (members : Members h.world.shape (state_of h)) (p : Proce
         cc (at_link.1, knows)
 
   -- a head that has taken over sits there
-  seat-from-ready : IsReady h.world p d → (r : ℕ) × (seat_of (process_of h.world p) d ≡ Some r)
+  pub seat-from-ready : IsReady h.world p d → (r : ℕ) × (seat_of (process_of h.world p) d ≡ Some r)
   seat-from-ready ready = by ready.rank p refl ready.name (members.sits p d pin lives below) where
     knows : (q : ℕ) → q < ready.rank → IsProcess h.world.shape (of_rank d q) → of_rank d q ≢ p → knows_dead (process_of h.world p).known (of_rank d q) ≡ true
     knows q low qin other = by_word (is_dead h.world (of_rank d q)) (knows_dead (process_of h.world p).known (of_rank d q)) refl refl (members.stands (of_rank d q) p qin pin other lives) where

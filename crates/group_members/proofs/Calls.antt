@@ -1,5 +1,5 @@
 -- What a process sends when it treats a call: its core stays.
-use Rattle.std.proofs.Common.{ℕ, zero, suc, ◌≡◌, ◌≢◌, ◌<◌, ◌≤◌, ◌+◌, ◌==◌, ◌%◌, nat_le, Bool, true, false, not, ◌&&◌, ◌||◌, List, [], ◌∷◌, ◌++◌, map, filter, length, Option, Some, None, ◌⊎◌, refl, sym, ap, subst, ◌∙◌, if◌then◌else◌, cond, arith}
+use Rattle.std.proofs.Common.{ℕ, zero, suc, ◌≡◌, ◌<◌, ◌+◌, ◌==◌, ◌%◌, nat_le, Bool, true, false, not, ◌&&◌, List, [], ◌∷◌, map, filter, length, Option, Some, None, refl, sym, ap, subst, ◌∙◌, cond, arith}
 use Rattle.std.specs.Prelude.{flat_map, find, option_map}
 use Rattle.std.specs.List.{list_all, list_any, range_with_len}
 use Rattle.group_types.specs.Dimensions.{Dimensions, space_of}

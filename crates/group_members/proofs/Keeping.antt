@@ -69,7 +69,7 @@ known-is-dead x true known link stands knows = refl
 known-is-dead x false true link stands knows = absurd stands
 known-is-dead x false false link stands knows = cc knows
 
-living-unknown : (x : ProcessId) (dead known : Bool) (link : List Message) → Stands x dead known link → dead ≡ false → known ≡ false
+pub living-unknown : (x : ProcessId) (dead known : Bool) (link : List Message) → Stands x dead known link → dead ≡ false → known ≡ false
 living-unknown x dead false link stands lives = refl
 living-unknown x true true link stands lives = cc lives
 living-unknown x false true link stands lives = absurd stands

@@ -32,10 +32,10 @@ use Rattle.group_frame.specs.Moves.{Acted, Asks, Collects, Died, Flushes, Keeps,
 use Rattle.group_frame.specs.State.{IsUp, Opens, State}
 use Rattle.group_frame.proofs.Known.{known-notice}
 use Rattle.group_frame.proofs.Runs.{holds_always}
-use Rattle.group_members.specs.Members.{Each, Members, Sits, Stands, is_notice, knows_lower}
+use Rattle.group_members.specs.Members.{Each, Members, Sits, is_notice, knows_lower}
 use Rattle.group_members.proofs.Calls.{seat-head, seat-known, seat-lower}
 use Rattle.group_members.proofs.Eaches.{each-append, each-take}
-use Rattle.group_members.proofs.Keeping.{keeps, known-is-dead}
+use Rattle.group_members.proofs.Keeping.{keeps, known-is-dead, living-unknown}
 use Rattle.group_histories.specs.Folds.{run, Along}
 use Rattle.group_reach.specs.Issuing.{IssueKeeps, IssuesIn}
 use Rattle.group_histories.specs.Lanes.{AckBelow, Goes, next}
@@ -50,11 +50,6 @@ use Rattle.group_reach.proofs.Messages.{received, seat-some}
 use Rattle.group_reach.proofs.Notices.{notice-leads, same-known}
 use Rattle.group_reach.proofs.Rows.{LeadsLost}
 use Rattle.group_reach.proofs.Steps.{Still, still-leads}
-
-living-unknown : (x : ProcessId) (dead known : Bool) (link : List Message) → Stands x dead known link → dead ≡ false → known ≡ false
-living-unknown x dead false link stands lives = refl
-living-unknown x true true link stands lives = cc lives
-living-unknown x false true link stands lives = absurd stands
 
 -- a leader of one partition leads all that are lost
 lower-lost : (known : Membership) (d l i : ℕ) → knows_lower known d i ≡ true → knows_dead known (DataNode l) ≡ true → knows_lower known l i ≡ true

@@ -1,5 +1,5 @@
 -- Every move keeps the tokens of every session few.
-use Rattle.std.proofs.Common.{◌≡◌, ◌≢◌, ℕ, suc, ◌+◌, ◌<◌, ◌≤◌, nat_lt, Bool, true, false, None, List, [], ◌∷◌, take, ◌⊎◌, inl, inr, sym, ap, subst, ◌∙◌, refl, arith, if◌then◌else◌}
+use Rattle.std.proofs.Common.{◌≡◌, ◌≢◌, ℕ, suc, ◌+◌, ◌<◌, ◌≤◌, nat_lt, Bool, true, false, None, [], ◌∷◌, take, ◌⊎◌, inl, inr, sym, ap, subst, ◌∙◌, refl, arith, if◌then◌else◌}
 use Rattle.std.proofs.lemmas.Grind.{common_steps}
 use Rattle.group_types.specs.Dimensions.{Dimensions}
 use Rattle.group_types.specs.Names.{IsProcess, same_process}
@@ -17,7 +17,8 @@ use Rattle.group_run.specs.World.{sent_to}
 use Rattle.group_frame.specs.Moves.{Acted, Died, Keeps, Popped, Treats}
 use Rattle.group_frame.specs.State.{Opens, State}
 use Rattle.group_frame.proofs.Runs.{holds_always}
-use Rattle.group_members.specs.Members.{Each, IsParity, MayStand, Members, Stands}
+use Rattle.group_members.specs.Members.{Each, IsParity, MayStand, Members}
+use Rattle.group_members.proofs.Keeping.{living-unknown}
 use Rattle.group_members.proofs.Eaches.{each-append, each-sent_to, each-take}
 use Rattle.group_members.proofs.Keeping as members
 use Rattle.group_sessions.specs.Tokens.{Own, Row, Token, TokensAlways, TokensHold, Way, around, at_process, between, everyone, in_copy, in_link, in_session, is_kept_in, is_token, one_if, sum_of, tokens}
@@ -37,13 +38,6 @@ pub record Carried (s : Dimensions) (v : State) : Type 0 where
   pub facts : LinkFacts s v
   pub strangers : (t : Token) → t.partition < s.k → s.m ≤ t.leader → tokens s v t ≤ 0
   pub tokens : TokensHold s v
-
--- who lives isn't known dead
-living-unknown : (q : ProcessId) (dead known : Bool) (link : List Message) → Stands q dead known link → dead ≡ false → known ≡ false
-living-unknown q false false link stands lives = refl
-living-unknown q true false link stands lives = refl
-living-unknown q true true link stands lives = absurd (cc lives)
-living-unknown q false true link stands lives = absurd stands
 
 below-more : (a b c : ℕ) → b ≤ c → one_if (nat_lt a b) ≤ one_if (nat_lt a c)
 below-more a b c less = bit-le (nat_lt a b) (nat_lt a c) (λ is. more is) where

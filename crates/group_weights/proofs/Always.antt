@@ -18,6 +18,7 @@ use Rattle.group_run.specs.Process.{Node}
 use Rattle.group_run.specs.Progress.{DeliveryLowers}
 use Rattle.group_run.specs.Receiving.{receive}
 use Rattle.group_run.specs.World.{DeliveryStep, World, delivered, link_emptied, node_after, node_in, node_of, opening, step, with_link, with_node, world_after}
+use Rattle.group_frame.proofs.Events.{emptied-dead}
 use Rattle.group_frame.specs.State.{state_from, state_of}
 use Rattle.group_frame.proofs.Events.{FramedHistory}
 use Rattle.group_frame.proofs.Reading.{node-here, node-other, size-with_node}
@@ -33,19 +34,6 @@ use Rattle.group_weights.specs.Laws.{DrainsEnd, EndsAlways, LowersAlways}
 use Rattle.group_weights.proofs.Differing.{differ-below}
 use Rattle.group_weights.proofs.Loads.{Sends, load-is, popped-weighs, received-weighs, sends-weigh, way_of, weights}
 use Rattle.group_weights.proofs.Sending.{FewRows, receive-sends}
-
--- to empty a link changes no word
-pub emptied-dead : (s : Dimensions) (m : Message) (node : Node) → (link_emptied s m node).dead ≡ node.dead
-emptied-dead s (tells.Notice dead) node = refl
-emptied-dead s (tells.Update r d u stable) node = refl
-emptied-dead s (tells.Ack r d n) node = refl
-emptied-dead s (tells.Stable r d n) node = refl
-emptied-dead s (tells.Adopt r d base list) node = refl
-emptied-dead s (tells.ReadBlock session block rows) node = refl
-emptied-dead s (tells.Block session bytes n) node = refl
-emptied-dead s (tells.Mark session r block d n) node = refl
-emptied-dead s (tells.Row session bytes stamp) node = refl
-emptied-dead s (tells.Cease upto) node = refl
 
 module _ (s : Dimensions) (shaped : IsShape s) (nodes : List Node) (size : length nodes ≡ s.k + s.m) where
   -- a delivery with which a message comes

@@ -18,13 +18,14 @@ use Rattle.group_run.specs.Process.{Node}
 use Rattle.group_run.specs.Progress.{DeliveryLowers, load_of}
 use Rattle.group_run.specs.Receiving.{receive}
 use Rattle.group_run.specs.World.{DeliveryStep, World, after, dead_nodes, deliver_nodes, delivered, node_after, node_in, node_of, opening, opening_node, step, with_node, world_after}
+use Rattle.group_frame.proofs.Events.{emptied-dead}
 use Rattle.group_frame.proofs.Downs.{words_always}
 use Rattle.group_frame.proofs.Reading.{node-other, size-with_node}
 use Rattle.group_frame.proofs.Runs.{framed-from, framed-opening, world-from}
 use Rattle.group_sessions.specs.Tokens.{everyone}
 use Rattle.group_sessions.proofs.Sums.{Within, everyone-inside, within-everyone}
 use Rattle.group_weights.specs.Laws.{CanBeDrained, DeliversAlways, DrainedAlways, Drains, HasDelivery}
-use Rattle.group_weights.proofs.Always.{deliveries_lower, emptied-dead}
+use Rattle.group_weights.proofs.Always.{deliveries_lower}
 
 -- what is asked of a group at every moment
 pub record Ready (w : World) : Type 0 where
