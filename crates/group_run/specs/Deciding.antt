@@ -19,18 +19,14 @@ use Rattle.group_message.specs.declared.update.Outcome.{Outcome}
 use Rattle.group_message.specs.declared.update.Outcome.TheVariants as ends
 use Rattle.group_calls.specs.declared.decision.Decision.{Decision}
 use Rattle.group_calls.specs.declared.decision.Decision.TheVariants.{Answer, Retry, NoSpace, NeedBlock, Issue}
+pub use Rattle.group_calls.specs.declared.found.Found.{Found}
+pub use Rattle.group_calls.specs.declared.found.Found.TheVariants.{Bytes, Missing}
 use Rattle.group_run.specs.Free.{place_for}
 use Rattle.group_run.specs.Replica.{Replica, slot_in, run_in, number_on, last_of}
 
 -- how many updates of a partition may be unfinished
 abbrev pub window : ℕ
 window = 256
-
--- what a head finds in a run of its partition's space: the bytes, or the lowest block that has to be
--- rebuilt first
-pub data Found : Type 0 where
-  Bytes : List ℕ → Found
-  Missing : ℕ → Found
 
 -- the act is a get
 abbrev pub is_get : Act → Bool
