@@ -74,7 +74,7 @@ use Rattle.group_causes.proofs.Numbers.{SameButNumber, SameValue, accepted-alike
 use Rattle.group_causes.proofs.Oldest.{IsOldest, is-oldest}
 use Rattle.group_members.proofs.Aways.{ready-from, seat-from-ready}
 use Rattle.group_causes.proofs.Reasons.{Accepts, Caused, caused}
-use Rattle.group_causes.proofs.Same.{same-held}
+use Rattle.group_log.proofs.Refusals.{same-held}
 use Rattle.group_causes.proofs.Tickets.{unfinished}
 use Rattle.group_causes.proofs.Walks.{is-down, is-up, not-down}
 

@@ -1,7 +1,6 @@
 pub mod Walks
 pub mod Leaves
 pub mod Traces
-pub mod Same
 pub mod Numbers
 pub mod Reasons
 pub mod Oldest

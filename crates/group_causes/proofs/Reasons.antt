@@ -22,6 +22,7 @@ use Rattle.group_updates.specs.Decisions.{ReadsFrom}
 use Rattle.group_updates.specs.Right.{ruling_in}
 use Rattle.group_updates.specs.Store.{Store, held_in}
 use Rattle.group_updates.proofs.Blind.{Alike, LeavesAlike, alike-same, blind-held, blind-refused, same-empty, unread-alike}
+use Rattle.group_updates.proofs.Unread as unread
 use Rattle.group_updates.proofs.Keys.{OfSlot}
 use Rattle.group_updates.proofs.Spaces.{length-bytes_at}
 
@@ -72,56 +73,26 @@ module _ (space : ℕ) (r : Replica) (store : Store) (op : Asked) (read : Run �
 
   -- the ruling on an item with these bytes
   abbrev ruling_on : Slot → List ℕ → Ruling
-  ruling_on slot bytes = ruling_of op.moment (suc (last_of r)) op.act (live_at op.moment (Some (held_as slot bytes)))
-
-  real-on : (slot : Slot) → slot_in store.items (key_of op.act) ≡ Some slot → real ≡ ruling_on slot (bytes_at slot.at slot.len store.space)
-  real-on slot is = ap (λ (x : Option Slot). ruling_of op.moment (suc (last_of r)) op.act (live_at op.moment (held_in store.space x))) is
+  ruling_on = unread.ruling_on r store op
 
   module _ (slot : Slot) (is : slot_in store.items (key_of op.act) ≡ Some slot) (own_is : slot_in r.items (key_of op.act) ≡ Some slot) (within : slot.at + slot.len ≤ length store.space) where
     abbrev own : List ℕ
-    own = bytes_at slot.at slot.len store.space
-
-    own-long : length own ≡ slot.len
-    own-long = length-bytes_at slot.at slot.len store.space within
-
-    zeros-long : length (unseen (Some slot)) ≡ slot.len
-    zeros-long = length-replicate slot.len 0
-
-    -- a blind reply is the table's
-    blind-item : (reply : Reply) → blind_reply slot.len (ruling_on slot (unseen (Some slot))) ≡ Some reply → real ≡ Refused reply
-    blind-item reply blind =
-        let said = blind-refused slot.len (ruling_on slot (unseen (Some slot))) reply blind in
-        real-on slot is ∙ by (is_live op.moment slot.until) said.0 said.1 where
-          by : (live : Bool) → ruling_of op.moment (suc (last_of r)) op.act (if live then Some (held_as slot (unseen (Some slot))) else None) ≡ Refused reply → is_blind slot.len reply ≡ true
-              → ruling_of op.moment (suc (last_of r)) op.act (if live then Some (held_as slot own) else None) ≡ Refused reply
-          by true zeros blind = blind-held slot (unseen (Some slot)) own zeros-long own-long op.moment (suc (last_of r)) op.act reply zeros blind
-          by false zeros blind = zeros
-
-    -- where no byte is needed, the ruling is alike
-    unneeded : (reads_it live : Bool) → reads_bytes op.act ≡ reads_it → (reads_it && live && nat_lt 0 slot.len) ≡ false
-        → Alike (is_touch op.act) (ruling_of op.moment (suc (last_of r)) op.act (if live then Some (held_as slot (unseen (Some slot))) else None))
-        (ruling_of op.moment (suc (last_of r)) op.act (if live then Some (held_as slot own) else None))
-    unneeded reads_it false reading none = alike-same (is_touch op.act) (ruling_of op.moment (suc (last_of r)) op.act None) _ refl
-    unneeded false true reading none = unread-alike op.moment (suc (last_of r)) op.act slot (unseen (Some slot)) own reading
-    unneeded true true reading none =
-        let empty : slot.len ≡ 0 = grind (arith, common_steps) in
-        alike-same (is_touch op.act) (ruling_of op.moment (suc (last_of r)) op.act (Some (held_as slot (unseen (Some slot))))) _
-        (ap (λ (bytes : List ℕ). ruling_of op.moment (suc (last_of r)) op.act (Some (held_as slot bytes))) (same-empty slot (unseen (Some slot)) own zeros-long own-long empty))
+    own = unread.own r store op slot is within
 
     needed-found : run_needed op (Some slot) ≡ Some (run_in slot) → (found : Found) → read (run_in slot) ≡ found → Caused space r op read real (decide_found space r op read (Some slot) found)
     needed-found need (Missing b) found = (run_in slot, found, inl (ap (run_needed op) own_is ∙ need))
     needed-found need (Bytes bytes) found =
         let same : bytes ≡ own = reads (run_in slot) bytes within found in
-        caused-ruled (ruling_on slot bytes) (ruling_on slot own) (alike-same (is_touch op.act) (ruling_on slot bytes) (ruling_on slot own) (ap (ruling_on slot) same)) (real-on slot is)
+        caused-ruled (ruling_on slot bytes) (ruling_on slot own) (alike-same (is_touch op.act) (ruling_on slot bytes) (ruling_on slot own) (ap (ruling_on slot) same)) (unread.real-on r store op slot is)
 
     needed : (b : Bool) → (reads_bytes op.act && is_live op.moment slot.until && nat_lt 0 slot.len) ≡ b
         → Caused space r op read real (decide_found space r op read (Some slot) (item_found read (Some slot) (if b then Some (run_in slot) else None)))
     needed true need = needed-found (ap (λ (b : Bool). if b then Some (run_in slot) else None) need) (read (run_in slot)) refl
     needed false none =
-        caused-ruled (ruling_on slot (unseen (Some slot))) (ruling_on slot own) (unneeded (reads_bytes op.act) (is_live op.moment slot.until) refl none) (real-on slot is)
+        caused-ruled (ruling_on slot (unseen (Some slot))) (ruling_on slot own) (unread.unneeded r store op slot is within (reads_bytes op.act) (is_live op.moment slot.until) refl none) (unread.real-on r store op slot is)
 
     item : (blind : Option Reply) → blind_reply slot.len (ruling_on slot (unseen (Some slot))) ≡ blind → Caused space r op read real (decide_blind space r op read (Some slot) blind)
-    item (Some reply) blind = blind-item reply blind
+    item (Some reply) blind = unread.blind-item r store op slot is within reply blind
     item None blind = needed (reads_bytes op.act && is_live op.moment slot.until && nat_lt 0 slot.len) refl
 
   no-item : slot_in store.items (key_of op.act) ≡ None → (blind : Option Reply) → blind_reply 0 (ruling_of op.moment (suc (last_of r)) op.act None) ≡ blind

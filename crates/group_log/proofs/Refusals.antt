@@ -141,12 +141,16 @@ module _ (s : Dimensions) (calls : List Call) (settled : List Update) (d : ℕ) 
     by (inl none) = subst (Each (λ v. v.key ≢ key_of op.act)) (sym rest-is) (each-take (λ v. v.key ≢ key_of op.act) (length settled - r.applied) r.log (number_on-none r.log (key_of op.act) none))
     by (inr found) = late found.0 found.1 found.2 (cases_lt r.applied h.inherited)
 
+  -- what is held for its key is what was held at the applied number
+  pub same-held : (op : Asked) → waits_for h.inherited op.act (number_on r.log (key_of op.act)) ≡ None
+      → held (store_after s d settled) (key_of op.act) ≡ held (store_after s d (take r.applied settled)) (key_of op.act)
+  same-held op free =
+      ap (λ (us : List Update). held (store_after s d us) (key_of op.act)) (sym whole)
+      ∙ ap (λ (x : Store). held x (key_of op.act)) (store-append s d (no_store s) (take r.applied settled) (drop r.applied settled))
+      ∙ steps-keep-held s calls d (key_of op.act) r.applied (store_after s d (take r.applied settled)) (drop r.applied settled)
+      (history-fits s calls d (take r.applied settled) (steps-take s calls d r.applied 0 (no_store s) settled settled-fine)) rest-steps (others op free)
+
   pub settled-refusal : (op : Asked) (reply : Reply) → IsRefusal h.inherited r (store_after s d (take r.applied settled)) op reply
       → (n : ℕ) → ruling_in (store_after s d settled) n op ≡ Refused reply
   settled-refusal op reply refused n =
-      let same : held (store_after s d settled) (key_of op.act) ≡ held (store_after s d (take r.applied settled)) (key_of op.act)
-      = ap (λ (us : List Update). held (store_after s d us) (key_of op.act)) (sym whole)
-      ∙ ap (λ (x : Store). held x (key_of op.act)) (store-append s d (no_store s) (take r.applied settled) (drop r.applied settled))
-      ∙ steps-keep-held s calls d (key_of op.act) r.applied (store_after s d (take r.applied settled)) (drop r.applied settled)
-      (history-fits s calls d (take r.applied settled) (steps-take s calls d r.applied 0 (no_store s) settled settled-fine)) rest-steps (others op refused.waits) in
-      ap (λ (x : Option Holding). ruling_of op.moment n op.act (live_at op.moment x)) same ∙ refused.ruled n
+      ap (λ (x : Option Holding). ruling_of op.moment n op.act (live_at op.moment x)) (same-held op refused.waits) ∙ refused.ruled n

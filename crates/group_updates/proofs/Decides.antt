@@ -29,6 +29,7 @@ use Rattle.group_updates.specs.Decisions.{DecisionsAreSound, IsPlacedBody, IsPla
 use Rattle.group_updates.specs.Right.{ruling_in}
 use Rattle.group_updates.specs.Store.{Store, held, held_in}
 use Rattle.group_updates.proofs.Blind.{Alike, LeavesAlike, alike-same, blind-held, blind-refused, same-empty, unread-alike}
+use Rattle.group_updates.proofs.Unread as unread
 use Rattle.group_updates.proofs.Keys.{OfSlot, each-slot}
 use Rattle.group_updates.proofs.Rules.{RulesWell, refusal, refusal-is, refused-any, rules-well}
 use Rattle.group_updates.proofs.Spaces.{length-bytes_at}
@@ -136,57 +137,27 @@ module _ (space inherited : ℕ) (r : Replica) (store : Store) (op : Asked) (rea
 
   -- the ruling on an item with these bytes
   abbrev ruling_on : Slot → List ℕ → Ruling
-  ruling_on slot bytes = ruling_of op.moment (suc (last_of r)) op.act (live_at op.moment (Some (held_as slot bytes)))
-
-  real-on : (slot : Slot) → slot_in store.items (key_of op.act) ≡ Some slot → real ≡ ruling_on slot (bytes_at slot.at slot.len store.space)
-  real-on slot is = ap (λ (x : Option Slot). ruling_of op.moment (suc (last_of r)) op.act (live_at op.moment (held_in store.space x))) is
+  ruling_on = unread.ruling_on r store op
 
   module _ (slot : Slot) (is : slot_in store.items (key_of op.act) ≡ Some slot) (within : slot.at + slot.len ≤ length store.space) where
     abbrev own : List ℕ
-    own = bytes_at slot.at slot.len store.space
-
-    own-long : length own ≡ slot.len
-    own-long = length-bytes_at slot.at slot.len store.space within
-
-    zeros-long : length (unseen (Some slot)) ≡ slot.len
-    zeros-long = length-replicate slot.len 0
-
-    -- a blind reply is the table's
-    blind-item : (reply : Reply) → blind_reply slot.len (ruling_on slot (unseen (Some slot))) ≡ Some reply → real ≡ Refused reply
-    blind-item reply blind =
-        let said = blind-refused slot.len (ruling_on slot (unseen (Some slot))) reply blind in
-        real-on slot is ∙ by (is_live op.moment slot.until) said.0 said.1 where
-          by : (live : Bool) → ruling_of op.moment (suc (last_of r)) op.act (if live then Some (held_as slot (unseen (Some slot))) else None) ≡ Refused reply → is_blind slot.len reply ≡ true
-              → ruling_of op.moment (suc (last_of r)) op.act (if live then Some (held_as slot own) else None) ≡ Refused reply
-          by true zeros blind = blind-held slot (unseen (Some slot)) own zeros-long own-long op.moment (suc (last_of r)) op.act reply zeros blind
-          by false zeros blind = zeros
-
-    -- where no byte is needed, the ruling is alike
-    unneeded : (reads_it live : Bool) → reads_bytes op.act ≡ reads_it → (reads_it && live && nat_lt 0 slot.len) ≡ false
-        → Alike (is_touch op.act) (ruling_of op.moment (suc (last_of r)) op.act (if live then Some (held_as slot (unseen (Some slot))) else None))
-        (ruling_of op.moment (suc (last_of r)) op.act (if live then Some (held_as slot own) else None))
-    unneeded reads_it false reading none = alike-same (is_touch op.act) (ruling_of op.moment (suc (last_of r)) op.act None) _ refl
-    unneeded false true reading none = unread-alike op.moment (suc (last_of r)) op.act slot (unseen (Some slot)) own reading
-    unneeded true true reading none =
-        let empty : slot.len ≡ 0 = grind (arith, common_steps) in
-        alike-same (is_touch op.act) (ruling_of op.moment (suc (last_of r)) op.act (Some (held_as slot (unseen (Some slot))))) _
-        (ap (λ (bytes : List ℕ). ruling_of op.moment (suc (last_of r)) op.act (Some (held_as slot bytes))) (same-empty slot (unseen (Some slot)) own zeros-long own-long empty))
+    own = unread.own r store op slot is within
 
     needed-found : (found : Found) → read (run_in slot) ≡ found → IsSound space inherited r store op (decide_found space r op read (Some slot) found)
     needed-found (Missing b) found = tt
     needed-found (Bytes bytes) found =
         let same : bytes ≡ own = reads (run_in slot) bytes within found in
-        sound-ruled (ruling_on slot bytes) (ruling_on slot own) (alike-same (is_touch op.act) (ruling_on slot bytes) (ruling_on slot own) (ap (ruling_on slot) same)) (real-on slot is)
+        sound-ruled (ruling_on slot bytes) (ruling_on slot own) (alike-same (is_touch op.act) (ruling_on slot bytes) (ruling_on slot own) (ap (ruling_on slot) same)) (unread.real-on r store op slot is)
 
     needed : (b : Bool) → (reads_bytes op.act && is_live op.moment slot.until && nat_lt 0 slot.len) ≡ b
         → IsSound space inherited r store op (decide_found space r op read (Some slot) (item_found read (Some slot) (if b then Some (run_in slot) else None)))
     needed true need = needed-found (read (run_in slot)) refl
     needed false none =
-        sound-ruled (ruling_on slot (unseen (Some slot))) (ruling_on slot own) (unneeded (reads_bytes op.act) (is_live op.moment slot.until) refl none) (real-on slot is)
+        sound-ruled (ruling_on slot (unseen (Some slot))) (ruling_on slot own) (unread.unneeded r store op slot is within (reads_bytes op.act) (is_live op.moment slot.until) refl none) (unread.real-on r store op slot is)
 
     item : (blind : Option Reply) → blind_reply slot.len (ruling_on slot (unseen (Some slot))) ≡ blind
         → IsSound space inherited r store op (decide_blind space r op read (Some slot) blind)
-    item (Some reply) blind = refuses reply (blind-item reply blind)
+    item (Some reply) blind = refuses reply (unread.blind-item r store op slot is within reply blind)
     item None blind = needed (reads_bytes op.act && is_live op.moment slot.until && nat_lt 0 slot.len) refl
 
   no-item : slot_in store.items (key_of op.act) ≡ None → (blind : Option Reply) → blind_reply 0 (ruling_of op.moment (suc (last_of r)) op.act None) ≡ blind

@@ -4,6 +4,7 @@ pub mod Spaces
 pub mod Rules
 pub mod Blind
 pub mod Steps
+pub mod Unread
 pub mod Decides
 pub mod Histories
 pub mod Clears
