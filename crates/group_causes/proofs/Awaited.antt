@@ -105,7 +105,7 @@ some-decoded s g [] state d some = some
 some-decoded s g (l ∷ ls) state d some = some-decoded s g ls _ d (some-unless (is_some (rebuilt_block state l g.block)) s g l state d some)
 
 -- a session that is decoded rebuilds its block of each lost partition
-decoded-some : (s : Dimensions) (g : Gathering) (ls : List ℕ) (state : LeaderState) (d : ℕ) → list_any (λ l. l == d) ls ≡ true → is_some (rebuilt_block (with_decoded s g ls state) d g.block) ≡ true
+pub decoded-some : (s : Dimensions) (g : Gathering) (ls : List ℕ) (state : LeaderState) (d : ℕ) → list_any (λ l. l == d) ls ≡ true → is_some (rebuilt_block (with_decoded s g ls state) d g.block) ≡ true
 decoded-some s g [] state d lost = absurd (cc lost)
 decoded-some s g (l ∷ ls) state d lost = by (l == d) refl lost (decoded-some s g ls (rebuilt_unless (is_some (rebuilt_block state l g.block)) s g l state) d) where
   by : (b : Bool) → (l == d) ≡ b → (b || list_any (λ l. l == d) ls) ≡ true
@@ -118,7 +118,7 @@ decoded-some s g (l ∷ ls) state d lost = by (l == d) refl lost (decoded-some s
   by false test lost later = later lost
 
 -- a partition that is applied further has the same blocks rebuilt
-kept-apply : (s : Dimensions) (e n : ℕ) (p : Process) (d b : ℕ) → is_some (rebuilt_block (apply_to s e n p).as_leader d b) ≡ is_some (rebuilt_block p.as_leader d b)
+pub kept-apply : (s : Dimensions) (e n : ℕ) (p : Process) (d b : ℕ) → is_some (rebuilt_block (apply_to s e n p).as_leader d b) ≡ is_some (rebuilt_block p.as_leader d b)
 kept-apply s e n p d b = by (cases_eq d e) where
   us : List Update
   us = up_to n (replica_of p e)

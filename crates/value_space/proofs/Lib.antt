@@ -1,1 +1,1 @@
-mod Deltas
+pub mod Deltas
