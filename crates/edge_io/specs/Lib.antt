@@ -2,3 +2,4 @@ pub mod Calls
 pub mod Connections
 pub mod Faults
 pub mod Memory
+pub mod Writing

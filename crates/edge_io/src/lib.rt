@@ -17,6 +17,7 @@ mod sink;
 mod source;
 mod system_clock;
 mod write_edge;
+mod writing;
 
 pub use clock::Clock;
 pub use fault::{Failed, SinkFault};
@@ -30,3 +31,4 @@ pub use sink::Sink;
 pub use source::Source;
 pub use system_clock::SystemClock;
 pub use write_edge::WriteEdge;
+pub use writing::write_all;

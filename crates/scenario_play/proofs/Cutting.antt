@@ -44,6 +44,3 @@ pub lines_of-last : (text : List ℕ) → 0 < length text → ((k : ℕ) → k <
 lines_of-last text some none =
     let plain = subst (All (λ b. (b == 10) ≡ false)) (take-length text) (is_plain text (length text) (omega arith) none) in
     ap without_empty_last (slice_split_none (λ b. b == 10) text plain) ∙ without_empty_last-one text some
-
-pub take_rest : (text : List ℕ) (n : ℕ) → take (length text - n) (drop n text) ≡ drop n text
-take_rest text n = ap (λ (m : ℕ). take m (drop n text)) (sym (length-drop n text)) ∙ take-length (drop n text)

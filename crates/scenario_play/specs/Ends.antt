@@ -9,11 +9,6 @@ use Rattle.scenario_play.specs.World.{World}
 use Rattle.scenario_play.specs.declared.status.Status.{Status}
 use Rattle.scenario_play.specs.declared.status.Status.TheVariants.{Done, BadWords, BadLine, TooLong, ReadFault, WriteFault, Want}
 
--- the front of a text was written
-pub record HasWritten (before now : Option (List ℕ)) (text : List ℕ) : Type 0 where
-  pub count : ℕ
-  pub bytes : Appends before now (take count text)
-
 -- a text was written, and then a last line, of which a part alone where the sink counted a fault
 pub record EndsWith (before now : Option (List ℕ)) (faults_before faults_now : ℕ) (text line : List ℕ) : Type 0 where
   pub count : ℕ

@@ -13,6 +13,5 @@ pub mod status;
 pub mod tell;
 mod turn_text;
 mod world;
-mod write_all;
 
 pub use status::Status;

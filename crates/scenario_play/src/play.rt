@@ -11,8 +11,7 @@ use crate::read_script::{LONGEST_SCRIPT, read_script};
 use crate::status::Status;
 use crate::tell::tell;
 use crate::world::PlainWorld;
-use crate::write_all::write_all;
-use edge_io::{Sink, SinkFault, Source};
+use edge_io::{Sink, SinkFault, Source, write_all};
 use scenario_text::LineFault;
 use std::alloc::Global;
 

@@ -3,8 +3,7 @@ ghost use Rattle.scenario_play.specs.Ends.{EndsWith};
 ghost use Rattle.scenario_play.specs.Status.{last_line};
 
 use crate::status::Status;
-use crate::write_all::write_all;
-use edge_io::{Sink, SinkFault};
+use edge_io::{Sink, SinkFault, write_all};
 use std::alloc::{AllocError, Global};
 
 /// Writes the last line of a status. The status stays where that write fails, and is `Want` where

@@ -1,12 +1,13 @@
-ghost use Rattle.std.specs.Prelude.{◌≡◌, ◌≤◌, [], OnOk};
+ghost use Rattle.std.specs.Prelude.{OnOk};
 ghost use Rattle.std.specs.Io.KnownBytes.{Appends};
 ghost use Rattle.edge_io.specs.Faults.{HasCauseOf};
-ghost use Rattle.scenario_play.specs.Ends.{HasWritten};
+ghost use Rattle.edge_io.specs.Writing.{HasWritten};
 
-use edge_io::{Sink, SinkFault};
+use crate::fault::SinkFault;
+use crate::sink::Sink;
 
 /// Writes a whole text, in as many pieces as the sink takes it.
-pub(crate) fn write_all<K: Sink>(sink: &mut K, text: &[u8]) -> Result<(), SinkFault>
+pub fn write_all<K: Sink>(sink: &mut K, text: &[u8]) -> Result<(), SinkFault>
     ensures whole { OnOk result (Appends (K.held sink.old) (K.held sink.new) text.now) }
     ensures part { HasWritten (K.held sink.old) (K.held sink.new) text.now }
     ensures cause { HasCauseOf (K.faults sink.old) (K.faults sink.new) result SinkFault.Failed }

@@ -1,0 +1,129 @@
+use Rattle.std.proofs.Common.{◌≡◌, ℕ, ◌+◌, min, map, Bool, true, false, List, [], ◌∷◌, ◌++◌, length, take, Option, Result, Ok, Err, OnOk, MatchResult, MatchBool, if◌then◌else◌, append-nil, refl, sym, ap, ◌∙◌, subst, arith}
+use Rattle.std.proofs.KnownBytes.{Appends-trans}
+use Rattle.std.proofs.Math.Seq.{take-append-add}
+use Rattle.std.proofs.lemmas.List.{take-append-le, take_min}
+use Rattle.std.specs.Io.KnownBytes.{Appends}
+use Rattle.edge_io.specs.Writing.{HasWritten}
+use Rattle.memc_table.specs.declared.act.Act.TheVariants as act
+use Rattle.memc_proto.specs.Text.{end_text, end_of_items}
+use Rattle.memc_proto.specs.declared.end.CallEnd.{CallEnd}
+use Rattle.memc_proto.specs.declared.request.Request.TheVariants.{Get}
+use Rattle.front_end.specs.Answers.{Stand, stand, IsMade, IsKeyAnswered, IsAnswered, IsBroken}
+use Rattle.front_end.specs.Calls.{Made, Ways}
+use Rattle.front_end.specs.Turns.{Acts, AreCallsOf, is_reply, key_text, get_text}
+use Rattle.front_end.specs.declared.end.ConnectionFault.{ConnectionFault}
+use Rattle.front_end.proofs.Answering.{no_calls, first-none, stands-here, written}
+
+-- the front of a text is a front of what begins with it
+front_of : (n : ℕ) (text more : List ℕ) → take n text ≡ take (min n (length text)) (text ++ more)
+front_of n text more = sym (take_min n text) ∙ sym (take-append-le (min n (length text)) text more (omega arith))
+
+rest-none : (told : Option ℕ) (keys : List (List ℕ)) (b : Bool) → MatchBool b (AreCallsOf told false (map (λ key. Acts (act.Get key)) keys) []) (no_calls ≡ [])
+rest-none told keys true = first-none told (map (λ key. Acts (act.Get key)) keys)
+rest-none told keys false = refl
+
+-- the rest of a get behind a key whose call ended by a reply
+pub answered-more : {C : Type 0} (ways : Ways C) (told : Option ℕ) (before middle after : Stand C) (with_cas : Bool) (key : List ℕ) (keys : List (List ℕ)) → IsKeyAnswered ways told before middle with_cas key true
+    → IsAnswered ways told middle after (Get keys with_cas) → IsAnswered ways told before after (Get (key ∷ keys) with_cas)
+answered-more ways told before middle after with_cas key keys first rest = record {
+  calls = first.call ∷ rest.calls;
+  whole = (first.is_call, subst (λ (b : Bool). MatchBool b (AreCallsOf told true (map (λ k. Acts (act.Get k)) keys) rest.calls) (rest.calls ≡ [])) first.replied_is rest.whole);
+  leads = (middle.caller, first.leads, rest.leads);
+  bytes = subst (λ (b : Bool). Appends before.held after.held (key_text with_cas key first.call ++ (if b then get_text with_cas keys rest.calls else []))) first.replied_is
+      (Appends-trans before.held middle.held after.held (key_text with_cas key first.call) (get_text with_cas keys rest.calls) first.bytes rest.bytes);
+}
+
+pub broken-more : {C : Type 0} (ways : Ways C) (told : Option ℕ) (before middle after : Stand C) (fault : ConnectionFault) (with_cas : Bool) (key : List ℕ) (keys : List (List ℕ)) → IsKeyAnswered ways told before middle with_cas key true
+    → IsBroken ways told middle after fault (Get keys with_cas) → IsBroken ways told before after fault (Get (key ∷ keys) with_cas)
+broken-more ways told before middle after fault with_cas key keys first rest = record {
+  calls = first.call ∷ rest.calls;
+  first = (first.is_call, subst (λ (b : Bool). MatchBool b (AreCallsOf told false (map (λ k. Acts (act.Get k)) keys) rest.calls) (rest.calls ≡ [])) first.replied_is rest.first);
+  led = rest.led;
+  leads = (middle.caller, first.leads, rest.leads);
+  stands = rest.stands;
+  count = length (key_text with_cas key first.call) + rest.count;
+  bytes = subst (Appends before.held after.held)
+      (sym (take-append-add (key_text with_cas key first.call) (get_text with_cas keys rest.calls) rest.count)
+      ∙ ap (λ (b : Bool). take (length (key_text with_cas key first.call) + rest.count) (key_text with_cas key first.call ++ (if b then get_text with_cas keys rest.calls else []))) first.replied_is)
+      (Appends-trans before.held middle.held after.held (key_text with_cas key first.call) (take rest.count (get_text with_cas keys rest.calls)) first.bytes rest.bytes);
+}
+
+-- a get ends behind a key whose call didn't end by a reply
+pub answered-stop : {C : Type 0} (ways : Ways C) (told : Option ℕ) (before after : Stand C) (with_cas : Bool) (key : List ℕ) (keys : List (List ℕ)) → IsKeyAnswered ways told before after with_cas key false
+    → IsAnswered ways told before after (Get (key ∷ keys) with_cas)
+answered-stop ways told before after with_cas key keys first = record {
+  calls = first.call ∷ [];
+  whole = (first.is_call, subst (λ (b : Bool). MatchBool b (AreCallsOf told true (map (λ k. Acts (act.Get k)) keys) []) (no_calls ≡ [])) first.replied_is refl);
+  leads = (after.caller, first.leads, refl);
+  bytes = subst (λ (b : Bool). Appends before.held after.held (key_text with_cas key first.call ++ (if b then get_text with_cas keys [] else []))) first.replied_is
+      (subst (Appends before.held after.held) (sym (append-nil (key_text with_cas key first.call))) first.bytes);
+}
+
+-- the first keys of a get were asked, so what comes of the rest comes of the whole
+pub record AreAsked {C : Type 0} (ways : Ways C) (told : Option ℕ) (before now : Stand C) (with_cas : Bool) (keys rest : List (List ℕ)) : Type 0 where
+  pub answered : (after : Stand C) → IsAnswered ways told now after (Get rest with_cas) → IsAnswered ways told before after (Get keys with_cas)
+  pub broken : (after : Stand C) (fault : ConnectionFault) → IsBroken ways told now after fault (Get rest with_cas) → IsBroken ways told before after fault (Get keys with_cas)
+
+pub asked-none : {C : Type 0} (ways : Ways C) (told : Option ℕ) (before : Stand C) (with_cas : Bool) (keys rest : List (List ℕ)) → rest ≡ keys → AreAsked ways told before before with_cas keys rest
+asked-none ways told before with_cas keys rest same = record {
+  answered = λ after answered. subst (λ (ks : List (List ℕ)). IsAnswered ways told before after (Get ks with_cas)) same answered;
+  broken = λ after fault broken. subst (λ (ks : List (List ℕ)). IsBroken ways told before after fault (Get ks with_cas)) same broken;
+}
+
+pub asked-more : {C : Type 0} (ways : Ways C) (told : Option ℕ) (before now next : Stand C) (with_cas : Bool) (keys rest : List (List ℕ)) (key : List ℕ) (after_it : List (List ℕ))
+    → AreAsked ways told before now with_cas keys rest → rest ≡ key ∷ after_it → (replied : Bool) → replied ≡ true → IsKeyAnswered ways told now next with_cas key replied → AreAsked ways told before next with_cas keys after_it
+asked-more ways told before now next with_cas keys rest key after_it asked is replied replies first =
+    let here : IsKeyAnswered ways told now next with_cas key true = subst (λ (b : Bool). IsKeyAnswered ways told now next with_cas key b) replies first in
+    record {
+      answered = λ after answered. asked.answered after (subst (λ (ks : List (List ℕ)). IsAnswered ways told now after (Get ks with_cas)) (sym is) (answered-more ways told now next after with_cas key after_it here answered));
+      broken = λ after fault broken. asked.broken after fault (subst (λ (ks : List (List ℕ)). IsBroken ways told now after fault (Get ks with_cas)) (sym is) (broken-more ways told now next after fault with_cas key after_it here broken));
+    }
+
+pub asked-stop : {C : Type 0} (ways : Ways C) (told : Option ℕ) (before now after : Stand C) (with_cas : Bool) (keys rest : List (List ℕ)) (key : List ℕ) (after_it : List (List ℕ))
+    → AreAsked ways told before now with_cas keys rest → rest ≡ key ∷ after_it → (replied : Bool) → replied ≡ false → IsKeyAnswered ways told now after with_cas key replied → IsAnswered ways told before after (Get keys with_cas)
+asked-stop ways told before now after with_cas keys rest key after_it asked is replied stops first =
+    asked.answered after (subst (λ (ks : List (List ℕ)). IsAnswered ways told now after (Get ks with_cas)) (sym is)
+    (answered-stop ways told now after with_cas key after_it (subst (λ (b : Bool). IsKeyAnswered ways told now after with_cas key b) stops first)))
+
+pub asked-broken : {C : Type 0} (ways : Ways C) (told : Option ℕ) (before now after : Stand C) (fault : ConnectionFault) (with_cas : Bool) (keys rest : List (List ℕ)) (key : List ℕ) (after_it : List (List ℕ))
+    → AreAsked ways told before now with_cas keys rest → rest ≡ key ∷ after_it → ((others : List (List ℕ)) → IsBroken ways told now after fault (Get (key ∷ others) with_cas)) → IsBroken ways told before after fault (Get keys with_cas)
+asked-broken ways told before now after fault with_cas keys rest key after_it asked is broken =
+    asked.broken after fault (subst (λ (ks : List (List ℕ)). IsBroken ways told now after fault (Get ks with_cas)) (sym is) (broken after_it))
+
+-- the end of a get behind its last key
+pub asked-all : {C : Type 0} (ways : Ways C) (told : Option ℕ) (before : Stand C) (at : C) (held now : Option (List ℕ)) (with_cas : Bool) (keys rest : List (List ℕ)) (text : List ℕ) (result : Result (Unit {0}) ConnectionFault)
+    → AreAsked ways told before (stand at held) with_cas keys rest → rest ≡ [] → text ≡ end_of_items → OnOk result (Appends held now text) → HasWritten held now text
+    → MatchResult result (λ _. IsAnswered ways told before (stand at now) (Get keys with_cas)) (λ fault. IsBroken ways told before (stand at now) fault (Get keys with_cas))
+asked-all ways told before at held now with_cas keys rest text result asked none is whole part =
+    by_both result (written ways told at at held now (Get rest with_cas) [] text result (subst (λ (ks : List (List ℕ)). AreCallsOf told true (map (λ k. Acts (act.Get k)) ks) []) (sym none) tt) refl
+    (is ∙ sym (ap (λ (ks : List (List ℕ)). get_text with_cas ks []) none)) whole part)
+  where
+    by_both : (r : Result (Unit {0}) ConnectionFault)
+        → MatchResult r (λ _. IsAnswered ways told (stand at held) (stand at now) (Get rest with_cas)) (λ fault. IsBroken ways told (stand at held) (stand at now) fault (Get rest with_cas))
+        → MatchResult r (λ _. IsAnswered ways told before (stand at now) (Get keys with_cas)) (λ fault. IsBroken ways told before (stand at now) fault (Get keys with_cas))
+    by_both (Ok _) answered = asked.answered (stand at now) answered
+    by_both (Err fault) broken = asked.broken (stand at now) fault broken
+
+-- the key of a get whose call ended, and whose text is written
+pub key-answered : {C : Type 0} (ways : Ways C) (told : Option ℕ) (before after : C) (held now : Option (List ℕ)) (with_cas : Bool) (key : List ℕ) (end : CallEnd) (replied : Bool)
+    → IsMade ways told before after (act.Get key) end → Appends held now (end_text key with_cas end) → replied ≡ is_reply end → IsKeyAnswered ways told (stand before held) (stand after now) with_cas key replied
+key-answered ways told before after held now with_cas key end replied made bytes is = record {
+  call = Made made.op end;
+  is_call = (made.act_is, made.moment);
+  leads = made.made;
+  bytes = bytes;
+  replied_is = is;
+}
+
+-- a fault came while the text of a key was written
+pub key-broken : {C : Type 0} (ways : Ways C) (told : Option ℕ) (before after : C) (held now : Option (List ℕ)) (fault : ConnectionFault) (with_cas : Bool) (key : List ℕ) (keys : List (List ℕ)) (end : CallEnd)
+    → IsMade ways told before after (act.Get key) end → HasWritten held now (end_text key with_cas end) → IsBroken ways told (stand before held) (stand after now) fault (Get (key ∷ keys) with_cas)
+key-broken ways told before after held now fault with_cas key keys end made part = record {
+  calls = Made made.op end ∷ [];
+  first = ((made.act_is, made.moment), rest-none told keys (is_reply end));
+  led = after;
+  leads = (after, made.made, refl);
+  stands = stands-here ways after fault;
+  count = min part.count (length (end_text key with_cas end));
+  bytes = subst (Appends held now) (front_of part.count (end_text key with_cas end) (if is_reply end then get_text with_cas keys [] else [])) part.bytes;
+}

@@ -1,0 +1,6 @@
+pub mod Answering
+pub mod Asking
+pub mod Handing
+pub mod Piecing
+pub mod Serving
+pub mod Turning

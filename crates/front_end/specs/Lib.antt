@@ -1,0 +1,6 @@
+pub mod Answers
+pub mod Calls
+pub mod Connection
+pub mod Faults
+pub mod Piece
+pub mod Turns

@@ -1,0 +1,169 @@
+ghost use Rattle.std.specs.Prelude.{◌≡◌, ℕ, List, ◌∷◌, MatchResult, IfOk, OnOk, OnErr};
+ghost use Rattle.std.specs.Io.KnownBytes.{Appends};
+ghost use Rattle.edge_io.specs.Writing.{HasWritten};
+ghost use Rattle.memc_proto.specs.Text.{end_text};
+ghost use Rattle.front_end.specs.Answers.{stand, IsMade, IsKeyAnswered, IsAnswered, IsBroken};
+ghost use Rattle.front_end.specs.Calls.{ways_of};
+ghost use Rattle.front_end.specs.Faults.{HasSinkCause};
+ghost use Rattle.front_end.specs.Turns.{is_reply};
+
+use crate::caller::Caller;
+use crate::end::ConnectionFault;
+use edge_io::{Clock, Sink, write_all};
+use group_types::Key;
+use memc_proto::{
+    CallEnd, Request, end_of_items, fail_text, refusal_text, version_text, write_reply,
+};
+use memc_table::{Act, Op};
+use std::alloc::{AllocError, Global};
+
+/// Answers one request: makes its calls, and writes the text of each behind it.
+pub(crate) fn answer_request<C: Caller, K: Sink, T: Clock>(
+    alloc: Global,
+    caller: &mut C,
+    sink: &mut K,
+    clock: &T,
+    request: &Request,
+) -> Result<(), ConnectionFault>
+    ensures answer { MatchResult result
+        (λ _. IsAnswered (ways_of C.made C.failed C.kept) (T.moment clock.now)
+        (stand caller.old (K.held sink.old)) (stand caller.new (K.held sink.new)) request.now)
+        (λ fault. IsBroken (ways_of C.made C.failed C.kept) (T.moment clock.now)
+        (stand caller.old (K.held sink.old)) (stand caller.new (K.held sink.new)) fault request.now) }
+    ensures cause { HasSinkCause (K.faults sink.old) (K.faults sink.new) result }
+{
+    match request {
+        Request::Get { keys, with_cas } => {
+            answer_get(alloc, caller, sink, clock, keys.keys(), *with_cas)
+        }
+        Request::Change { act, noreply } => {
+            answer_change(alloc, caller, sink, clock, act, *noreply)
+        }
+        Request::Version => write_text(sink, version_text()),
+        Request::Quit => Ok(()),
+        Request::Fail { at, keep } => {
+            let end = caller.fail(*at, *keep)?;
+            write_text(sink, fail_text(end))
+        }
+        Request::Refused(refusal) => write_text(sink, refusal_text(*refusal)),
+    }
+}
+
+fn answer_change<C: Caller, K: Sink, T: Clock>(
+    alloc: Global,
+    caller: &mut C,
+    sink: &mut K,
+    clock: &T,
+    act: &Act,
+    noreply: bool,
+) -> Result<(), ConnectionFault>
+    ensures answer { MatchResult result
+        (λ _. IsAnswered (ways_of C.made C.failed C.kept) (T.moment clock.now)
+        (stand caller.old (K.held sink.old)) (stand caller.new (K.held sink.new)) (Request.Change act.now noreply))
+        (λ fault. IsBroken (ways_of C.made C.failed C.kept) (T.moment clock.now)
+        (stand caller.old (K.held sink.old)) (stand caller.new (K.held sink.new)) fault (Request.Change act.now noreply)) }
+    ensures cause { HasSinkCause (K.faults sink.old) (K.faults sink.new) result }
+{
+    let end = ask(caller, clock, copy_of(act)?)?;
+    if noreply {
+        return Ok(());
+    }
+    write_end(alloc, sink, act.key(), false, end)
+}
+
+fn answer_get<C: Caller, K: Sink, T: Clock>(
+    alloc: Global,
+    caller: &mut C,
+    sink: &mut K,
+    clock: &T,
+    keys: &[Key],
+    with_cas: bool,
+) -> Result<(), ConnectionFault>
+    ensures answer { MatchResult result
+        (λ _. IsAnswered (ways_of C.made C.failed C.kept) (T.moment clock.now)
+        (stand caller.old (K.held sink.old)) (stand caller.new (K.held sink.new)) (Request.Get keys.now with_cas))
+        (λ fault. IsBroken (ways_of C.made C.failed C.kept) (T.moment clock.now)
+        (stand caller.old (K.held sink.old)) (stand caller.new (K.held sink.new)) fault (Request.Get keys.now with_cas)) }
+    ensures cause { HasSinkCause (K.faults sink.old) (K.faults sink.new) result }
+{
+    'keys: for key in keys {
+        if !answer_key(alloc, caller, sink, clock, key, with_cas)? {
+            return Ok(());
+        }
+    }
+    write_text(sink, end_of_items())
+}
+
+/// Makes the call on one key of a get and writes its text. Says whether the call ended by a reply.
+fn answer_key<C: Caller, K: Sink, T: Clock>(
+    alloc: Global,
+    caller: &mut C,
+    sink: &mut K,
+    clock: &T,
+    key: &Key,
+    with_cas: bool,
+) -> Result<bool, ConnectionFault>
+    ensures answer { MatchResult result
+        (λ replied. IsKeyAnswered (ways_of C.made C.failed C.kept) (T.moment clock.now)
+        (stand caller.old (K.held sink.old)) (stand caller.new (K.held sink.new)) with_cas key.now replied)
+        (λ fault. (keys : List (List ℕ)) → IsBroken (ways_of C.made C.failed C.kept) (T.moment clock.now)
+        (stand caller.old (K.held sink.old)) (stand caller.new (K.held sink.new)) fault (Request.Get (key.now ∷ keys) with_cas)) }
+    ensures cause { HasSinkCause (K.faults sink.old) (K.faults sink.new) result }
+{
+    let end = ask(caller, clock, get_of(key)?)?;
+    let replied = is_reply(&end);
+    write_end(alloc, sink, key, with_cas, end)?;
+    Ok(replied)
+}
+
+/// Makes a call at a moment of its own.
+fn ask<C: Caller, T: Clock>(caller: &mut C, clock: &T, act: Act) -> Result<CallEnd, AllocError>
+    ensures made { IfOk result (IsMade (ways_of C.made C.failed C.kept) (T.moment clock.now) caller.old caller.new act) }
+    ensures want { OnErr result (C.kept caller.old caller.new) }
+{
+    let op = Op::new(clock.now(), act);
+    caller.call(&op)
+}
+
+fn copy_of(act: &Act) -> Result<Act, AllocError>
+    ensures { IfOk result (λ copy. copy ≡ act.now) }
+{
+    act.clone()
+}
+
+fn get_of(key: &Key) -> Result<Act, AllocError>
+    ensures { IfOk result (λ act. act ≡ Act.Get key.now) }
+{
+    Ok(Act::Get { key: key.clone()? })
+}
+
+fn is_reply(end: &CallEnd) -> bool
+    ensures { result ≡ is_reply end.now }
+{
+    matches!(end, CallEnd::Reply(_))
+}
+
+/// Writes the text of the end of a call.
+fn write_end<K: Sink>(
+    alloc: Global,
+    sink: &mut K,
+    key: &Key,
+    with_cas: bool,
+    end: CallEnd,
+) -> Result<(), ConnectionFault>
+    ensures whole { OnOk result (Appends (K.held sink.old) (K.held sink.new) (end_text key.now with_cas end)) }
+    ensures part { HasWritten (K.held sink.old) (K.held sink.new) (end_text key.now with_cas end) }
+    ensures cause { HasSinkCause (K.faults sink.old) (K.faults sink.new) result }
+{
+    let text = write_reply(alloc, key, with_cas, &end)?;
+    write_text(sink, text.bytes())
+}
+
+/// Writes a whole text.
+pub(crate) fn write_text<K: Sink>(sink: &mut K, text: &[u8]) -> Result<(), ConnectionFault>
+    ensures whole { OnOk result (Appends (K.held sink.old) (K.held sink.new) text.now) }
+    ensures part { HasWritten (K.held sink.old) (K.held sink.new) text.now }
+    ensures cause { HasSinkCause (K.faults sink.old) (K.faults sink.new) result }
+{
+    Ok(write_all(sink, text)?)
+}
