@@ -1,0 +1,8 @@
+pub mod Settling
+pub mod Least
+pub mod Tidying
+pub mod Steps
+mod Blind
+mod Follows
+mod Deciding
+pub mod Machine

@@ -1,0 +1,101 @@
+-- The steps of heads are the machine's: proofs of the laws.
+use Rattle.std.proofs.Common.{ℕ, suc, ◌≡◌, ◌≢◌, List, [], ◌∷◌, nat_le, refl, sym, ap, ◌∙◌, arith}
+use Rattle.std.proofs.lemmas.List.{length-append}
+use Rattle.group_types.specs.Dimensions.{Dimensions}
+use Rattle.group_types.specs.Hash.{home_of}
+use Rattle.group_types.specs.Lists.{at, put}
+use Rattle.group_types.proofs.Lists.{put-at}
+use Rattle.memc_table.specs.Act.{key_of}
+use Rattle.memc_table.specs.Asked.{Asked}
+use Rattle.group_calls.specs.Turns.{CallName}
+use Rattle.group_calls.specs.declared.decision.Decision.{Decision}
+use Rattle.group_calls.specs.declared.decision.Decision.TheVariants as decides
+use Rattle.group_message.specs.declared.update.Update.{Update}
+use Rattle.group_message.specs.declared.message.Message.TheVariants as tells
+use Rattle.group_run.specs.Applying.{bytes_after}
+use Rattle.group_run.specs.Asking.{CallStep, act_on, ask_head, fate_of, issue, only}
+use Rattle.group_run.specs.Heading.{judge, partition, rank, settlements}
+use Rattle.group_run.specs.Process.{Head, Held, Process}
+use Rattle.group_run.specs.Replica.{Replica, applied_to, empty_replica, last_of, up_to, with_update}
+use Rattle.head_service.specs.Acting.{acts, issues, next_update, stays}
+use Rattle.head_service.specs.Answering.{answer_to, held_then}
+use Rattle.head_service.specs.Fates.{fate}
+use Rattle.head_service.specs.Peers.{settles, to_all}
+use Rattle.head_service.specs.Laws.{ArePeers, AsksAreTheMachines, FatesAreTheMachines, Heads, JudgesAreTheMachines, decided, joined}
+use Rattle.head_service.specs.Serving.{Serving, serving}
+use Rattle.head_service.specs.declared.peers.Peers.{Peers}
+use Rattle.head_service.proofs.Steps.{issue-is, judge-is}
+
+-- the peers of a process, as code has them
+abbrev own : Dimensions → Serving → Process → Peers
+own s v b = record { m = s.m; name = b.name; known = v.known }
+
+own-is : (s : Dimensions) (v : Serving) (b : Process) (peers : Peers) → ArePeers s v b peers → own s v b ≡ peers
+own-is s v b peers are = sym (ap (λ (m : ℕ). record { m = m; name = peers.name; known = peers.known }) are.m
+    ∙ ap (λ (name : _). record { m = s.m; name = name; known = peers.known }) are.name
+    ∙ ap (λ (known : _). record { m = s.m; name = b.name; known = known }) are.known)
+
+module _ (s : Dimensions) (v : Serving) (b : Process) (d : ℕ) (h : Head) (r : Replica) (heads : Heads v d h r) where
+  -- nothing changes
+  unchanged : serving (record v { replicas = put empty_replica v.replicas d r; held = put [] v.held d (at [] v.held d) }) b ≡ serving v b
+  unchanged =
+      ap (λ (x : Replica). serving (record v { replicas = put empty_replica v.replicas d x; held = put [] v.held d (at [] v.held d) }) b) (sym heads.replica)
+      ∙ ap (λ (xs : List Replica). serving (record v { replicas = xs; held = put [] v.held d (at [] v.held d) }) b) (put-at empty_replica empty_replica v.replicas d heads.has_replica)
+      ∙ ap (λ (xs : List (List Held)). serving (record v { held = xs }) b) (put-at [] [] v.held d heads.has_held)
+
+  stays-is : (answer : _) → only answer (serving v b) ≡ joined d (stays answer r (at [] v.held d) b) v
+  stays-is answer = ap (λ (p : Process). only answer p) (sym unchanged)
+
+  module _ (name : CallName) (op : Asked) where
+    next-long : (u : Update) → u.number ≡ suc (last_of r) → last_of (with_update u r) ≡ u.number
+    next-long u is = omega (arith, length-append r.log (u ∷ []), is)
+
+    -- the step, where it settles up to a number
+    abbrev issued_to : Update → ℕ → CallStep
+    issued_to u n = joined d (record {
+      replica = applied_to n (with_update u r);
+      held = held_then (nat_le u.number (applied_to n (with_update u r)).applied) u (at [] v.held d);
+      bytes = bytes_after s d (up_to n (with_update u r)) b;
+      sent = to_all (own s v b) (tells.Update (rank h.rank) (partition d) u r.applied);
+      settled = settlements d (up_to n (with_update u r));
+      answer = answer_to (nat_le u.number (applied_to n (with_update u r)).applied) u;
+    }) v
+
+    issue-joined : (u : Update) → u.number ≡ suc (last_of r) → issue s d h u (serving v b)
+        ≡ joined d (issues s d (own s v b) h u r (at [] v.held d) b) v
+    issue-joined u is = issue-is s d b h u v r heads.head heads.replica heads.has_held ∙ ap (λ (last : ℕ). issued_to u (settles (own s v b) h last)) (next-long u is)
+
+    act-is : (decision : Decision) → ((block : ℕ) → decision ≢ decides.NeedBlock block)
+        → act_on s name op d h (serving v b) decision ≡ joined d (acts s d (own s v b) h name op r (at [] v.held d) b decision) v
+    act-is (decides.Answer reply) none = stays-is _
+    act-is (decides.Retry n) none = stays-is _
+    act-is decides.NoSpace none = stays-is _
+    act-is (decides.NeedBlock block) none = absurd (none block refl)
+    act-is (decides.Issue body outcome) none =
+        ap (λ (x : Replica). issue s d h (next_update name op body outcome x) (serving v b)) heads.replica ∙ issue-joined (next_update name op body outcome r) refl
+
+pub asks_are_the_machines : AsksAreTheMachines
+asks_are_the_machines s v b peers h r name op are heads none =
+    let d : ℕ = home_of (key_of op.act) s.k in
+    ap (ask_head s name op d (serving v b)) heads.head
+    ∙ ap (λ (x : Replica). act_on s name op d h (serving v b) (decided s d h op x b)) heads.replica
+    ∙ act-is s v b d h r heads name op (decided s d h op r b) none
+    ∙ ap (λ (x : Peers). joined d (acts s d x h name op r (at [] v.held d) b (decided s d h op r b)) v) (own-is s v b peers are)
+
+pub judges_are_the_machines : JudgesAreTheMachines
+judges_are_the_machines s v b peers d h r are heads =
+    let same : put empty_replica v.replicas d r ≡ v.replicas
+    = ap (put empty_replica v.replicas d) (sym heads.replica) ∙ put-at empty_replica empty_replica v.replicas d heads.has_replica in
+    ap (λ (xs : List Replica). judge s d (serving (record v { replicas = xs }) b)) (sym same)
+    ∙ judge-is s d b h r v heads.head
+    ∙ ap (λ (x : Peers). record {
+      process = serving (record v { replicas = put empty_replica v.replicas d (applied_to (settles x h (last_of r)) r) }) (bytes_after s d (up_to (settles x h (last_of r)) r) b);
+      sent = [];
+      settled = settlements d (up_to (settles x h (last_of r)) r);
+    }) (own-is s v b peers are)
+
+pub fates_are_the_machines : FatesAreTheMachines
+fates_are_the_machines s v b peers d h r caller call are heads =
+    ap (fate_of s caller call d (serving v b)) heads.head
+    ∙ ap (λ (x : Replica). fate (own s v b) h x caller call) heads.replica
+    ∙ ap (λ (x : Peers). fate x h r caller call) (own-is s v b peers are)

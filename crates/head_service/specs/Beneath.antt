@@ -1,0 +1,17 @@
+-- What a head finds in the bytes beneath it.
+use Rattle.std.specs.Prelude.{ℕ, ◌≡◌, ⊤, length}
+use Rattle.group_types.specs.Dimensions.{Dimensions}
+use Rattle.group_types.specs.declared.run.Run.{Run}
+use Rattle.group_calls.specs.declared.found.Found.{Found}
+use Rattle.group_calls.specs.declared.found.Found.TheVariants.{Bytes, Missing}
+use Rattle.group_run.specs.Asking.{found_at}
+use Rattle.group_run.specs.Process.{Process}
+
+-- what a process finds in a run of a partition's space
+abbrev pub found_in : Dimensions → ℕ → Process → Run → Found
+found_in s d p = found_at s d p p.name
+
+-- the bytes that were found are so many
+abbrev pub IsAsLong : ℕ → Found → Type 0
+IsAsLong len (Bytes bytes) = length bytes ≡ len
+IsAsLong len (Missing b) = ⊤

@@ -1,0 +1,32 @@
+-- What holds of an update that a head decided on, before it is issued.
+use Rattle.std.specs.Prelude.{◌≡◌, ◌<◌, ⊤, ℕ, List, length, IfSome}
+use Rattle.group_message.specs.declared.update.Body.{Body}
+use Rattle.group_message.specs.declared.update.Body.TheVariants.{Put}
+use Rattle.group_calls.specs.declared.decision.Decision.{Decision}
+use Rattle.group_calls.specs.declared.decision.Decision.TheVariants.{Answer, Retry, NoSpace, NeedBlock, Issue}
+use Rattle.run_alloc.specs.Free.{AllFree}
+use Rattle.group_run.specs.Deciding.{window}
+use Rattle.group_run.specs.Fitting.{Writes}
+use Rattle.group_run.specs.Free.{is_free}
+use Rattle.group_run.specs.Replica.{Replica, freed_by, items_after, run_of, slot_in}
+
+-- an update of this body on a key can come next: its value has a free run, it gives back what its key
+-- has once all that waits is settled, and fewer than 256 updates wait
+pub record CanIssue (space : ℕ) (r : Replica) (key : List ℕ) (body : Body) : Type 0 where
+  pub writes : Writes space body
+  pub free : IfSome (run_of body) (λ run. AllFree (is_free space r) run.at run.len)
+  pub frees : freed_by body (slot_in r.items key) ≡ freed_by body (slot_in (items_after r.items r.log) key)
+  pub few : length r.log < window
+
+-- what a head decided can be done
+abbrev pub CanFollow : ℕ → Replica → List ℕ → Decision → Type 0
+CanFollow space r key (Issue body outcome) = CanIssue space r key body
+CanFollow space r key (Answer reply) = ⊤
+CanFollow space r key (Retry n) = ⊤
+CanFollow space r key NoSpace = ⊤
+CanFollow space r key (NeedBlock b) = ⊤
+
+-- a value that is put has a run as long as its difference
+abbrev pub IsWhole : Decision → Type 0
+IsWhole (Issue (Put _ _ run delta) _) = run.len ≡ length delta
+IsWhole _ = ⊤

@@ -1,0 +1,10 @@
+pub mod Beneath
+pub mod Peers
+pub mod Issuing
+pub mod Answering
+pub mod Telling
+pub mod Settling
+pub mod Fates
+pub mod Serving
+pub mod Acting
+pub mod Laws
