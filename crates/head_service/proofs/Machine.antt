@@ -1,10 +1,11 @@
 -- The steps of heads are the machine's: proofs of the laws.
-use Rattle.std.proofs.Common.{ℕ, suc, ◌≡◌, ◌≢◌, List, [], ◌∷◌, nat_le, refl, sym, ap, ◌∙◌, arith}
-use Rattle.std.proofs.lemmas.List.{length-append}
+use Rattle.std.proofs.Common.{ℕ, suc, ◌≡◌, ◌≢◌, List, [], ◌∷◌, nat_le, length, Option, Some, None, ◌+◌, ◌++◌, refl, sym, ap, ◌∙◌, arith}
+use Rattle.std.proofs.lemmas.List.{append-nil, length-append}
+use Rattle.std.specs.List.{range_with_len}
 use Rattle.group_types.specs.Dimensions.{Dimensions}
 use Rattle.group_types.specs.Hash.{home_of}
 use Rattle.group_types.specs.Lists.{at, put}
-use Rattle.group_types.proofs.Lists.{put-at}
+use Rattle.group_types.proofs.Lists.{at-put, put-at}
 use Rattle.memc_table.specs.Act.{key_of}
 use Rattle.memc_table.specs.Asked.{Asked}
 use Rattle.group_calls.specs.Turns.{CallName}
@@ -12,16 +13,17 @@ use Rattle.group_calls.specs.declared.decision.Decision.{Decision}
 use Rattle.group_calls.specs.declared.decision.Decision.TheVariants as decides
 use Rattle.group_message.specs.declared.update.Update.{Update}
 use Rattle.group_message.specs.declared.message.Message.TheVariants as tells
-use Rattle.group_run.specs.Applying.{bytes_after}
+use Rattle.group_run.specs.Applying.{ProcessStep, Sent, and_then, bytes_after, sending}
 use Rattle.group_run.specs.Asking.{CallStep, act_on, ask_head, fate_of, issue, only}
-use Rattle.group_run.specs.Heading.{judge, partition, rank, settlements}
+use Rattle.group_run.specs.Heading.{judge, partition, rank, settlements, tell_stable, tell_stables}
 use Rattle.group_run.specs.Process.{Head, Held, Process}
 use Rattle.group_run.specs.Replica.{Replica, applied_to, empty_replica, last_of, up_to, with_update}
 use Rattle.head_service.specs.Acting.{acts, issues, next_update, stays}
 use Rattle.head_service.specs.Answering.{answer_to, held_then}
 use Rattle.head_service.specs.Fates.{fate}
 use Rattle.head_service.specs.Peers.{settles, to_all}
-use Rattle.head_service.specs.Laws.{ArePeers, AsksAreTheMachines, FatesAreTheMachines, Heads, JudgesAreTheMachines, decided, joined}
+use Rattle.head_service.specs.Flushing.{stable_of, stables}
+use Rattle.head_service.specs.Laws.{ArePeers, AsksAreTheMachines, FatesAreTheMachines, FlushesAreTheMachines, Heads, JudgesAreTheMachines, TakeoversAreTheMachines, decided, heir, joined}
 use Rattle.head_service.specs.Serving.{Serving, serving}
 use Rattle.head_service.specs.declared.peers.Peers.{Peers}
 use Rattle.head_service.proofs.Steps.{issue-is, judge-is}
@@ -99,3 +101,52 @@ fates_are_the_machines s v b peers d h r caller call are heads =
     ap (fate_of s caller call d (serving v b)) heads.head
     ∙ ap (λ (x : Replica). fate (own s v b) h x caller call) heads.replica
     ∙ ap (λ (x : Peers). fate x h r caller call) (own-is s v b peers are)
+
+pub takeovers_are_the_machines : TakeoversAreTheMachines
+takeovers_are_the_machines s v b peers d r are here within =
+    let h : Head = heir s b r in
+    let raised : Serving = record v { ranks = put 0 v.ranks d h.rank; heads = put None v.heads d (Some h) } in
+    let same : put empty_replica v.replicas d r ≡ v.replicas = ap (put empty_replica v.replicas d) (sym here) ∙ put-at empty_replica empty_replica v.replicas d within in
+    let own_sent : Replica → List Sent = λ x. to_all (own s v b) (tells.Adopt (rank h.rank) (partition d) x.applied x.log) in
+    ap (λ (x : Replica). and_then (sending (own_sent x) (serving (record v { ranks = put 0 v.ranks d h.rank; heads = put None v.heads d (Some (heir s b x)) }) b)) (judge s d)) here
+    ∙ ap (λ (xs : List Replica). and_then (sending (own_sent r) (serving (record raised { replicas = xs }) b)) (judge s d)) (sym same)
+    ∙ ap (λ (step : ProcessStep). record { process = step.process; sent = own_sent r ++ step.sent; settled = step.settled })
+    (judge-is s d b h r raised (at-put None None v.heads d (Some h)))
+    ∙ ap (λ (sent : List Sent). record {
+      process = serving (record raised { replicas = put empty_replica v.replicas d (applied_to (settles (own s v b) h (last_of r)) r) }) (bytes_after s d (up_to (settles (own s v b) h (last_of r)) r) b);
+      sent = sent;
+      settled = settlements d (up_to (settles (own s v b) h (last_of r)) r);
+    }) (append-nil (own_sent r))
+    ∙ ap (λ (x : Peers). record {
+      process = serving (record raised { replicas = put empty_replica v.replicas d (applied_to (settles x h (last_of r)) r) }) (bytes_after s d (up_to (settles x h (last_of r)) r) b);
+      sent = to_all x (tells.Adopt (rank h.rank) (partition d) r.applied r.log);
+      settled = settlements d (up_to (settles x h (last_of r)) r);
+    }) (own-is s v b peers are)
+
+-- what is told of the partitions from a number on
+module _ (s : Dimensions) (v : Serving) (b : Process) where
+  stable-is : (a : ℕ) (h : Option Head) → tell_stable s (serving v b) a h ≡ stable_of (own s v b) a h (at empty_replica v.replicas a)
+  stable-is a None = refl
+  stable-is a (Some h) = refl
+
+  stables-are : (a : ℕ) (hs : List (Option Head)) (rs : List Replica) → length rs ≡ length hs → ((i : ℕ) → at None v.heads (a + i) ≡ at None hs i)
+      → ((i : ℕ) → at empty_replica v.replicas (a + i) ≡ at empty_replica rs i) → tell_stables s (serving v b) (range_with_len a (length hs)) ≡ stables (own s v b) a hs rs
+  stables-are a [] rs long heads replicas = refl
+  stables-are a (h ∷ hs) [] long heads replicas = absurd (omega (arith, long))
+  stables-are a (h ∷ hs) (r ∷ rs) long heads replicas =
+      let e : a + 0 ≡ a = omega arith in
+      ap (λ (x : Option Head). tell_stable s (serving v b) a x ++ tell_stables s (serving v b) (range_with_len (a + 1) (length hs))) (ap (at None v.heads) (sym e) ∙ heads 0)
+      ∙ ap (λ (sent : List Sent). sent ++ tell_stables s (serving v b) (range_with_len (a + 1) (length hs))) (stable-is a h)
+      ∙ ap (λ (x : Replica). told h x ++ tell_stables s (serving v b) (range_with_len (a + 1) (length hs))) (ap (at empty_replica v.replicas) (sym e) ∙ replicas 0)
+      ∙ ap (λ (sent : List Sent). told h r ++ sent) (stables-are (a + 1) hs rs (omega (arith, long))
+      (λ i. let f : (a + 1) + i ≡ a + suc i = omega arith in ap (at None v.heads) f ∙ heads (suc i))
+      (λ i. let f : (a + 1) + i ≡ a + suc i = omega arith in ap (at empty_replica v.replicas) f ∙ replicas (suc i))) where
+        told : Option Head → Replica → List Sent
+        told = stable_of (own s v b) a
+
+pub flushes_are_the_machines : FlushesAreTheMachines
+flushes_are_the_machines s v b peers are heads replicas =
+    ap (λ (k : ℕ). sending (tell_stables s (serving v b) (range_with_len 0 k)) (serving v b)) (sym heads)
+    ∙ ap (λ (sent : List Sent). sending sent (serving v b)) (stables-are s v b 0 v.heads v.replicas (replicas ∙ sym heads)
+    (λ i. let e : 0 + i ≡ i = omega arith in ap (at None v.heads) e) (λ i. let e : 0 + i ≡ i = omega arith in ap (at empty_replica v.replicas) e))
+    ∙ ap (λ (x : Peers). sending (stables x 0 v.heads v.replicas) (serving v b)) (own-is s v b peers are)

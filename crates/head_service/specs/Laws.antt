@@ -1,5 +1,5 @@
 -- The steps of heads, part by part, are those of the machine's process.
-use Rattle.std.specs.Prelude.{◌≡◌, ◌≢◌, ◌<◌, ℕ, [], length, Some, None}
+use Rattle.std.specs.Prelude.{◌≡◌, ◌≢◌, ◌<◌, ℕ, suc, [], length, Some, None}
 use Rattle.group_types.specs.Dimensions.{Dimensions, space_of}
 use Rattle.group_types.specs.Hash.{home_of}
 use Rattle.group_types.specs.Lists.{at, put}
@@ -8,16 +8,21 @@ use Rattle.memc_table.specs.Asked.{Asked}
 use Rattle.group_calls.specs.Turns.{CallName}
 use Rattle.group_calls.specs.declared.decision.Decision.{Decision}
 use Rattle.group_calls.specs.declared.decision.Decision.TheVariants.{NeedBlock}
-use Rattle.group_run.specs.Applying.{bytes_after}
+use Rattle.group_message.specs.declared.message.Message.TheVariants as tells
+use Rattle.group_run.specs.Applying.{bytes_after, sending}
 use Rattle.group_run.specs.Asking.{CallStep, ask_process, fate_of}
 use Rattle.group_run.specs.Deciding.{decide}
-use Rattle.group_run.specs.Heading.{judge, settlements}
-use Rattle.group_run.specs.Process.{Head, Process}
+use Rattle.group_run.specs.Heading.{judge, partition, rank, settlements}
+use Rattle.group_run.specs.Process.{Head, Process, new_head}
 use Rattle.group_run.specs.Replica.{Replica, applied_to, empty_replica, last_of, up_to}
+use Rattle.group_run.specs.Receiving.{taken_over}
+use Rattle.group_run.specs.Rows.{parity_number}
+use Rattle.group_run.specs.World.{flush_process}
 use Rattle.head_service.specs.Acting.{HeadStep, acts}
 use Rattle.head_service.specs.Beneath.{found_in}
 use Rattle.head_service.specs.Fates.{fate}
-use Rattle.head_service.specs.Peers.{settles}
+use Rattle.head_service.specs.Flushing.{stables}
+use Rattle.head_service.specs.Peers.{settles, to_all}
 use Rattle.head_service.specs.Serving.{Serving, serving}
 use Rattle.head_service.specs.declared.peers.Peers.{Peers}
 
@@ -69,3 +74,26 @@ JudgesAreTheMachines = (s : Dimensions) (v : Serving) (b : Process) (peers : Pee
 abbrev pub FatesAreTheMachines : Type 0
 FatesAreTheMachines = (s : Dimensions) (v : Serving) (b : Process) (peers : Peers) (d : ℕ) (h : Head) (r : Replica) (caller call : ℕ) → ArePeers s v b peers → Heads v d h r
     → fate_of s caller call d (serving v b) (at None v.heads d) ≡ fate peers h r caller call
+
+-- what taking a partition over settles, where its replica is this one
+abbrev pub heir : Dimensions → Process → Replica → Head
+heir s b r = new_head s (suc (parity_number b.name)) (last_of r)
+
+-- a process takes a partition over
+abbrev pub TakeoversAreTheMachines : Type 0
+TakeoversAreTheMachines = (s : Dimensions) (v : Serving) (b : Process) (peers : Peers) (d : ℕ) (r : Replica) → ArePeers s v b peers
+    → at empty_replica v.replicas d ≡ r → d < length v.replicas
+    → taken_over s d (serving v b) ≡ record {
+      process = serving (record v {
+        replicas = put empty_replica v.replicas d (applied_to (settles peers (heir s b r) (last_of r)) r);
+        ranks = put 0 v.ranks d (heir s b r).rank;
+        heads = put None v.heads d (Some (heir s b r));
+      }) (bytes_after s d (up_to (settles peers (heir s b r) (last_of r)) r) b);
+      sent = to_all peers (tells.Adopt (rank (heir s b r).rank) (partition d) r.applied r.log);
+      settled = settlements d (up_to (settles peers (heir s b r) (last_of r)) r);
+    }
+
+-- a process tells how far it has settled
+abbrev pub FlushesAreTheMachines : Type 0
+FlushesAreTheMachines = (s : Dimensions) (v : Serving) (b : Process) (peers : Peers) → ArePeers s v b peers → length v.heads ≡ s.k → length v.replicas ≡ s.k
+    → (flush_process s (serving v b)).step ≡ sending (stables peers 0 v.heads v.replicas) (serving v b)

@@ -8,3 +8,4 @@ pub mod Fates
 pub mod Serving
 pub mod Acting
 pub mod Laws
+pub mod Flushing

@@ -66,8 +66,10 @@ pub fn ask<B: Beneath>(
     ensures ready { All (λ u. B.is_ready below.new partition.0 u) replica.new.replica.log }
     ensures tidy { IsTidyBut replica.new (λ _. false) }
     ensures made { IfOk result (λ asked.
-        let decision : Decision = decide (space_of replica.old.shape) head.now.inherited replica.old.replica op.now (found_in (B.shape below.old) partition.0 (B.process below.old)) in
-        IsMade decision (acts (B.shape below.old) partition.0 peers.now head.now (name_of call) op.now replica.old.replica held.old.items (B.process below.old) decision)
+        let decision : Decision = decide (space_of replica.old.shape) head.now.inherited replica.old.replica op.now
+        (found_in (B.shape below.old) partition.0 (B.process below.old)) in
+        IsMade decision (acts (B.shape below.old) partition.0 peers.now head.now (name_of call) op.now replica.old.replica held.old.items
+        (B.process below.old) decision)
         asked replica.new.replica held.new.items (B.process below.new)) }
     ensures replica_err { OnErr result (replica.new.replica ≡ replica.old.replica) }
     ensures bytes_err { OnErr result (B.process below.new ≡ B.process below.old) }
@@ -105,7 +107,8 @@ fn act<B: Beneath>(
     ensures ready { All (λ u. B.is_ready below.new partition.0 u) replica.new.replica.log }
     ensures tidy { IsTidyBut replica.new (λ _. false) }
     ensures made { IfOk result (λ asked.
-        IsMade decision (acts (B.shape below.old) partition.0 peers.now head.now (name_of call) op.now replica.old.replica held.old.items (B.process below.old) decision)
+        IsMade decision (acts (B.shape below.old) partition.0 peers.now head.now (name_of call) op.now replica.old.replica held.old.items
+        (B.process below.old) decision)
         asked replica.new.replica held.new.items (B.process below.new)) }
     ensures replica_err { OnErr result (replica.new.replica ≡ replica.old.replica) }
     ensures bytes_err { OnErr result (B.process below.new ≡ B.process below.old) }

@@ -1,4 +1,4 @@
-ghost use Rattle.std.specs.Prelude.{◌≡◌, ◌+◌, ◌-◌, ◌<◌, ◌≤◌, ◌||◌, nat_le, ℕ, Bool, true, false, List, [], ◌∷◌, ◌++◌, length, vec_len, vec_capacity, All, IfOk, OnOk, OnErr};
+ghost use Rattle.std.specs.Prelude.{◌≡◌, ◌+◌, ◌-◌, ◌<◌, ◌≤◌, ◌||◌, nat_le, ℕ, Bool, false, List, [], ◌∷◌, ◌++◌, length, vec_len, vec_capacity, All, IfOk, OnOk, OnErr};
 ghost use Rattle.group_types.specs.Dimensions.{space_of};
 ghost use Rattle.group_message.specs.declared.update.Update.{Update};
 ghost use Rattle.group_run.specs.Applying.{bytes_after};
@@ -53,7 +53,8 @@ pub fn issue<B: Beneath>(
     ensures replica { OnOk result (replica.new.replica ≡ applied_to (settles peers.now head.now update.number) (with_update update replica.old.replica)) }
     ensures bytes { OnOk result (B.process below.new ≡ bytes_after (B.shape below.old) partition.0
         (up_to (settles peers.now head.now update.number) (with_update update replica.old.replica)) (B.process below.old)) }
-    ensures sent { IfOk result (λ step. step.sent.items ≡ to_all peers.now (message_of (record { 0 = head.now.rank }) partition (Issued update replica.old.replica.applied))) }
+    ensures sent { IfOk result (λ step. step.sent.items
+        ≡ to_all peers.now (message_of (record { 0 = head.now.rank }) partition (Issued update replica.old.replica.applied))) }
     ensures settled { IfOk result (λ step. step.settled.items ≡ settlements partition.0
         (up_to (settles peers.now head.now update.number) (with_update update replica.old.replica))) }
     ensures answer { IfOk result (λ step. step.answer ≡ answer_to (nat_le update.number replica.new.replica.applied) update) }
@@ -100,7 +101,8 @@ fn prepare<B: Beneath>(
     ensures place { OnOk result (vec_len held.new < vec_capacity held.new) }
     ensures ready { OnOk result (B.is_ready below.new partition.0 update.now) }
     ensures number { IfOk result (λ p. p.number ≡ settles peers.now head.now update.now.number) }
-    ensures sent { IfOk result (λ p. p.sent.items ≡ to_all peers.now (message_of (record { 0 = head.now.rank }) partition (Issued update.now replica.old.replica.applied))) }
+    ensures sent { IfOk result (λ p. p.sent.items
+        ≡ to_all peers.now (message_of (record { 0 = head.now.rank }) partition (Issued update.now replica.old.replica.applied))) }
     ensures settled { IfOk result (λ p. p.settled.items ≡ []) }
     ensures fits { IfOk result (λ p. p.number - replica.old.replica.applied ≤ vec_capacity p.settled) }
 {
@@ -147,7 +149,8 @@ fn carry_out<B: Beneath>(
     ensures replica { replica.new.replica ≡ applied_to prepared.number (with_update update replica.old.replica) }
     ensures tidy { IsTidyBut replica.new (λ _. false) }
     ensures below { B.shape below.new ≡ B.shape below.old }
-    ensures bytes { B.process below.new ≡ bytes_after (B.shape below.old) partition.0 (up_to prepared.number (with_update update replica.old.replica)) (B.process below.old) }
+    ensures bytes { B.process below.new ≡ bytes_after (B.shape below.old) partition.0
+        (up_to prepared.number (with_update update replica.old.replica)) (B.process below.old) }
     ensures kept { (d : ℕ) (u : Update) → B.is_ready below.old d u → B.is_ready below.new d u }
     ensures ready { All (λ u. B.is_ready below.new partition.0 u) replica.new.replica.log }
     ensures sent { result.sent ≡ prepared.sent }

@@ -35,8 +35,10 @@ pub fn judge<B: Beneath>(
     ensures replica { replica.new.replica ≡ applied_to (settles peers.now head.now (last_of replica.old.replica)) replica.old.replica }
     ensures tidy { IsTidyBut replica.new (λ _. false) }
     ensures below { B.shape below.new ≡ B.shape below.old }
-    ensures bytes { B.process below.new ≡ bytes_after (B.shape below.old) partition.0 (up_to (settles peers.now head.now (last_of replica.old.replica)) replica.old.replica) (B.process below.old) }
-    ensures settled { settled.new.items ≡ settled.old.items ++ settlements partition.0 (up_to (settles peers.now head.now (last_of replica.old.replica)) replica.old.replica) }
+    ensures bytes { B.process below.new ≡ bytes_after (B.shape below.old) partition.0
+        (up_to (settles peers.now head.now (last_of replica.old.replica)) replica.old.replica) (B.process below.old) }
+    ensures settled { settled.new.items ≡ settled.old.items ++ settlements partition.0
+        (up_to (settles peers.now head.now (last_of replica.old.replica)) replica.old.replica) }
     ensures kept { (d : ℕ) (u : Update) → B.is_ready below.old d u → B.is_ready below.new d u }
     ensures ready { All (λ u. B.is_ready below.new partition.0 u) replica.new.replica.log }
 {
@@ -71,7 +73,8 @@ pub fn acknowledge<B: Beneath>(
     ensures kept { (d : ℕ) (u : Update) → B.is_ready below.old d u → B.is_ready below.new d u }
     ensures ready { All (λ u. B.is_ready below.new partition.0 u) replica.new.replica.log }
     ensures head { OnOk result (head.new ≡ acknowledged parity number head.old) }
-    ensures replica { OnOk result (replica.new.replica ≡ applied_to (settles peers.now (acknowledged parity number head.old) (last_of replica.old.replica)) replica.old.replica) }
+    ensures replica { OnOk result (replica.new.replica
+        ≡ applied_to (settles peers.now (acknowledged parity number head.old) (last_of replica.old.replica)) replica.old.replica) }
     ensures bytes { OnOk result (B.process below.new ≡ bytes_after (B.shape below.old) partition.0
         (up_to (settles peers.now (acknowledged parity number head.old) (last_of replica.old.replica)) replica.old.replica) (B.process below.old)) }
     ensures settled { IfOk result (λ settled. settled.items ≡ settlements partition.0

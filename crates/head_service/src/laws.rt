@@ -1,4 +1,4 @@
-ghost use Rattle.head_service.specs.Laws.{AsksAreTheMachines, FatesAreTheMachines, JudgesAreTheMachines};
+ghost use Rattle.head_service.specs.Laws.{AsksAreTheMachines, FatesAreTheMachines, FlushesAreTheMachines, JudgesAreTheMachines, TakeoversAreTheMachines};
 
 /// What a head makes of a call, part by part, is the step of the machine's process.
 pub fn asks_are_the_machines()
@@ -15,4 +15,14 @@ pub fn judges_are_the_machines()
 #[tactic(auto, using(crate::proofs::Machine::fates_are_the_machines))]
 pub fn fates_are_the_machines()
     ensures { FatesAreTheMachines }
+{}
+
+/// A takeover is the step of the machine's process that takes a partition over.
+pub fn takeovers_are_the_machines()
+    ensures { TakeoversAreTheMachines }
+{}
+
+/// What a flush sends is what the machine's process sends.
+pub fn flushes_are_the_machines()
+    ensures { FlushesAreTheMachines }
 {}

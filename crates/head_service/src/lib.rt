@@ -9,6 +9,7 @@ pub mod beneath;
 mod body;
 pub mod decide;
 pub mod fate;
+pub mod flush;
 pub mod head;
 pub mod held;
 pub mod issue;
@@ -21,6 +22,7 @@ mod plain;
 mod ruling;
 pub mod settle;
 pub mod step;
+pub mod take_over;
 
 pub use ask::{Asked, Call};
 pub use beneath::Beneath;

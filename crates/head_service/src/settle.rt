@@ -31,7 +31,8 @@ pub fn settle_to<B: Beneath>(
     ensures settled { settled.new.items ≡ settled.old.items ++ settlements partition.0 (up_to number replica.old.replica) }
     ensures room { replica.new.room ≡ replica.old.room }
     ensures ready { (d : ℕ) (u : Update) → B.is_ready below.old d u → B.is_ready below.new d u }
-    ensures owed { (owed : List ℕ → Bool) → IsTidyBut replica.old owed → IsTidyBut replica.new (λ q. owed q || is_touched (up_to number replica.old.replica) q) }
+    ensures owed { (owed : List ℕ → Bool) → IsTidyBut replica.old owed
+        → IsTidyBut replica.new (λ q. owed q || is_touched (up_to number replica.old.replica) q) }
 {
     'updates: while replica.applied() < number {
         let Some(update) = replica.settle_next() else {

@@ -3,17 +3,20 @@ ghost use Rattle.partition_replica.specs.State.{IsTidyBut};
 
 use super::{Asked, Call, ask};
 use crate::fate::fate;
+use crate::flush::flush;
 use crate::head::Head;
 use crate::held::{Held, hand_out};
 use crate::judge::acknowledge;
 use crate::peers::Peers;
 use crate::plain::Plain;
+use crate::take_over::take_over;
 use group_calls::Answer;
 use group_types::{Key, Partition, Payload, ProcessId, Rank, Shape};
 use membership::Members;
 use memc_table::{Act, Op, Reply};
 use partition_replica::Replica;
 use std::alloc::{AllocError, Global};
+use std::slice;
 use std::test::Fail;
 
 const SET: Call = Call {
@@ -117,6 +120,41 @@ impl Desk {
         Ok(settled.len())
     }
 
+    // Whether a new head tells the other of the update that waits, and settles nothing.
+    fn is_taken_over(&mut self) -> Result<bool, Fail> {
+        let shape = Shape::new(1, 1, 1, 16)?;
+        Ok(self.takes_over(shape)?)
+    }
+
+    fn takes_over(&mut self, shape: Shape) -> Result<bool, AllocError>
+        requires { shape ≡ record { k = 1; m = 1; blocks = 1; block = 16 } }
+    {
+        let made = take_over(
+            self.alloc,
+            shape,
+            Partition(0),
+            Rank(1),
+            &self.peers,
+            &mut self.replica,
+            &mut self.below,
+        )?;
+        Ok(made.sent.len() == 1 && made.settled.is_empty())
+    }
+
+    // How many messages tell how far it has settled.
+    fn flushes(&self) -> Result<usize, Fail> {
+        let shape = Shape::new(1, 1, 1, 16)?;
+        let heads = [Some(Head::new(self.alloc, shape, Rank(0), 0)?)];
+        let sent = flush(
+            self.alloc,
+            shape,
+            &self.peers,
+            &heads,
+            slice::from_ref(&self.replica),
+        )?;
+        Ok(sent.len())
+    }
+
     fn collects(&mut self, answer: &Answer) -> bool {
         let applied = self.replica.applied();
         hand_out(&mut self.held, applied, SET.caller, SET.number) == *answer
@@ -200,5 +238,14 @@ fn a_settled_call_has_its_fate(rt: HostRuntime) -> Result<(), Fail> {
     assert!(rt; desk.tells(SET, &Answer::Reply(Reply::Stored)));
     assert!(rt; desk.tells(GET, &Answer::Gone));
     assert!(rt; desk.shows(b"cart")?);
+    Ok(())
+}
+
+#[test]
+fn a_head_tells_what_it_has(rt: HostRuntime) -> Result<(), Fail> {
+    let mut desk = a_desk(rt.alloc())?;
+    assert!(rt; desk.sets()?);
+    assert!(rt; desk.flushes()? == 1);
+    assert!(rt; desk.is_taken_over()?);
     Ok(())
 }
