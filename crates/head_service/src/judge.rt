@@ -39,6 +39,7 @@ pub fn judge<B: Beneath>(
         (up_to (settles peers.now head.now (last_of replica.old.replica)) replica.old.replica) (B.process below.old) }
     ensures settled { settled.new.items ≡ settled.old.items ++ settlements partition.0
         (up_to (settles peers.now head.now (last_of replica.old.replica)) replica.old.replica) }
+    ensures capacity { vec_capacity settled.old ≤ vec_capacity settled.new }
     ensures kept { (d : ℕ) (u : Update) → B.is_ready below.old d u → B.is_ready below.new d u }
     ensures ready { All (λ u. B.is_ready below.new partition.0 u) replica.new.replica.log }
 {

@@ -29,6 +29,7 @@ pub fn settle_to<B: Beneath>(
     ensures below { B.shape below.new ≡ B.shape below.old }
     ensures bytes { B.process below.new ≡ bytes_after (B.shape below.old) partition.0 (up_to number replica.old.replica) (B.process below.old) }
     ensures settled { settled.new.items ≡ settled.old.items ++ settlements partition.0 (up_to number replica.old.replica) }
+    ensures capacity { vec_capacity settled.old ≤ vec_capacity settled.new }
     ensures room { replica.new.room ≡ replica.old.room }
     ensures ready { (d : ℕ) (u : Update) → B.is_ready below.old d u → B.is_ready below.new d u }
     ensures owed { (owed : List ℕ → Bool) → IsTidyBut replica.old owed

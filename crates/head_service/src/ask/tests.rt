@@ -9,7 +9,7 @@ use crate::held::{Held, hand_out};
 use crate::judge::acknowledge;
 use crate::peers::Peers;
 use crate::plain::Plain;
-use crate::take_over::take_over;
+use crate::take_over::{adoption, heir};
 use group_calls::Answer;
 use group_types::{Key, Partition, Payload, ProcessId, Rank, Shape};
 use membership::Members;
@@ -120,25 +120,19 @@ impl Desk {
         Ok(settled.len())
     }
 
-    // Whether a new head tells the other of the update that waits, and settles nothing.
-    fn is_taken_over(&mut self) -> Result<bool, Fail> {
+    // Whether a new head tells the other of the update that waits.
+    fn is_taken_over(&self) -> Result<bool, Fail> {
         let shape = Shape::new(1, 1, 1, 16)?;
-        Ok(self.takes_over(shape)?)
-    }
-
-    fn takes_over(&mut self, shape: Shape) -> Result<bool, AllocError>
-        requires { shape ≡ record { k = 1; m = 1; blocks = 1; block = 16 } }
-    {
-        let made = take_over(
-            self.alloc,
-            shape,
+        let head = heir(self.alloc, shape, Rank(1), &self.replica)?;
+        let mut sent = Vec::new(self.alloc);
+        adoption(
             Partition(0),
-            Rank(1),
+            head.rank(),
             &self.peers,
-            &mut self.replica,
-            &mut self.below,
+            &self.replica,
+            &mut sent,
         )?;
-        Ok(made.sent.len() == 1 && made.settled.is_empty())
+        Ok(sent.len() == 1 && head.inherited() == 1)
     }
 
     // How many messages tell how far it has settled.

@@ -74,6 +74,7 @@ updates-preserved g c = record {
   blocks = blocks-are g c;
   settled = settled-are g c ∙ c.updates.invariant.settled;
   room = c.settle_next.ensures.room ∙ c.updates.invariant.room;
+  capacity = omega (arith, c.updates.invariant.capacity, c.in-Ok.ensures.capacity);
   fits = omega (arith, c.updates.invariant.fits, ap length (up-is g c), c.in-Ok.ensures.len, c.in-Ok.ensures.capacity);
   ready = λ e v is. c.add.ensures.kept e v (c.updates.invariant.ready e v is);
   logged = λ k v lt. c.add.ensures.kept c.args.partition.0 _

@@ -17,6 +17,7 @@ invariant-updates g l = record {
   settled : l.settled.items ++ settlements l.partition.0 (up_to l.number l.replica.replica)
       ≡ l.initial.settled.items ++ settlements l.partition.0 (up_to l.number l.initial.replica.replica);
   room : l.replica.room ≡ l.initial.replica.room;
+  capacity : vec_capacity l.initial.settled ≤ vec_capacity l.settled;
   fits : vec_len l.settled + length (up_to l.number l.replica.replica) ≤ vec_capacity l.settled;
   ready : (d : ℕ) (u : Update) → g.B.Beneath.is_ready l.initial.below d u → g.B.Beneath.is_ready l.below d u;
   logged : All (λ u. g.B.Beneath.is_ready l.below l.partition.0 u) l.replica.replica.log;
