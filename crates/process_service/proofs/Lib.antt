@@ -1,0 +1,11 @@
+mod Whole
+mod Asked
+mod Lists
+mod Each
+mod Mourning
+mod Standing
+mod Search
+mod Results
+mod Counted
+mod Judged
+mod Taken

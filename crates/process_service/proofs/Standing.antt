@@ -1,0 +1,70 @@
+-- What is beneath a process's partitions, after a step for one of them.
+use Rattle.std.proofs.Common.{ℕ, Result, Ok, Err, IfOk, OnErr, OnOk, ◌≡◌, ◌≢◌, ◌<◌, ◌==◌, true, false, ◌⊎◌, inl, inr, List, length, refl, sym, ap, subst, ◌∙◌}
+use Rattle.std.proofs.lemmas.Bool.Decides.{eqb_tells}
+use Rattle.std.specs.Prelude.{All}
+use Rattle.group_types.specs.Dimensions.{Dimensions}
+use Rattle.group_types.specs.Lists.{at, put}
+use Rattle.group_types.proofs.Lists.{at-put, at-put-other}
+use Rattle.group_calls.specs.Turns.{CallName}
+use Rattle.group_calls.specs.declared.decision.Decision.{Decision}
+use Rattle.group_calls.specs.declared.decision.Decision.TheVariants as decides
+use Rattle.group_message.specs.declared.update.Update.{Update}
+use Rattle.group_run.specs.Applying.{bytes_after}
+use Rattle.group_run.specs.Process.{Head, Held, Process}
+use Rattle.group_run.specs.Replica.{Replica, empty_replica, up_to, with_update}
+use Rattle.memc_table.specs.Asked.{Asked}
+use Rattle.head_service.specs.Acting.{IsMade, acts, next_update}
+use Rattle.head_service.specs.Peers.{settles}
+use Rattle.head_service.specs.Serving.{Serving}
+use Rattle.head_service.specs.declared.ask.Asked as code
+use Rattle.head_service.specs.declared.ask.Asked.TheVariants.{Done, Need}
+use Rattle.head_service.specs.declared.peers.Peers.{Peers}
+use Rattle.head_service.proofs.Settling.{blocks-kept}
+use Rattle.process_service.specs.Standing.{IsBeneath}
+
+-- bytes of the same process, with rebuilt blocks of as many partitions
+pub record AreKept (b b2 : Process) : Type 0 where
+  pub name : b2.name ≡ b.name
+  pub blocks : length b2.as_leader.rebuilt ≡ length b.as_leader.rebuilt
+
+pub after-kept : (s : Dimensions) (d : ℕ) (us : List Update) (b : Process) → d < length b.as_leader.rebuilt → AreKept b (bytes_after s d us b)
+after-kept s d us b within = record { name = refl; blocks = blocks-kept s d us b within }
+
+pub acts-kept : (s : Dimensions) (d : ℕ) (peers : Peers) (h : Head) (name : CallName) (op : Asked) (r : Replica) (held : List Held) (b : Process) (decision : Decision)
+    → d < length b.as_leader.rebuilt → AreKept b (acts s d peers h name op r held b decision).bytes
+acts-kept s d peers h name op r held b (decides.Answer reply) within = record { name = refl; blocks = refl }
+acts-kept s d peers h name op r held b (decides.Retry n) within = record { name = refl; blocks = refl }
+acts-kept s d peers h name op r held b decides.NoSpace within = record { name = refl; blocks = refl }
+acts-kept s d peers h name op r held b (decides.NeedBlock block) within = record { name = refl; blocks = refl }
+acts-kept s d peers h name op r held b (decides.Issue body outcome) within =
+    after-kept s d (up_to (settles peers h (next_update name op body outcome r).number) (with_update (next_update name op body outcome r) r)) b within
+
+module _ (v : Serving) (s : Dimensions) (b : Process) (ready : ℕ → Update → Type 0) (is : IsBeneath v s b ready) where
+  pub standing-next : (w : Serving) (s2 : Dimensions) (b2 : Process) (ready2 : ℕ → Update → Type 0) (d : ℕ) (r : Replica)
+      → w.shape ≡ v.shape → w.name ≡ v.name → w.replicas ≡ put empty_replica v.replicas d r → s2 ≡ s → AreKept b b2
+      → All (ready2 d) r.log → ((e : ℕ) (u : Update) → ready e u → ready2 e u) → IsBeneath w s2 b2 ready2
+  standing-next w s2 b2 ready2 d r shape name replicas same kept here others = record {
+    shape = same ∙ is.shape ∙ sym shape;
+    name = kept.name ∙ is.name ∙ sym name;
+    blocks = kept.blocks ∙ is.blocks ∙ ap (λ (x : Dimensions). x.k) (sym shape);
+    ready = λ e below. subst (λ (rs : List Replica). All (ready2 e) (at empty_replica rs e).log) (sym replicas) (by e (subst (λ (x : Dimensions). e < x.k) shape below) (eqb_tells e d));
+  } where
+    by : (e : ℕ) → e < v.shape.k → (((e == d) ≡ true) × (e ≡ d)) ⊎ (((e == d) ≡ false) × (e ≢ d)) → All (ready2 e) (at empty_replica (put empty_replica v.replicas d r) e).log
+    by e below (inl same) = subst (λ (x : Replica). All (ready2 e) x.log) (sym (ap (at empty_replica (put empty_replica v.replicas d r)) same.1 ∙ at-put empty_replica empty_replica v.replicas d r))
+        (subst (λ (x : ℕ). All (ready2 x) r.log) (sym same.1) here)
+    by e below (inr other) = subst (λ (x : Replica). All (ready2 e) x.log) (sym (at-put-other empty_replica v.replicas d e r other.1)) (λ k u lt. others e _ (is.ready e below k u lt))
+
+-- the bytes of a head's step
+pub made-kept : {E : Type 0} (s : Dimensions) (d : ℕ) (peers : Peers) (h : Head) (name : CallName) (op : Asked) (r : Replica) (held : List Held) (b : Process) (decision : Decision)
+    → d < length b.as_leader.rebuilt → (result : Result code.Asked E) (r2 : Replica) (held2 : List Held) (b2 : Process)
+    → IfOk result (λ asked. IsMade decision (acts s d peers h name op r held b decision) asked r2 held2 b2) → OnErr result (b2 ≡ b) → AreKept b b2
+made-kept s d peers h name op r held b decision within (Ok (Done step)) r2 held2 b2 made err =
+    subst (AreKept b) (sym made.0.bytes) (acts-kept s d peers h name op r held b decision within)
+made-kept s d peers h name op r held b decision within (Ok (Need block)) r2 held2 b2 made err =
+    subst (AreKept b) (sym made.3) (acts-kept s d peers h name op r held b decision within)
+made-kept s d peers h name op r held b decision within (Err e) r2 held2 b2 made err = subst (AreKept b) (sym err) (record { name = refl; blocks = refl })
+
+-- the bytes of a step that may want memory
+pub or-same : {T E : Type 0} {b b2 b3 : Process} (result : Result T E) → AreKept b b3 → OnOk result (b2 ≡ b3) → OnErr result (b2 ≡ b) → AreKept b b2
+or-same {b = b} (Ok x) kept ok err = subst (AreKept b) (sym ok) kept
+or-same {b = b} (Err e) kept ok err = subst (AreKept b) (sym err) (record { name = refl; blocks = refl })

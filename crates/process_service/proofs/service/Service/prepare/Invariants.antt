@@ -1,0 +1,17 @@
+use Rattle.std.proofs.Common.{◌≡◌, ◌≤◌, ◌-◌, ◌++◌, [], vec_capacity}
+use Rattle.std.specs.List.{range_with_len}
+use Rattle.membership.specs.Members.{with_dead}
+use Rattle.process_service.specs.Noticing.{adoptions, bereaved, heirs, waiting}
+use Rattle.process_service.proofs.service.Service.prepare.Given as goal
+
+abbrev pub invariant-partitions : goal.invariant-partitions
+invariant-partitions l = record {
+  known : l.known ≡ with_dead l.fn.self.known l.fn.dead;
+  kept : l.notice.known ≡ l.known;
+  heads : l.notice.heads.items ++ heirs (bereaved l.fn.dead l.fn.self) (range_with_len l.d (l.fn.self.shape.k - l.d))
+      ≡ heirs (bereaved l.fn.dead l.fn.self) (range_with_len 0 l.fn.self.shape.k);
+  sent : l.notice.sent.items ++ adoptions (bereaved l.fn.dead l.fn.self) (range_with_len l.d (l.fn.self.shape.k - l.d))
+      ≡ adoptions (bereaved l.fn.dead l.fn.self) (range_with_len 0 l.fn.self.shape.k);
+  settled : l.notice.settled.items ≡ [];
+  room : waiting l.fn.self.replicas ≤ vec_capacity l.notice.settled;
+}

@@ -1,0 +1,3 @@
+pub mod Noticing
+pub mod Standing
+pub mod Steps

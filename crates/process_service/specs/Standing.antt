@@ -1,0 +1,49 @@
+-- What a process's partitions stand on.
+use Rattle.std.specs.Prelude.{◌≡◌, ◌<◌, ℕ, ◌==◌, Bool, false, List, [], Option, None, Some, length, replicate, All, IfSome}
+use Rattle.group_types.specs.Dimensions.{Dimensions}
+use Rattle.group_types.specs.Lists.{at}
+use Rattle.group_types.specs.Names.{IsProcess}
+use Rattle.group_types.specs.declared.process.ProcessId.{ProcessId}
+use Rattle.membership.specs.Members.{Membership, all_living}
+use Rattle.group_message.specs.declared.update.Update.{Update}
+use Rattle.group_run.specs.Process.{Head, Process, heads_at_start}
+use Rattle.group_run.specs.Replica.{empty_replica}
+use Rattle.partition_replica.specs.State.{IsTidyBut, State}
+use Rattle.head_service.specs.Serving.{Serving}
+
+-- these bytes are beneath the process's partitions: those of the same process, with rebuilt blocks of each
+-- partition, and all is ready that adding a logged update needs
+pub record IsBeneath (v : Serving) (s : Dimensions) (b : Process) (IsReady : ℕ → Update → Type 0) : Type 0 where
+  pub shape : s ≡ v.shape
+  pub name : b.name ≡ v.name
+  pub blocks : length b.as_leader.rebuilt ≡ v.shape.k
+  pub ready : (d : ℕ) → d < v.shape.k → All (IsReady d) (at empty_replica v.replicas d).log
+
+-- what a process keeps at the start
+abbrev pub at_start : Dimensions → ProcessId → Serving
+at_start s name = record {
+  shape = s;
+  name = name;
+  known = all_living s;
+  replicas = replicate s.k empty_replica;
+  ranks = replicate s.k 0;
+  heads = heads_at_start s name;
+  held = replicate s.k [];
+}
+
+-- what it keeps is of each of the k partitions and of this shape; a head counts m acknowledgements, and no key is ready without need
+pub record IsKept (s : Dimensions) (name : ProcessId) (known : Membership) (replicas : List State) (ranks : ℕ) (heads : List (Option Head)) (held : ℕ) : Type 0 where
+  pub process : IsProcess s name
+  pub members : known.shape ≡ s
+  pub replicas_long : length replicas ≡ s.k
+  pub ranks_long : ranks ≡ s.k
+  pub heads_long : length heads ≡ s.k
+  pub held_long : held ≡ s.k
+  pub shapes : All (λ r. r.shape ≡ s) replicas
+  pub tidy : All (λ r. IsTidyBut r (λ _. false)) replicas
+  pub acks : All (λ head. IfSome head (λ h. length h.acks ≡ s.m)) heads
+
+-- the head, if it is one, is of this rank
+abbrev pub is_under : ℕ → Option Head → Bool
+is_under rank None = false
+is_under rank (Some h) = rank == h.rank

@@ -1,0 +1,30 @@
+-- What the calls of a process make, in the machine's words.
+use Rattle.std.specs.Prelude.{◌≡◌, ℕ, List, ◌++◌}
+use Rattle.std.specs.List.{range_with_len}
+use Rattle.group_types.specs.Dimensions.{Dimensions}
+use Rattle.group_types.specs.declared.process.ProcessId.TheVariants.{ParityNode}
+use Rattle.group_calls.specs.Turns.{CallName}
+use Rattle.group_run.specs.Applying.{ProcessStep, Settlement, and_then, for_each}
+use Rattle.group_run.specs.Asking.{ask_process, oldest_inherited, retry_block}
+use Rattle.group_run.specs.Heading.{judge}
+use Rattle.group_run.specs.Process.{Process}
+use Rattle.group_run.specs.Receiving.{take_over_if}
+use Rattle.memc_table.specs.Asked.{Asked}
+use Rattle.head_service.specs.declared.ask.Asked as code
+use Rattle.head_service.specs.declared.ask.Asked.TheVariants.{Done, Need}
+
+-- a call was asked: the machine's step was made; or a parity process needs this block, for which nothing was done yet
+abbrev pub IsAsked : Dimensions → CallName → Asked → Process → code.Asked → Process → Type 0
+IsAsked s name op p (Done step) q =
+    ask_process s name op p ≡ record { step = record { process = q; sent = step.sent.items; settled = step.settled.items }; answer = step.answer }
+IsAsked s name op p (Need block) q =
+    (ask_process s name op p ≡ retry_block s block (oldest_inherited p (range_with_len 0 s.k)) p) × (q ≡ p) × ((i : ℕ) × (p.name ≡ ParityNode i))
+
+-- what a notice makes once the death is known: acknowledgements are judged anew, and partitions taken over, in order
+abbrev pub mourned : Dimensions → Process → ProcessStep
+mourned s p = and_then (for_each (range_with_len 0 s.k) (judge s) p) (for_each (range_with_len 0 s.k) (take_over_if s))
+
+-- the process after a step, and what was settled before with what the step settled behind
+pub record HasMade (step : ProcessStep) (before : List Settlement) (q : Process) (after : List Settlement) : Type 0 where
+  pub process : q ≡ step.process
+  pub settled : after ≡ before ++ step.settled

@@ -1,0 +1,68 @@
+ghost use Rattle.std.specs.Prelude.{◌≡◌, ◌<◌, [], None, IfOk, OnErr};
+ghost use Rattle.group_run.specs.Applying.{head_at};
+ghost use Rattle.group_run.specs.Heading.{acknowledge};
+ghost use Rattle.head_service.specs.Serving.{serving};
+ghost use Rattle.group_types.specs.Lists.{at};
+ghost use Rattle.process_service.specs.Standing.{IsBeneath, is_under};
+
+use crate::service::Service;
+use group_types::{Partition, Rank};
+use head_service::judge::acknowledge;
+use head_service::{Beneath, Settlement};
+use std::alloc::AllocError;
+
+impl Service {
+    /// A parity process acknowledges a number under a rank, which counts for nothing where the process doesn't head the
+    /// partition under that rank. After want of memory nothing but room has changed.
+    pub fn acknowledge<B: Beneath>(
+        &mut self,
+        parity: u32,
+        rank: Rank,
+        partition: Partition,
+        number: u64,
+        below: &mut B,
+    ) -> Result<Vec<Settlement>, AllocError>
+        requires parity { parity < self.old.shape.m }
+        requires partition { partition.0 < self.old.shape.k }
+        requires beneath { IsBeneath self.old (B.shape below.old) (B.process below.old) (B.is_ready below.old) }
+        ensures shape { self.new.shape ≡ self.old.shape }
+        ensures name { self.new.name ≡ self.old.name }
+        ensures beneath { IsBeneath self.new (B.shape below.new) (B.process below.new) (B.is_ready below.new) }
+        ensures settled { IfOk result (λ settled.
+            acknowledge self.old.shape parity rank.0 partition.0 number (head_at (serving self.old (B.process below.old)) partition.0)
+            (serving self.old (B.process below.old))
+            ≡ record { process = serving self.new (B.process below.new); sent = []; settled = settled.items }) }
+        ensures self_err { OnErr result (self.new ≡ self.old) }
+        ensures bytes_err { OnErr result (B.process below.new ≡ B.process below.old) }
+    {
+        if !self.heads_under(partition, rank) {
+            return Ok(Vec::new(self.alloc));
+        }
+        let peers = self.peers();
+        let d = partition.0 as usize;
+        match &mut self.heads[d] {
+            None => Ok(Vec::new(self.alloc)),
+            Some(head) => acknowledge(
+                self.alloc,
+                partition,
+                parity,
+                number,
+                head,
+                &peers,
+                &mut self.replicas[d],
+                below,
+            ),
+        }
+    }
+
+    // Whether the process heads the partition under this rank.
+    fn heads_under(&self, partition: Partition, rank: Rank) -> bool
+        requires { partition.0 < self.now.shape.k }
+        ensures { result ≡ is_under rank.0 (at None self.now.heads partition.0) }
+    {
+        match &self.heads[partition.0 as usize] {
+            None => false,
+            Some(head) => head.rank() == rank,
+        }
+    }
+}

@@ -1,0 +1,59 @@
+ghost use Rattle.std.specs.Prelude.{◌≡◌, ◌<◌, ◌^◌, ℕ, false, List, Option, length, map, All, IfOk, IfSome, OnErr};
+ghost use Rattle.group_types.specs.Dimensions.{Dimensions};
+ghost use Rattle.group_types.specs.Hash.{home_of};
+ghost use Rattle.group_types.specs.Lists.{at};
+ghost use Rattle.memc_table.specs.Act.{key_of};
+ghost use Rattle.group_run.specs.Process.{Process};
+ghost use Rattle.group_run.specs.Replica.{callers, last_of};
+ghost use Rattle.partition_replica.specs.State.{IsTidyBut};
+ghost use Rattle.head_service.specs.Acting.{name_of};
+ghost use Rattle.head_service.specs.Laws.{ArePeers};
+ghost use Rattle.head_service.specs.Serving.{Serving, serving};
+ghost use Rattle.process_service.specs.Standing.{IsBeneath};
+ghost use Rattle.process_service.specs.Steps.{IsAsked};
+
+use crate::service::Service;
+use group_calls::Answer;
+use group_types::home;
+use head_service::ask::ask;
+use head_service::{Asked, Beneath, Call, CallStep};
+use memc_table::Op;
+use std::alloc::AllocError;
+
+impl Service {
+    /// A call is asked. After want of memory nothing but room has changed.
+    pub fn ask<B: Beneath>(
+        &mut self,
+        call: Call,
+        op: &Op,
+        below: &mut B,
+    ) -> Result<Asked, AllocError>
+        requires caller { call.caller < callers }
+        requires numbers { All (λ r. last_of r < 2 ^ 62) self.old.replicas }
+        requires beneath { IsBeneath self.old (B.shape below.old) (B.process below.old) (B.is_ready below.old) }
+        ensures shape { self.new.shape ≡ self.old.shape }
+        ensures name { self.new.name ≡ self.old.name }
+        ensures beneath { IsBeneath self.new (B.shape below.new) (B.process below.new) (B.is_ready below.new) }
+        ensures asked { IfOk result (λ asked. IsAsked self.old.shape (name_of call) op.now (serving self.old (B.process below.old)) asked
+            (serving self.new (B.process below.new))) }
+        ensures self_err { OnErr result (self.new ≡ self.old) }
+        ensures bytes_err { OnErr result (B.process below.new ≡ B.process below.old) }
+    {
+        let partition = home(op.act().key(), self.shape.k());
+        let peers = self.peers();
+        let d = partition.0 as usize;
+        match &self.heads[d] {
+            None => Ok(Asked::Done(CallStep::only(self.alloc, Answer::Moved))),
+            Some(head) => ask(
+                partition,
+                call,
+                op,
+                head,
+                &peers,
+                &mut self.replicas[d],
+                &mut self.held[d],
+                below,
+            ),
+        }
+    }
+}

@@ -1,0 +1,94 @@
+ghost use Rattle.std.specs.Prelude.{◌≡◌, ◌<◌, ◌≤◌, ◌+◌, Some, vec_len, vec_capacity};
+ghost use Rattle.std.specs.List.{range_with_len};
+ghost use Rattle.group_run.specs.Applying.{for_each};
+ghost use Rattle.group_run.specs.Receiving as machine;
+ghost use Rattle.head_service.specs.Serving.{serving};
+ghost use Rattle.process_service.specs.Noticing.{heir_at, heirs, waiting};
+ghost use Rattle.process_service.specs.Standing.{IsBeneath};
+ghost use Rattle.process_service.specs.Steps.{HasMade};
+
+use crate::service::Service;
+use group_types::Partition;
+use head_service::judge::judge;
+use head_service::{Beneath, Head, Settlement};
+
+// Partitions are taken over, one by one, with heads that were made before.
+impl Service {
+    pub(crate) fn take_over_all<B: Beneath>(
+        &mut self,
+        heads: &mut Vec<Option<Head>>,
+        below: &mut B,
+        settled: &mut Vec<Settlement>,
+    )
+        requires heads { heads.old.items ≡ heirs self.old (range_with_len 0 self.old.shape.k) }
+        requires beneath { IsBeneath self.old (B.shape below.old) (B.process below.old) (B.is_ready below.old) }
+        requires room { vec_len settled.old + waiting self.old.replicas ≤ vec_capacity settled.old }
+        ensures beneath { IsBeneath self.new (B.shape below.new) (B.process below.new) (B.is_ready below.new) }
+        ensures shape { self.new.shape ≡ self.old.shape }
+        ensures name { self.new.name ≡ self.old.name }
+        ensures made { HasMade (for_each (range_with_len 0 self.old.shape.k) (machine.take_over_if self.old.shape) (serving self.old (B.process below.old)))
+            settled.old.items (serving self.new (B.process below.new)) settled.new.items }
+    {
+        'partitions: for d in 0..self.shape.k() {
+            let head = heads[d as usize].take();
+            self.take_over_if(Partition(d), head, below, settled);
+        }
+    }
+
+    // It is taken over where there is a head for it.
+    fn take_over_if<B: Beneath>(
+        &mut self,
+        partition: Partition,
+        head: Option<Head>,
+        below: &mut B,
+        settled: &mut Vec<Settlement>,
+    )
+        requires partition { partition.0 < self.old.shape.k }
+        requires head { head ≡ heir_at self.old partition.0 }
+        requires beneath { IsBeneath self.old (B.shape below.old) (B.process below.old) (B.is_ready below.old) }
+        requires room { vec_len settled.old + waiting self.old.replicas ≤ vec_capacity settled.old }
+        ensures beneath { IsBeneath self.new (B.shape below.new) (B.process below.new) (B.is_ready below.new) }
+        ensures shape { self.new.shape ≡ self.old.shape }
+        ensures name { self.new.name ≡ self.old.name }
+        ensures room { vec_len settled.new + waiting self.new.replicas ≤ vec_capacity settled.new }
+        ensures made { HasMade (machine.take_over_if self.old.shape partition.0 (serving self.old (B.process below.old))) settled.old.items
+            (serving self.new (B.process below.new)) settled.new.items }
+    {
+        match head {
+            None => {}
+            Some(head) => self.take_over_at(partition, head, below, settled),
+        }
+    }
+
+    fn take_over_at<B: Beneath>(
+        &mut self,
+        partition: Partition,
+        head: Head,
+        below: &mut B,
+        settled: &mut Vec<Settlement>,
+    )
+        requires partition { partition.0 < self.old.shape.k }
+        requires head { Some head ≡ heir_at self.old partition.0 }
+        requires beneath { IsBeneath self.old (B.shape below.old) (B.process below.old) (B.is_ready below.old) }
+        requires room { vec_len settled.old + waiting self.old.replicas ≤ vec_capacity settled.old }
+        ensures beneath { IsBeneath self.new (B.shape below.new) (B.process below.new) (B.is_ready below.new) }
+        ensures shape { self.new.shape ≡ self.old.shape }
+        ensures name { self.new.name ≡ self.old.name }
+        ensures room { vec_len settled.new + waiting self.new.replicas ≤ vec_capacity settled.new }
+        ensures made { HasMade (machine.take_over_if self.old.shape partition.0 (serving self.old (B.process below.old))) settled.old.items
+            (serving self.new (B.process below.new)) settled.new.items }
+    {
+        let peers = self.peers();
+        let d = partition.0 as usize;
+        judge(
+            partition,
+            &head,
+            &peers,
+            &mut self.replicas[d],
+            below,
+            settled,
+        );
+        self.ranks[d] = head.rank();
+        self.heads[d] = Some(head);
+    }
+}

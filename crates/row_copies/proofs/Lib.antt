@@ -1,0 +1,6 @@
+pub mod Areas
+pub mod Each
+pub mod Marked
+pub mod Added
+pub mod Ceased
+pub mod Machine
