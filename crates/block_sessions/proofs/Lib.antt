@@ -1,0 +1,12 @@
+pub mod Areas
+pub mod Blocks
+pub mod Arrived
+pub mod Places
+pub mod Walks
+pub mod Lost
+pub mod Rooms
+pub mod Keeping
+pub mod Closing
+pub mod Opening
+pub mod Coming
+pub mod Waiting

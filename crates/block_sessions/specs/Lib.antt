@@ -1,0 +1,4 @@
+pub mod Awaited
+pub mod Rebuilt
+pub mod Opened
+pub mod Leading

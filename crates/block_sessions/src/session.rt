@@ -1,0 +1,78 @@
+ghost use Rattle.std.specs.Prelude.{◌≡◌, ◌<◌, true, IfOk};
+ghost use Rattle.group_run.specs.Leaders.{is_complete};
+ghost use Rattle.block_sessions.specs.Opened.{AreLost, IsDecoded, IsOpen, gathering_of, known_of, new_session};
+
+use crate::arrivals::Arrivals;
+use cauchy_code::decode;
+use group_types::{PieceList, Shape};
+use std::alloc::{AllocError, Global};
+
+/// An open session: what came in of the known partitions' blocks and of the rows, and where the
+/// blocks of the lost partitions are decoded.
+#[derive(Debug, Drop)]
+pub(crate) struct OpenSession {
+    pub(crate) number: u64,
+    pub(crate) block: u32,
+    pub(crate) lost: Vec<u32>,
+    pub(crate) known: Arrivals,
+    pub(crate) coded: Arrivals,
+    pub(crate) out: PieceList,
+}
+
+impl OpenSession {
+    /// A session with nothing in. It takes the memory of all that will come in.
+    pub(crate) fn new(
+        alloc: Global,
+        shape: Shape,
+        number: u64,
+        block: u32,
+        lost: Vec<u32>,
+        rows: &[u32],
+    ) -> Result<OpenSession, AllocError>
+        requires block { block < shape.blocks }
+        requires lost { AreLost shape lost.items rows.now }
+        ensures gathering { IfOk result (λ g. gathering_of g ≡ new_session shape number block lost.items rows.now) }
+        ensures sound { IfOk result (IsOpen shape) }
+    {
+        let known = known_of(alloc, shape, &lost)?;
+        Ok(OpenSession {
+            number,
+            block,
+            known: Arrivals::new(alloc, shape.k(), &known, shape.block())?,
+            coded: Arrivals::new(alloc, shape.m(), rows, shape.block())?,
+            out: PieceList::new(alloc, &lost, shape.block())?,
+            lost,
+        })
+    }
+
+    /// Whether all is in.
+    pub(crate) fn is_complete(&self, shape: Shape) -> bool
+        requires { IsOpen shape self.now }
+        ensures { result ≡ is_complete shape (gathering_of self.now) }
+    {
+        self.known.is_complete() && self.coded.is_complete()
+    }
+
+    /// Decodes the blocks of the lost partitions. It takes no memory.
+    pub(crate) fn decode(&mut self, shape: Shape)
+        requires sound { IsOpen shape self.old }
+        requires complete { is_complete shape (gathering_of self.old) ≡ true }
+        ensures same { self.new ≡ record self.old { out = self.new.out } }
+        ensures decoded { IsDecoded shape (gathering_of self.old) self.new.out }
+    {
+        decode(
+            shape,
+            &self.lost,
+            self.coded.pieces(),
+            self.known.pieces(),
+            &mut self.out,
+        );
+    }
+}
+
+// The partitions that aren't lost.
+fn known_of(alloc: Global, shape: Shape, lost: &[u32]) -> Result<Vec<u32>, AllocError>
+    ensures { IfOk result (λ known. known.items ≡ known_of shape.k lost.now) }
+{
+    (0..shape.k()).filter(|d| !lost.contains(d)).collect(alloc)
+}
