@@ -1,0 +1,5 @@
+use Rattle.data_process.specs.Values.{process_of}
+use Rattle.data_process.proofs.process.DataProcess.flush.Goals as goal
+
+pub returns : goal.returns
+returns c = rw (← c.self.view_is) (c.flush.ensures (process_of c.self.inside.values) c.self.invariant.beneath.name)

@@ -1,0 +1,21 @@
+-- What a data process has beneath its partition.
+use Rattle.std.specs.Prelude.{ℕ, ◌<◌, IfSome}
+use Rattle.group_types.specs.declared.process.ProcessId.TheVariants.{DataNode}
+use Rattle.group_message.specs.declared.update.Update.{Update}
+use Rattle.page_map.specs.Spaces.{AllMade}
+use Rattle.value_space.specs.Space.{Space}
+use Rattle.group_run.specs.Process.{Process, opening_process}
+use Rattle.group_run.specs.Replica.{run_of}
+
+-- the number of a data process, and its space
+pub record Holding : Type 0 where
+  pub number : ℕ
+  pub space : Space
+
+-- the process of these values, where all else is as at the start
+abbrev pub process_of : Holding → Process
+process_of v = record (opening_process v.space.shape (DataNode v.number)) { space = v.space.bytes }
+
+-- an update of partition d can be added: d is one of the group, and the pages of what it writes are made
+abbrev pub IsReady : Holding → ℕ → Update → Type 0
+IsReady v d u = (d < v.space.shape.k) × IfSome (run_of u.body) (λ run. AllMade v.space.shape.block run v.space.made)
