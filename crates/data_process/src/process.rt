@@ -72,6 +72,14 @@ impl DataProcess {
         }
     }
 
+    /// A held call is answered once its update is settled, and forgotten then. It takes no memory.
+    pub fn collect(&mut self, caller: u32, call: u64) -> Answer
+        ensures shape { self.new.shape ≡ self.old.shape }
+        ensures answer { collect_from caller call self.old.process (range_with_len 0 self.old.shape.k) ≡ only result self.new.process }
+    {
+        self.service.collect(caller, call)
+    }
+
     /// What became of a call in a partition. It takes no memory.
     pub fn fate(&self, caller: u32, call: u64, partition: Partition) -> Answer
         requires caller { caller < callers }
@@ -123,6 +131,13 @@ impl DataProcess {
         ensures { result ≡ self.now.process.known }
     {
         self.service.known()
+    }
+
+    /// Whether no partition has nearly used up its numbers, which is a condition of `ask`.
+    pub fn has_numbers(&self) -> bool
+        ensures { IsTrue result ↔ All (λ r. last_of r < 2 ^ 62) self.now.process.replicas }
+    {
+        self.service.has_numbers()
     }
 
     /// The number up to which its partition is settled.

@@ -12,7 +12,10 @@ impl Service {
     /// A held call is answered once its update is settled, and forgotten then. It takes no memory.
     pub fn collect(&mut self, caller: u32, call: u64) -> Answer
         ensures shape { self.new.shape ≡ self.old.shape }
-        ensures answer { (b : Process) → collect_from caller call (serving self.old b) (range_with_len 0 self.old.shape.k) ≡ only result (serving self.new b) }
+        ensures name { self.new.name ≡ self.old.name }
+        ensures replicas { self.new.replicas ≡ self.old.replicas }
+        ensures answer { (b : Process) → collect_from caller call (serving self.old b) (range_with_len 0 self.old.shape.k)
+            ≡ only result (serving self.new b) }
     {
         'partitions: for d in 0..self.shape.k() as usize {
             if look_up(&self.held[d], caller, call).is_none() {

@@ -29,7 +29,8 @@ impl Service {
     pub fn prepare(&self, dead: ProcessId) -> Result<Notice, AllocError>
         requires process { IsProcess self.now.shape dead }
         requires news { knows_dead self.now.known dead ≡ false }
-        ensures prepared { IfOk result (λ notice. IsPrepared (bereaved dead self.now) notice.known notice.heads.items notice.sent.items (vec_capacity notice.settled)) }
+        ensures prepared { IfOk result (λ notice. IsPrepared (bereaved dead self.now) notice.known notice.heads.items notice.sent.items
+            (vec_capacity notice.settled)) }
         ensures settled { IfOk result (λ notice. notice.settled.items ≡ []) }
     {
         let mut known = self.known;
@@ -38,7 +39,7 @@ impl Service {
             known,
             heads: Vec::with_capacity(self.alloc, self.shape.k() as usize)?,
             sent: Vec::new(self.alloc),
-            settled: Vec::with_capacity(self.alloc, self.waiting()? as usize)?,
+            settled: Vec::with_capacity(self.alloc, self.waiting()?)?,
         };
         'partitions: for d in 0..self.shape.k() {
             let due = self.is_due(known, Partition(d));

@@ -1,9 +1,9 @@
-ghost use Rattle.std.specs.Prelude.{◌≡◌, ◌<◌, false, [], None, All, IfOk, map, replicate};
+ghost use Rattle.std.specs.Prelude.{◌≡◌, ◌↔◌, ◌<◌, ◌^◌, false, [], None, All, IsTrue, IfOk, map, replicate};
 ghost use Rattle.group_types.specs.Lists.{at};
 ghost use Rattle.group_types.specs.Names.{IsProcess};
 ghost use Rattle.group_run.specs.Process.{heads_at_start};
 ghost use Rattle.partition_replica.specs.State.{IsTidyBut};
-ghost use Rattle.group_run.specs.Replica.{empty_replica};
+ghost use Rattle.group_run.specs.Replica.{empty_replica, last_of};
 ghost use Rattle.process_service.specs.Standing.{at_start};
 
 use group_types::{Partition, ProcessId, Rank, Shape};
@@ -93,6 +93,18 @@ impl Service {
         ensures { result ≡ (at empty_replica self.now.replicas partition.0).applied }
     {
         self.replicas[partition.0 as usize].applied()
+    }
+
+    /// Whether no partition has nearly used up its numbers, which is a condition of `ask`.
+    pub fn has_numbers(&self) -> bool
+        ensures { IsTrue result ↔ All (λ r. last_of r < 2 ^ 62) self.now.replicas }
+    {
+        'partitions: for d in 0..self.replicas.len() {
+            if 1 << 62 <= self.replicas[d].last() {
+                return false;
+            }
+        }
+        true
     }
 
     pub(crate) fn peers(&self) -> Peers
