@@ -50,7 +50,8 @@ fn a_set_settles_once_both_have_acknowledged_it(rt: HostRuntime) -> Result<(), F
         assert!(rt; desk.plays(row)?, "at row {at}");
     }
     assert!(rt; desk.has_settled());
-    assert!(rt; desk.holds(b"cart")?);
+    assert!(rt; desk.collects("stored") && desk.collects("other"));
+    assert!(rt; desk.holds(b"cart")? && desk.shows_cart()?);
     Ok(())
 }
 
@@ -192,6 +193,18 @@ impl Desk {
             && self.process.made() == 1
     }
 
+    fn collects(&mut self, answer: &str) -> bool {
+        word(&self.process.collect(CALL.caller, CALL.number)) == answer
+    }
+
+    fn shows_cart(&mut self) -> Result<bool, Fail> {
+        if !self.process.has_numbers() {
+            return Ok(false);
+        }
+        let op = get(self.alloc)?;
+        Ok(self.asks(&op, "cart", &[])?)
+    }
+
     // Whether these are the first four bytes of the space.
     fn holds(&self, bytes: &[u8]) -> Result<bool, AllocError> {
         let found = self.process.bytes(Run { at: 0, len: 4 })?;
@@ -219,6 +232,7 @@ fn word(answer: &Answer) -> &str {
         Answer::Ticket(1) => "ticket",
         Answer::Reply(Reply::Miss) => "miss",
         Answer::Reply(Reply::Stored) => "stored",
+        Answer::Reply(Reply::Value(item)) if item.value.bytes() == b"cart".as_slice() => "cart",
         _ => "other",
     }
 }

@@ -1,0 +1,18 @@
+use Rattle.std.proofs.Common.{arith, subst, sym, ◌∙◌}
+use Rattle.group_types.specs.Dimensions.{space_of}
+use Rattle.group_run.specs.Fitting.{Writes}
+use Rattle.parity_bytes.specs.Bytes.{Holding}
+use Rattle.parity_bytes.proofs.Ready.{put_ready, still_ready}
+use Rattle.parity_bytes.proofs.bytes.ParityBytesBeneath.reserve.Goals as goal
+
+pub returns-in_ok-reserve-clause-ready : goal.returns-in_ok-reserve-clause-ready
+returns-in_ok-reserve-clause-ready c =
+    let writes = subst (λ (b : Holding). Writes (space_of b.shape) c.args.update.now.body) (sym c.self.view_is) c.requires in (
+      omega (arith, c.if-k-partition.false, c.k.ensures.value),
+      put_ready c.self.inside.shape c.reserve.new.self c.args.update.now.body c.in-Put.flags c.in-Put.until c.in-Put.run' c.in-Put.delta c.in-Put.is
+          (c.reserve.ensures.shape ∙ c.self.invariant.space_shape) writes c.in_ok-reserve.ensures.ready,
+    )
+
+pub returns-in_ok-reserve-clause-kept : goal.returns-in_ok-reserve-clause-kept
+returns-in_ok-reserve-clause-kept c =
+    rw (← c.self.view_is) (still_ready c.self.inside.shape c.self.inside.space.made c.reserve.new.self.made c.in_ok-reserve.ensures.made.kept)

@@ -1,0 +1,104 @@
+ghost use Rattle.std.specs.Prelude.{◌≡◌, suc, ◌<◌, ◌^◌, ◌==◌, ◌↔◌, [], length, Contains, IfOk, IfSome, IsTrue, OnErr, OnOk};
+ghost use Rattle.std.specs.List.{list_any};
+ghost use Rattle.group_run.specs.Leaders.{block_comes, open_session, row_comes, with_leader};
+ghost use Rattle.block_sessions.specs.Leading.{started};
+ghost use Rattle.block_sessions.specs.Opened.{AreLost};
+
+use super::ParityBytes;
+use group_types::ByteList;
+use std::alloc::AllocError;
+
+impl ParityBytes {
+    /// Opens a session for a block of these lost partitions, with these rows, and hands out its number.
+    /// It takes the memory of all that will come in.
+    pub fn start(&mut self, block: u32, lost: Vec<u32>, rows: Vec<u32>) -> Result<u64, AllocError>
+        requires block { block < self.old.shape.blocks }
+        requires lost { AreLost self.old.shape lost.items rows.items }
+        requires numbers { self.old.process.as_leader.last_session < 2 ^ 62 }
+        ensures shape { self.new.shape ≡ self.old.shape }
+        ensures made { self.new.made ≡ self.old.made }
+        ensures number { IfOk result (λ n. n ≡ suc self.old.process.as_leader.last_session) }
+        ensures process { OnOk result (self.new.process
+            ≡ with_leader (started self.old.shape block lost.items rows.items self.old.process.as_leader) self.old.process) }
+        ensures err { OnErr result (self.new ≡ self.old) }
+    {
+        self.sessions.start(block, lost, rows)
+    }
+
+    /// A block of data process `d` comes in. It takes no memory.
+    pub fn block(&mut self, number: u64, d: u32, bytes: &ByteList)
+        requires partition { d < self.old.shape.k }
+        requires whole { length bytes.now ≡ self.old.shape.block }
+        requires known { IfSome (open_session self.old.process.as_leader number) (λ g. ¬ (Contains g.lost d)) }
+        ensures shape { self.new.shape ≡ self.old.shape }
+        ensures made { self.new.made ≡ self.old.made }
+        ensures process { self.new.process ≡ block_comes self.old.shape number d bytes.now self.old.process }
+    {
+        self.sessions.block(number, d, bytes);
+    }
+
+    /// A block of row `i`'s code comes in. It takes no memory.
+    pub fn row(&mut self, number: u64, i: u32, bytes: &[u8])
+        requires row { i < self.old.shape.m }
+        requires whole { length bytes.now ≡ self.old.shape.block }
+        requires awaited { IfSome (open_session self.old.process.as_leader number) (λ g. Contains g.rows i) }
+        ensures shape { self.new.shape ≡ self.old.shape }
+        ensures made { self.new.made ≡ self.old.made }
+        ensures process { self.new.process ≡ row_comes self.old.shape number i bytes.now self.old.process }
+    {
+        self.sessions.row(number, i, bytes);
+    }
+
+    /// Closes all sessions.
+    pub fn close_all(&mut self)
+        ensures shape { self.new.shape ≡ self.old.shape }
+        ensures made { self.new.made ≡ self.old.made }
+        ensures process { self.new.process ≡ with_leader (record self.old.process.as_leader { sessions = [] }) self.old.process }
+    {
+        self.sessions.close_all();
+    }
+
+    /// Whether no session is open.
+    pub fn is_idle(&self) -> bool
+        ensures { IsTrue result ↔ self.now.process.as_leader.sessions ≡ [] }
+    {
+        self.sessions.is_idle()
+    }
+
+    /// Whether a session for this block is open.
+    pub fn is_open_for(&self, block: u32) -> bool
+        ensures { result ≡ list_any (λ g. g.block == block) self.now.process.as_leader.sessions }
+    {
+        self.sessions.is_open_for(block)
+    }
+
+    /// The number of the last session.
+    pub fn last(&self) -> u64
+        ensures number { result ≡ self.now.process.as_leader.last_session }
+        ensures partitions { length self.now.process.as_leader.rebuilt ≡ self.now.shape.k }
+    {
+        self.sessions.last()
+    }
+}
+
+#[cfg(test)]
+mod tests {
+    use super::*;
+    use group_calls::Found;
+    use group_types::{Partition, Run, Shape};
+    use head_service::Beneath;
+    use std::test::Fail;
+
+    #[test]
+    fn a_session_waits_and_an_empty_run_needs_none(rt: HostRuntime) -> Result<(), Fail> {
+        let shape = Shape::new(2, 1, 2, 16)?;
+        let mut bytes = ParityBytes::new(rt.alloc(), shape, 0)?;
+        let lost = Vec::from_slice(rt.alloc(), &[1])?;
+        let rows = Vec::from_slice(rt.alloc(), &[0])?;
+        assert_eq!(rt; bytes.start(1, lost, rows)?, 1);
+        assert_eq!(rt; (bytes.is_open_for(0), bytes.is_open_for(1)), (false, true));
+        let found = bytes.find(Partition(1), Run { at: 9, len: 0 })?;
+        assert!(rt; matches!(found, Found::Bytes(_)));
+        Ok(())
+    }
+}
