@@ -16,7 +16,7 @@ use partition_replica::Replica;
 use std::alloc::{AllocError, Global};
 
 /// A new head's log comes: everything up to its base is applied, and the log is the head's. After want of
-/// memory all is as it was.
+/// memory nothing but room has changed.
 pub fn adopt<B: Beneath>(
     alloc: Global,
     partition: Partition,

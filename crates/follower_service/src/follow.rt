@@ -17,7 +17,7 @@ use std::alloc::{AllocError, Global};
 use std::slice;
 
 /// An update comes from the head: what is stable is applied, and the update stands in the log. After want of
-/// memory all is as it was.
+/// memory nothing but room has changed.
 pub fn follow<B: Beneath>(
     alloc: Global,
     partition: Partition,

@@ -9,7 +9,7 @@ ghost use Rattle.partition_replica.specs.State.{HasRoom, IsTidyBut, is_touched};
 use crate::apply::room;
 use group_message::{Update, UpdateList};
 use group_types::Partition;
-use head_service::news::copy_of;
+use head_service::news::{copy_all, copy_of};
 use head_service::{Beneath, Settlement};
 use partition_replica::Replica;
 use std::alloc::{AllocError, Global};
@@ -97,14 +97,4 @@ fn reserve_all<B: Beneath>(
         below.reserve(partition, update)?;
     }
     Ok(())
-}
-
-fn copy_all(alloc: Global, updates: &[Update]) -> Result<UpdateList, AllocError>
-    ensures { IfOk result (λ list. list ≡ updates.now) }
-{
-    let mut list = Vec::new(alloc);
-    'updates: for update in updates {
-        list.push(copy_of(update)?)?;
-    }
-    Ok(UpdateList::from(list))
 }

@@ -42,7 +42,7 @@ pub enum Asked {
     Need(u32),
 }
 
-/// The head of a partition is asked a call. After want of memory all is as it was.
+/// The head of a partition is asked a call. After want of memory nothing but room has changed.
 pub fn ask<B: Beneath>(
     partition: Partition,
     call: Call,

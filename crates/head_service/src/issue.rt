@@ -28,7 +28,7 @@ use partition_replica::Replica;
 use std::alloc::AllocError;
 
 /// The head of a partition issues an update: it tells the others, and settles what it may. After want of
-/// memory all is as it was.
+/// memory nothing but room has changed.
 pub fn issue<B: Beneath>(
     partition: Partition,
     head: &Head,

@@ -50,7 +50,7 @@ pub fn judge<B: Beneath>(
 }
 
 /// The head of a partition notes that a parity process acknowledged a number, and settles what it may. After
-/// want of memory all is as it was.
+/// want of memory nothing but room has changed.
 pub fn acknowledge<B: Beneath>(
     alloc: Global,
     partition: Partition,

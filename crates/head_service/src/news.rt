@@ -43,13 +43,14 @@ impl News {
                 rank,
                 partition,
                 base: *base,
-                list: copy(alloc, list.updates())?,
+                list: copy_all(alloc, list.updates())?,
             },
         })
     }
 }
 
-fn copy(alloc: Global, updates: &[Update]) -> Result<UpdateList, AllocError>
+/// A copy of these updates, which share their keys and differences.
+pub fn copy_all(alloc: Global, updates: &[Update]) -> Result<UpdateList, AllocError>
     ensures { IfOk result (λ list. list ≡ updates.now) }
 {
     let mut list = Vec::new(alloc);

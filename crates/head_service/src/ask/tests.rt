@@ -9,6 +9,7 @@ use crate::held::{Held, hand_out};
 use crate::judge::acknowledge;
 use crate::peers::Peers;
 use crate::plain::Plain;
+use crate::step::Sent;
 use crate::take_over::{adoption, heir};
 use group_calls::Answer;
 use group_types::{Key, Partition, Payload, ProcessId, Rank, Shape};
@@ -124,15 +125,18 @@ impl Desk {
     fn is_taken_over(&self) -> Result<bool, Fail> {
         let shape = Shape::new(1, 1, 1, 16)?;
         let head = heir(self.alloc, shape, Rank(1), &self.replica)?;
+        Ok(self.tells_of(&head)? == 1 && head.inherited() == 1)
+    }
+
+    // How many messages tell of a new head.
+    fn tells_of(&self, head: &Head) -> Result<usize, AllocError> {
         let mut sent = Vec::new(self.alloc);
-        adoption(
-            Partition(0),
-            head.rank(),
-            &self.peers,
-            &self.replica,
-            &mut sent,
-        )?;
-        Ok(sent.len() == 1 && head.inherited() == 1)
+        self.adds(head.rank(), &mut sent)?;
+        Ok(sent.len())
+    }
+
+    fn adds(&self, rank: Rank, sent: &mut Vec<Sent>) -> Result<(), AllocError> {
+        adoption(Partition(0), rank, &self.peers, &self.replica, sent)
     }
 
     // How many messages tell how far it has settled.

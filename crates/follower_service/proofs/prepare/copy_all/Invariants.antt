@@ -1,5 +1,0 @@
-use Rattle.std.proofs.Common.{◌≡◌, ◌++◌, drop}
-use Rattle.follower_service.proofs.prepare.copy_all.Given as goal
-
-abbrev pub invariant-updates : goal.invariant-updates
-invariant-updates l = l.list.items ++ drop l.update-index l.updates ≡ l.updates
