@@ -1,4 +1,4 @@
-ghost use Rattle.std.specs.Prelude.{◌≡◌, ℕ, ◌+◌, ◌-◌, ◌*◌, ◌<◌, ◌≤◌, [], ◌∷◌, length, map, not, find, is_some, None, IfOk};
+ghost use Rattle.std.specs.Prelude.{◌≡◌, ℕ, ◌+◌, ◌-◌, ◌*◌, ◌<◌, ◌≤◌, [], ◌∷◌, length, map, not, find, is_some, None, IfOk, IfSome};
 ghost use Rattle.std.specs.List.{range_with_len};
 ghost use Rattle.std.specs.Option.{option_map};
 ghost use Rattle.group_types.specs.Dimensions.{space_of};
@@ -20,7 +20,8 @@ use std::alloc::AllocError;
 pub(crate) fn missing(shape: Shape, pages: &Pages, run: Run) -> Option<u32>
     requires holds { HoldsBlocks shape 0 pages.now }
     requires within { LiesIn run shape }
-    ensures { result ≡ find (λ b. not (is_some (at None (rebuilt_in pages.now) b))) (blocks_met shape run) }
+    ensures block { result ≡ find (λ b. not (is_some (at None (rebuilt_in pages.now) b))) (blocks_met shape run) }
+    ensures below { IfSome result (λ b. b < shape.blocks) }
 {
     if run.len == 0 {
         return None;

@@ -1,4 +1,4 @@
-ghost use Rattle.std.specs.Prelude.{◌≡◌, ◌<◌, ◌==◌, ◌↔◌, [], ◌∷◌, length, IsTrue, IfOk};
+ghost use Rattle.std.specs.Prelude.{◌≡◌, ◌<◌, ◌==◌, ◌↔◌, [], ◌∷◌, length, IsTrue, IfOk, IfSome};
 ghost use Rattle.std.specs.List.{list_any};
 ghost use Rattle.group_types.specs.Dimensions.{space_of};
 ghost use Rattle.group_types.specs.Lists.{at, put};
@@ -60,7 +60,8 @@ impl Sessions {
     pub fn missing(&self, d: Partition, run: Run) -> Option<u32>
         requires partition { d.0 < self.now.shape.k }
         requires within { LiesIn run self.now.shape }
-        ensures { result ≡ missing_block self.now.shape d.0 run self.now.state }
+        ensures block { result ≡ missing_block self.now.shape d.0 run self.now.state }
+        ensures below { IfSome result (λ b. b < self.now.shape.blocks) }
     {
         rebuilt::missing(self.shape, &self.rebuilt[d.0 as usize], run)
     }

@@ -13,7 +13,8 @@ ghost use Rattle.group_run.specs.Receiving.{notice_comes, read_comes, receive};
 ghost use Rattle.group_run.specs.Replica.{callers, last_of};
 ghost use Rattle.group_run.specs.World.{flush_process};
 ghost use Rattle.head_service.specs.Acting.{name_of};
-ghost use Rattle.data_process.specs.Steps.{ComesToData, called, stepped};
+ghost use Rattle.process_service.specs.Steps.{called, stepped};
+ghost use Rattle.data_process.specs.Steps.{ComesToData};
 
 use crate::reading::read_block;
 use crate::values::Values;
@@ -36,11 +37,13 @@ pub struct DataProcess {
 }
 
 impl Model for DataProcess {
-    ghost use Rattle.data_process.specs.Standing.{IsReadyFor, Standing, standing};
+    ghost use Rattle.data_process.specs.Standing.{IsReadyFor};
+    ghost use Rattle.data_process.specs.Values.{process_of};
+    ghost use Rattle.process_service.specs.Standing.{Standing, standing};
 
     ghost Value = { Standing };
 
-    ghost view = { λ p. standing p.service p.values };
+    ghost view = { λ p. standing p.service (process_of p.values) p.values.space.made };
 
     ghost invariant = { λ p. IsReadyFor p.service p.values };
 }
@@ -208,8 +211,10 @@ impl DataProcess {
         ensures step { IfOk result (λ step. notice_comes self.old.shape dead self.old.process ≡ stepped self.new.process step) }
         ensures err { OnErr result (self.new.process ≡ self.old.process) }
     {
-        let notice = self.service.prepare(dead)?;
-        Ok(self.service.notice(dead, notice, &mut self.values))
+        let mut sent = Vec::new(self.alloc);
+        let notice = self.service.prepare(dead, &mut sent)?;
+        let settled = self.service.notice(dead, notice, &mut self.values);
+        Ok(Step { sent, settled })
     }
 }
 

@@ -35,7 +35,7 @@ waits-none inherited act (Some n) other free =
 
 module _ (s : Dimensions) (r : Replica) (op : Asked) (read : Run → Found) where
   abbrev Follows : Decision → Type 0
-  Follows d = IsWhole d → CanFollow (space_of s) r (key_of op.act) d
+  Follows d = IsWhole s d → CanFollow s r (key_of op.act) d
 
   module _ (alone : number_on r.log (key_of op.act) ≡ None) (few : length r.log < window) where
     -- no update that waits changes what its key has
@@ -44,7 +44,7 @@ module _ (s : Dimensions) (r : Replica) (op : Asked) (read : Run → Found) wher
 
     follows-written : (outcome : Outcome) (h : Holding) (run : Run) → Place (space_of s) r (length h.item.value) run → (found : Found)
         → Follows (decide_written outcome h run found)
-    follows-written outcome h run place (Missing b) whole = tt
+    follows-written outcome h run place (Missing b) whole = whole
     follows-written outcome h run place (Bytes under) whole = record {
       writes = record { long = whole; inside = place.fits.inside };
       free = place.free;
@@ -76,7 +76,7 @@ module _ (s : Dimensions) (r : Replica) (op : Asked) (read : Run → Found) wher
     follows-ruled live (Accepted reply leaves) well = follows-accepted reply leaves well.2 (nat_le window (length r.log)) refl
 
     follows-found : (slot : Option Slot) (found : Found) → Follows (decide_found (space_of s) r op read slot found)
-    follows-found slot (Missing b) = λ whole. tt
+    follows-found slot (Missing b) = λ whole. whole
     follows-found None (Bytes bytes) = follows-ruled None _ (rules-well op.moment (suc (last_of r)) op.act None)
     follows-found (Some slot) (Bytes bytes) =
         let live : Option Holding = live_at op.moment (Some (held_as slot bytes)) in
@@ -93,7 +93,7 @@ module _ (s : Dimensions) (r : Replica) (op : Asked) (read : Run → Found) wher
   follows-waiting inherited slot None is = follows-blind inherited is slot (blind_reply (length_of slot) (ruling_with r op slot (unseen slot)))
 
   pub follows-once : (inherited : ℕ) (slot : Option Slot) → waits_for inherited op.act (number_on r.log (key_of op.act)) ≡ None
-      → {E : Type 0} (result : Result Decision E) → IfOk result (λ d. d ≡ decide_waiting (space_of s) r op read slot None) → IfOk result (λ d. IsWhole d)
-      → IfOk result (λ d. CanFollow (space_of s) r (key_of op.act) d)
+      → {E : Type 0} (result : Result Decision E) → IfOk result (λ d. d ≡ decide_waiting (space_of s) r op read slot None) → IfOk result (IsWhole s)
+      → IfOk result (λ d. CanFollow s r (key_of op.act) d)
   follows-once inherited slot waits (Ok d) same whole = subst Follows (sym same) (follows-waiting inherited slot None waits) whole
   follows-once inherited slot waits (Err e) same whole = tt

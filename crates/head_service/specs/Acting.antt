@@ -1,6 +1,6 @@
 -- What a head does of what it decided, part by part: its replica, the calls that it holds, and the bytes
 -- beneath, with what is handed out.
-use Rattle.std.specs.Prelude.{◌≡◌, ◌≢◌, ℕ, suc, nat_le, List, []}
+use Rattle.std.specs.Prelude.{◌≡◌, ◌≢◌, ◌<◌, ⊤, ℕ, suc, nat_le, List, []}
 use Rattle.group_types.specs.Dimensions.{Dimensions}
 use Rattle.group_message.specs.declared.message.Message.TheVariants as tells
 use Rattle.group_message.specs.declared.update.Body.{Body}
@@ -85,6 +85,11 @@ pub record IsStep (made : HeadStep) (step : code_step.CallStep) (r : Replica) (c
   pub sent : step.sent.items ≡ made.sent
   pub settled : step.settled.items ≡ made.settled
   pub answer : step.answer ≡ made.answer
+
+-- a block that is needed is one of the space
+abbrev pub NeedsOf : Dimensions → code.Asked → Type 0
+NeedsOf s (Done step) = ⊤
+NeedsOf s (Need block) = block < s.blocks
 
 -- the decision needs no block, and this was done of it; or it needs this block, and nothing was done
 abbrev pub IsMade : Decision → HeadStep → code.Asked → Replica → List Held → Process → Type 0

@@ -1,5 +1,5 @@
 -- What a head finds in the bytes beneath it.
-use Rattle.std.specs.Prelude.{ℕ, ◌≡◌, ⊤, length}
+use Rattle.std.specs.Prelude.{ℕ, ◌≡◌, ◌<◌, length}
 use Rattle.group_types.specs.Dimensions.{Dimensions}
 use Rattle.group_types.specs.declared.run.Run.{Run}
 use Rattle.group_calls.specs.declared.found.Found.{Found}
@@ -11,7 +11,7 @@ use Rattle.group_run.specs.Process.{Process}
 abbrev pub found_in : Dimensions → ℕ → Process → Run → Found
 found_in s d p = found_at s d p p.name
 
--- the bytes that were found are so many
-abbrev pub IsAsLong : ℕ → Found → Type 0
-IsAsLong len (Bytes bytes) = length bytes ≡ len
-IsAsLong len (Missing b) = ⊤
+-- the bytes that were found are so many, and a block that is missing is one of the space
+abbrev pub IsFound : Dimensions → ℕ → Found → Type 0
+IsFound s len (Bytes bytes) = length bytes ≡ len
+IsFound s len (Missing b) = b < s.blocks

@@ -1,5 +1,6 @@
 -- What holds of an update that a head decided on, before it is issued.
 use Rattle.std.specs.Prelude.{◌≡◌, ◌<◌, ⊤, ℕ, List, length, IfSome}
+use Rattle.group_types.specs.Dimensions.{Dimensions, space_of}
 use Rattle.group_message.specs.declared.update.Body.{Body}
 use Rattle.group_message.specs.declared.update.Body.TheVariants.{Put}
 use Rattle.group_calls.specs.declared.decision.Decision.{Decision}
@@ -19,14 +20,15 @@ pub record CanIssue (space : ℕ) (r : Replica) (key : List ℕ) (body : Body) :
   pub few : length r.log < window
 
 -- what a head decided can be done
-abbrev pub CanFollow : ℕ → Replica → List ℕ → Decision → Type 0
-CanFollow space r key (Issue body outcome) = CanIssue space r key body
-CanFollow space r key (Answer reply) = ⊤
-CanFollow space r key (Retry n) = ⊤
-CanFollow space r key NoSpace = ⊤
-CanFollow space r key (NeedBlock b) = ⊤
+abbrev pub CanFollow : Dimensions → Replica → List ℕ → Decision → Type 0
+CanFollow s r key (Issue body outcome) = CanIssue (space_of s) r key body
+CanFollow s r key (Answer reply) = ⊤
+CanFollow s r key (Retry n) = ⊤
+CanFollow s r key NoSpace = ⊤
+CanFollow s r key (NeedBlock b) = b < s.blocks
 
--- a value that is put has a run as long as its difference
-abbrev pub IsWhole : Decision → Type 0
-IsWhole (Issue (Put _ _ run delta) _) = run.len ≡ length delta
-IsWhole _ = ⊤
+-- a value that is put has a run as long as its difference, and a block that is needed is one of the space
+abbrev pub IsWhole : Dimensions → Decision → Type 0
+IsWhole s (Issue (Put _ _ run delta) _) = run.len ≡ length delta
+IsWhole s (NeedBlock b) = b < s.blocks
+IsWhole s _ = ⊤

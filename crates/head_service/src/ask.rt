@@ -7,7 +7,7 @@ ghost use Rattle.group_run.specs.Deciding.{decide};
 ghost use Rattle.group_run.specs.Replica.{callers, freed_by, last_of};
 ghost use Rattle.item_index.specs.declared.slot.Slot.{Slot};
 ghost use Rattle.partition_replica.specs.State.{IsTidyBut};
-ghost use Rattle.head_service.specs.Acting.{IsMade, acts, name_of, next_update};
+ghost use Rattle.head_service.specs.Acting.{IsMade, NeedsOf, acts, name_of, next_update};
 ghost use Rattle.head_service.specs.Issuing.{CanFollow};
 ghost use Rattle.head_service.specs.declared.ask.Asked.TheVariants.{Done};
 ghost use Rattle.head_service.specs.declared.step.CallStep.{CallStep};
@@ -71,6 +71,7 @@ pub fn ask<B: Beneath>(
         IsMade decision (acts (B.shape below.old) partition.0 peers.now head.now (name_of call) op.now replica.old.replica held.old.items
         (B.process below.old) decision)
         asked replica.new.replica held.new.items (B.process below.new)) }
+    ensures block { IfOk result (NeedsOf replica.old.shape) }
     ensures replica_err { OnErr result (replica.new.replica ≡ replica.old.replica) }
     ensures bytes_err { OnErr result (B.process below.new ≡ B.process below.old) }
     ensures held_err { OnErr result (held.new.items ≡ held.old.items) }
@@ -96,7 +97,7 @@ fn act<B: Beneath>(
     requires acks { length head.now.acks ≡ peers.now.m }
     requires caller { call.caller < callers }
     requires numbers { last_of replica.old.replica < 2 ^ 62 }
-    requires follows { CanFollow (space_of replica.old.shape) replica.old.replica (key_of op.now.act) decision }
+    requires follows { CanFollow replica.old.shape replica.old.replica (key_of op.now.act) decision }
     requires shape { B.shape below.old ≡ replica.old.shape }
     requires ready { All (λ u. B.is_ready below.old partition.0 u) replica.old.replica.log }
     requires blocks { partition.0 < length (B.process below.old).as_leader.rebuilt }
@@ -110,6 +111,7 @@ fn act<B: Beneath>(
         IsMade decision (acts (B.shape below.old) partition.0 peers.now head.now (name_of call) op.now replica.old.replica held.old.items
         (B.process below.old) decision)
         asked replica.new.replica held.new.items (B.process below.new)) }
+    ensures block { IfOk result (NeedsOf replica.old.shape) }
     ensures replica_err { OnErr result (replica.new.replica ≡ replica.old.replica) }
     ensures bytes_err { OnErr result (B.process below.new ≡ B.process below.old) }
     ensures held_err { OnErr result (held.new.items ≡ held.old.items) }

@@ -4,7 +4,7 @@ ghost use Rattle.group_message.specs.declared.update.Update.{Update};
 ghost use Rattle.group_run.specs.Applying.{bytes_after};
 ghost use Rattle.group_run.specs.Fitting.{Writes};
 ghost use Rattle.group_run.specs.Process.{Process};
-ghost use Rattle.head_service.specs.Beneath.{IsAsLong, found_in};
+ghost use Rattle.head_service.specs.Beneath.{IsFound, found_in};
 
 use group_calls::Found;
 use group_message::Update;
@@ -32,7 +32,7 @@ pub trait Beneath {
     fn find(&self, partition: Partition, run: Run) -> Result<Found, AllocError>
         requires { run.at + run.len ≤ space_of (shape self.now) }
         ensures found { IfOk result (λ found. found ≡ found_in (shape self.now) partition.0 (process self.now) run) }
-        ensures length { IfOk result (λ found. IsAsLong run.len found) };
+        ensures whole { IfOk result (IsFound (shape self.now) run.len) };
 
     /// Makes all that adding the update needs.
     fn reserve(&mut self, partition: Partition, update: &Update) -> Result<(), AllocError>

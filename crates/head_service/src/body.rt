@@ -28,7 +28,7 @@ pub fn decide_left<B: Beneath>(
     requires shape { B.shape below.now ≡ replica.now.shape }
     ensures decision { IfOk result (λ d. d ≡ decide_left (space_of replica.now.shape) replica.now.replica
         (found_in (B.shape below.now) partition.0 (B.process below.now)) outcome touch leaves) }
-    ensures whole { IfOk result (λ d. IsWhole d) }
+    ensures whole { IfOk result (IsWhole replica.now.shape) }
 {
     let body = match leaves {
         None => Body::Remove,
@@ -50,7 +50,7 @@ fn decide_placed<B: Beneath>(
     requires shape { B.shape below.now ≡ replica.now.shape }
     ensures decision { IfOk result (λ d. d ≡ decide_placed (found_in (B.shape below.now) partition.0 (B.process below.now)) outcome holding
         (place_for (space_of replica.now.shape) replica.now.replica (length holding.item.value))) }
-    ensures whole { IfOk result (λ d. IsWhole d) }
+    ensures whole { IfOk result (IsWhole replica.now.shape) }
 {
     match place(replica, below.space(), holding.item.value.len()) {
         None => Ok(Decision::NoSpace),
@@ -80,7 +80,7 @@ fn decide_written<B: Beneath>(
     requires run { IsRunOf (space_of (B.shape below.now)) (length holding.now.item.value) run }
     ensures decision { IfOk result (λ d. d ≡ decide_written outcome holding.now run
         (found_in (B.shape below.now) partition.0 (B.process below.now) run)) }
-    ensures whole { IfOk result (λ d. IsWhole d) }
+    ensures whole { IfOk result (IsWhole (B.shape below.now)) }
 {
     match below.find(partition, run)? {
         Found::Missing(block) => Ok(Decision::NeedBlock(block)),

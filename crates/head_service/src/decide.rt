@@ -32,7 +32,7 @@ pub fn decide<B: Beneath>(
     requires shape { B.shape below.now ≡ replica.now.shape }
     ensures decision { IfOk result (λ d. d ≡ decide (space_of replica.now.shape) inherited replica.now.replica op.now
         (found_in (B.shape below.now) partition.0 (B.process below.now))) }
-    ensures follows { IfOk result (λ d. CanFollow (space_of replica.now.shape) replica.now.replica (key_of op.now.act) d) }
+    ensures follows { IfOk result (λ d. CanFollow replica.now.shape replica.now.replica (key_of op.now.act) d) }
 {
     let last = replica.unfinished(op.act().key());
     match waits_for(inherited, op.act(), last) {
@@ -52,7 +52,7 @@ fn decide_settled<B: Beneath>(
     requires shape { B.shape below.now ≡ replica.now.shape }
     ensures decision { IfOk result (λ d. d ≡ decide_waiting (space_of replica.now.shape) replica.now.replica op.now
         (found_in (B.shape below.now) partition.0 (B.process below.now)) (slot_in replica.now.replica.items (key_of op.now.act)) None) }
-    ensures whole { IfOk result (λ d. IsWhole d) }
+    ensures whole { IfOk result (IsWhole replica.now.shape) }
 {
     let slot = item(replica, op);
     match slot {
@@ -84,7 +84,7 @@ fn decide_unread<B: Beneath>(
     requires needed { run_needed op.now slot ≡ None }
     ensures decision { IfOk result (λ d. d ≡ decide_waiting (space_of replica.now.shape) replica.now.replica op.now
         (found_in (B.shape below.now) partition.0 (B.process below.now)) slot None) }
-    ensures whole { IfOk result (λ d. IsWhole d) }
+    ensures whole { IfOk result (IsWhole replica.now.shape) }
 {
     let value = Payload::from_vec(Vec::new(alloc))?;
     let ruling = ruling_with(alloc, replica, op, slot, value)?;
@@ -105,7 +105,7 @@ fn decide_read<B: Beneath>(
     requires inside { slot.at + slot.len ≤ space_of replica.now.shape }
     ensures decision { IfOk result (λ d. d ≡ decide_waiting (space_of replica.now.shape) replica.now.replica op.now
         (found_in (B.shape below.now) partition.0 (B.process below.now)) (Some slot) None) }
-    ensures whole { IfOk result (λ d. IsWhole d) }
+    ensures whole { IfOk result (IsWhole replica.now.shape) }
 {
     if let Some(reply) = blind_reply(op, slot) {
         return Ok(Decision::Answer(reply));
@@ -134,7 +134,7 @@ fn decide_ruled<B: Beneath>(
     requires shape { B.shape below.now ≡ replica.now.shape }
     ensures decision { IfOk result (λ d. d ≡ decide_ruled (space_of replica.now.shape) replica.now.replica op.now
         (found_in (B.shape below.now) partition.0 (B.process below.now)) ruling) }
-    ensures whole { IfOk result (λ d. IsWhole d) }
+    ensures whole { IfOk result (IsWhole replica.now.shape) }
 {
     match ruling {
         Ruling::Refused(reply) => Ok(Decision::Answer(reply)),

@@ -1,5 +1,5 @@
 -- What a parity process has beneath its partitions.
-use Rattle.std.specs.Prelude.{◌≡◌, ℕ, ◌<◌, List}
+use Rattle.std.specs.Prelude.{◌≡◌, ℕ, ◌<◌, List, length}
 use Rattle.group_types.specs.Dimensions.{Dimensions}
 use Rattle.group_types.specs.declared.process.ProcessId.TheVariants.{ParityNode}
 use Rattle.group_message.specs.declared.update.Update.{Update}
@@ -18,6 +18,13 @@ pub record Holding : Type 0 where
 -- the parity process with this space, this part of a row and this part of a leader, where all else is as at the start
 abbrev pub process_of : Dimensions → ℕ → List ℕ → RowState → LeaderState → Process
 process_of s number bytes row leader = record (opening_process s (ParityNode number)) { space = bytes; as_row = row; as_leader = leader }
+
+-- what no message changes: the shape, the pages, whose process it is, and that it has blocks of each partition
+pub record Stays (old new : Holding) : Type 0 where
+  pub shape : new.shape ≡ old.shape
+  pub made : new.made ≡ old.made
+  pub name : new.process.name ≡ old.process.name
+  pub partitions : length new.process.as_leader.rebuilt ≡ old.shape.k
 
 -- an update of partition d can be added: d is one of the group, and the pages of what it writes are made
 abbrev pub IsReady : Holding → ℕ → Update → Type 0

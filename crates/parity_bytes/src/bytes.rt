@@ -1,15 +1,16 @@
-ghost use Rattle.std.specs.Prelude.{◌≡◌, ◌<◌, [], IfOk};
+ghost use Rattle.std.specs.Prelude.{◌≡◌, ◌<◌, [], length, IfOk};
 ghost use Rattle.group_types.specs.declared.process.ProcessId.TheVariants.{ParityNode};
+ghost use Rattle.erasure_code.specs.Spaces.{bytes_at};
 ghost use Rattle.group_run.specs.Leaders.{missing_block, rebuilt_bytes};
 ghost use Rattle.group_run.specs.Asking.{found_unless};
 ghost use Rattle.group_run.specs.Process.{opening_process};
-ghost use Rattle.head_service.specs.Beneath.{IsAsLong};
+ghost use Rattle.head_service.specs.Beneath.{IsFound};
 ghost use Rattle.page_map.specs.Spaces.{LiesIn};
 
 use block_sessions::Sessions;
 use group_calls::Found;
 use group_message::{Body, Update};
-use group_types::{Partition, ProcessId, Run, Shape};
+use group_types::{Partition, Payload, ProcessId, Run, Shape};
 use head_service::Beneath;
 use parity_space::ParitySpace;
 use row_copies::Rows;
@@ -60,6 +61,21 @@ impl ParityBytes {
         ensures { result ≡ self.now.shape }
     {
         self.shape
+    }
+
+    /// How many pages were made.
+    pub fn made(&self) -> u32
+        ensures { result ≡ length self.now.made }
+    {
+        self.space.made()
+    }
+
+    /// The bytes of a run of its space.
+    pub fn bytes(&self, run: Run) -> Result<Payload, AllocError>
+        requires { LiesIn run self.now.shape }
+        ensures { IfOk result (λ bytes. bytes ≡ bytes_at run.at run.len self.now.process.space) }
+    {
+        Payload::from_vec(Vec::from(self.space.range(run)?))
     }
 
     /// The number of the parity process.
@@ -118,7 +134,7 @@ fn rebuilt(sessions: &Sessions, partition: Partition, run: Run) -> Result<Found,
     requires within { LiesIn run sessions.now.shape }
     ensures found { IfOk result (λ found. found ≡ found_unless
         (missing_block sessions.now.shape partition.0 run sessions.now.state) (rebuilt_bytes sessions.now.shape partition.0 run sessions.now.state)) }
-    ensures length { IfOk result (λ found. IsAsLong run.len found) }
+    ensures whole { IfOk result (IsFound sessions.now.shape run.len) }
 {
     if let Some(block) = sessions.missing(partition, run) {
         return Ok(Found::Missing(block));

@@ -51,6 +51,14 @@ impl ParitySpace {
         })
     }
 
+    /// How many pages were made. No two are of one block.
+    pub fn made(&self) -> u32
+        ensures count { result ≡ length self.now.made }
+        ensures rising { IsStrictlyIncreasing self.now.made }
+    {
+        self.pages.made()
+    }
+
     /// Makes the pages of the run that aren't there.
     pub fn reserve(&mut self, run: Run) -> Result<(), AllocError>
         requires { LiesIn run self.old.shape }

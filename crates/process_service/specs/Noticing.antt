@@ -52,8 +52,7 @@ abbrev pub bereaved : ProcessId → Serving → Serving
 bereaved dead v = record v { known = with_dead v.known dead }
 
 -- what was made for the notice of a death is what a process needs that knows of it
-pub record IsPrepared (v : Serving) (known : Membership) (heads : List (Option Head)) (sent : List Sent) (room : ℕ) : Type 0 where
+pub record IsPrepared (v : Serving) (known : Membership) (heads : List (Option Head)) (room : ℕ) : Type 0 where
   pub known_is : known ≡ v.known
   pub heads_are : heads ≡ heirs v (range_with_len 0 v.shape.k)
-  pub sent_is : sent ≡ adoptions v (range_with_len 0 v.shape.k)
   pub room_is : waiting v.replicas ≤ room

@@ -9,7 +9,18 @@ use Rattle.group_message.specs.declared.update.Update.{Update}
 use Rattle.group_run.specs.Process.{Head, Process, heads_at_start}
 use Rattle.group_run.specs.Replica.{empty_replica}
 use Rattle.partition_replica.specs.State.{IsTidyBut, State}
-use Rattle.head_service.specs.Serving.{Serving}
+use Rattle.head_service.specs.Serving.{Serving, serving}
+
+-- a process as contracts see it: the shape of its group, the machine's process, and the numbers of the blocks whose pages
+-- were made
+pub record Standing : Type 0 where
+  pub shape : Dimensions
+  pub process : Process
+  pub made : List ℕ
+
+-- what it keeps of its partitions, over these bytes and pages
+abbrev pub standing : Serving → Process → List ℕ → Standing
+standing v b made = record { shape = v.shape; process = serving v b; made = made }
 
 -- these bytes are beneath the process's partitions: those of the same process, with rebuilt blocks of each
 -- partition, and all is ready that adding a logged update needs

@@ -6,7 +6,7 @@ ghost use Rattle.memc_table.specs.Act.{key_of};
 ghost use Rattle.group_run.specs.Process.{Process};
 ghost use Rattle.group_run.specs.Replica.{callers, last_of};
 ghost use Rattle.partition_replica.specs.State.{IsTidyBut};
-ghost use Rattle.head_service.specs.Acting.{name_of};
+ghost use Rattle.head_service.specs.Acting.{NeedsOf, name_of};
 ghost use Rattle.head_service.specs.Laws.{ArePeers};
 ghost use Rattle.head_service.specs.Serving.{Serving, serving};
 ghost use Rattle.process_service.specs.Standing.{IsBeneath};
@@ -36,6 +36,7 @@ impl Service {
         ensures beneath { IsBeneath self.new (B.shape below.new) (B.process below.new) (B.is_ready below.new) }
         ensures asked { IfOk result (λ asked. IsAsked self.old.shape (name_of call) op.now (serving self.old (B.process below.old)) asked
             (serving self.new (B.process below.new))) }
+        ensures block { IfOk result (NeedsOf self.old.shape) }
         ensures self_err { OnErr result (self.new ≡ self.old) }
         ensures bytes_err { OnErr result (B.process below.new ≡ B.process below.old) }
     {

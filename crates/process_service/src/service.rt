@@ -1,4 +1,4 @@
-ghost use Rattle.std.specs.Prelude.{◌≡◌, ◌↔◌, ◌<◌, ◌^◌, false, [], None, All, IsTrue, IfOk, map, replicate};
+ghost use Rattle.std.specs.Prelude.{◌≡◌, ◌↔◌, ◌<◌, ◌^◌, false, [], None, All, IsTrue, IfOk, length, map, replicate};
 ghost use Rattle.group_types.specs.Lists.{at};
 ghost use Rattle.group_types.specs.Names.{IsProcess};
 ghost use Rattle.group_run.specs.Process.{heads_at_start};
@@ -87,6 +87,22 @@ impl Service {
         self.known
     }
 
+    /// The rank under which it follows each partition.
+    pub fn ranks(&self) -> &[Rank]
+        ensures value { map (λ r. r.0) result.now ≡ self.now.ranks }
+        ensures length { length result.now ≡ self.now.shape.k }
+    {
+        &self.ranks
+    }
+
+    /// Its replica of each partition.
+    pub fn replicas(&self) -> &[Replica]
+        ensures value { map (λ r. r.replica) result.now ≡ self.now.replicas }
+        ensures length { length result.now ≡ self.now.shape.k }
+    {
+        &self.replicas
+    }
+
     /// The number up to which a partition is applied.
     pub fn applied(&self, partition: Partition) -> u64
         requires { partition.0 < self.now.shape.k }
@@ -107,7 +123,8 @@ impl Service {
         true
     }
 
-    pub(crate) fn peers(&self) -> Peers
+    /// The other parity processes, as the process knows them.
+    pub fn peers(&self) -> Peers
         ensures m { result.m ≡ self.now.shape.m }
         ensures name { result.name ≡ self.now.name }
         ensures known { result.known ≡ self.now.known }

@@ -155,13 +155,13 @@ impl Desk {
 
     fn decide<B: Beneath>(&self, op: &Op, below: &B) -> Result<Decision, AllocError>
         requires { B.shape below.now ≡ self.now.replica.shape }
-        ensures { IfOk result (λ d. CanFollow (space_of self.now.replica.shape) self.now.replica.replica (key_of op.now.act) d) }
+        ensures { IfOk result (λ d. CanFollow self.now.replica.shape self.now.replica.replica (key_of op.now.act) d) }
     {
         decide(self.alloc, Partition(0), 0, &self.replica, op, below)
     }
 
     fn follow(&mut self, op: &Op, decision: Decision) -> Result<(), AllocError>
-        requires { CanFollow (space_of self.old.replica.shape) self.old.replica.replica (key_of op.now.act) decision }
+        requires { CanFollow self.old.replica.shape self.old.replica.replica (key_of op.now.act) decision }
     {
         match decision {
             Decision::Issue { body, outcome } => {

@@ -80,6 +80,6 @@ returns-clause-step g c =
     = subst (λ (x : Process). HasMade (for_each (ds g f) (take_over_if (s g f)) x) c.judge_all.new.settled.items q c.take_over_all.new.settled.items) (made g f).process
     (subst (λ (x : Dimensions). HasMade (for_each (range_with_len 0 x.k) (take_over_if x) (serving (w g f) (b2 g f))) c.judge_all.new.settled.items q c.take_over_all.new.settled.items) (sym (w-shape g f))
     c.take_over_all.ensures.made) in
-    step-is (mourned (s g f) p) q c.args.notice.sent.items c.take_over_all.new.settled.items (sym taken.process)
-    (mourned-sent (s g f) p ∙ ap (λ (x : Serving). adoptions x (ds g f)) (viewed (s g f) (v g f) (b g f) c.requires.beneath.name refl) ∙ sym c.requires.prepared.sent_is)
+    step-is (mourned (s g f) p) q (adoptions (v g f) (ds g f)) c.take_over_all.new.settled.items (sym taken.process)
+    (mourned-sent (s g f) p ∙ ap (λ (x : Serving). adoptions x (ds g f)) (viewed (s g f) (v g f) (b g f) c.requires.beneath.name refl))
     (sym (taken.settled ∙ ap (λ (xs : List Settlement). xs ++ (for_each (ds g f) (take_over_if (s g f)) (judged g f).process).settled) (made g f).settled))

@@ -33,9 +33,9 @@ partitions-preserved c =
           ∙ ap (λ (x : Option Head). c.partitions.notice.heads.items ++ x ∷ heirs v rest) head
           ∙ sym (ap (λ (ds : List ℕ). c.partitions.notice.heads.items ++ heirs v ds) (range-front d k below)) ∙ c.partitions.invariant.heads;
       sent = ap (λ (xs : List Sent). xs ++ adoptions v rest) c.in_ok-adoption_if.ensures
-          ∙ append_assoc c.partitions.notice.sent.items (adoption_if c.is_due-due.result v.shape c.fail.new.self v.name d r) (adoptions v rest)
-          ∙ ap (λ (xs : List Sent). c.partitions.notice.sent.items ++ (xs ++ adoptions v rest)) told
-          ∙ sym (ap (λ (ds : List ℕ). c.partitions.notice.sent.items ++ adoptions v ds) (range-front d k below)) ∙ c.partitions.invariant.sent;
+          ∙ append_assoc c.partitions.sent.items (adoption_if c.is_due-due.result v.shape c.fail.new.self v.name d r) (adoptions v rest)
+          ∙ ap (λ (xs : List Sent). c.partitions.sent.items ++ (xs ++ adoptions v rest)) told
+          ∙ sym (ap (λ (ds : List ℕ). c.partitions.sent.items ++ adoptions v ds) (range-front d k below)) ∙ c.partitions.invariant.sent;
       settled = c.partitions.invariant.settled;
       room = c.partitions.invariant.room;
     }

@@ -10,8 +10,8 @@ invariant-partitions l = record {
   kept : l.notice.known ≡ l.known;
   heads : l.notice.heads.items ++ heirs (bereaved l.fn.dead l.fn.self) (range_with_len l.d (l.fn.self.shape.k - l.d))
       ≡ heirs (bereaved l.fn.dead l.fn.self) (range_with_len 0 l.fn.self.shape.k);
-  sent : l.notice.sent.items ++ adoptions (bereaved l.fn.dead l.fn.self) (range_with_len l.d (l.fn.self.shape.k - l.d))
-      ≡ adoptions (bereaved l.fn.dead l.fn.self) (range_with_len 0 l.fn.self.shape.k);
+  sent : l.sent.items ++ adoptions (bereaved l.fn.dead l.fn.self) (range_with_len l.d (l.fn.self.shape.k - l.d))
+      ≡ l.initial.sent.items ++ adoptions (bereaved l.fn.dead l.fn.self) (range_with_len 0 l.fn.self.shape.k);
   settled : l.notice.settled.items ≡ [];
   room : waiting l.fn.self.replicas ≤ vec_capacity l.notice.settled;
 }
