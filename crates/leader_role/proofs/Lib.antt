@@ -1,0 +1,5 @@
+mod Dead
+mod Counting
+mod Steps
+mod Opening
+pub mod Laws
