@@ -3,3 +3,4 @@ mod Counting
 mod Steps
 mod Opening
 pub mod Laws
+mod Ranges
