@@ -1,8 +1,8 @@
 -- While no more than m are dead, there are rows for what is lost.
-use Rattle.std.proofs.Common.{ℕ, zero, suc, ◌≡◌, ◌≢◌, ◌+◌, ◌<◌, ◌≤◌, Bool, true, false, not, ◌&&◌, List, [], ◌∷◌, length, take, drop, filter, get_or, cond, if◌then◌else◌, All, Contains, refl, sym, ap, subst, ◌∙◌, arith}
+use Rattle.std.proofs.Common.{ℕ, zero, suc, ◌≡◌, ◌≢◌, ◌+◌, ◌<◌, ◌≤◌, Bool, true, false, not, List, [], ◌∷◌, length, take, drop, filter, cond, if◌then◌else◌, All, Contains, refl, sym, ap, subst, ◌∙◌, arith}
 use Rattle.std.proofs.lemmas.Bool.{and_parts}
-use Rattle.std.proofs.lemmas.List.{get_or-take, length-take-le}
-use Rattle.std.proofs.lemmas.List.Elements.{All-filter, All-take}
+use Rattle.std.proofs.lemmas.List.{get_or-take}
+use Rattle.std.proofs.lemmas.List.Elements.{All-filter}
 use Rattle.std.proofs.lemmas.List.FromFn.{get_or-range_with_len, length-range_with_len}
 use Rattle.std.proofs.lemmas.List.Kept.{IsStrictlyIncreasing-filter}
 use Rattle.std.specs.List.{list_all, range_with_len}

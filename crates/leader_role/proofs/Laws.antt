@@ -1,5 +1,5 @@
 -- A parity process can lead from the start, and after every step.
-use Rattle.std.proofs.Common.{ℕ, suc, ◌≡◌, ◌≢◌, ◌+◌, ◌<◌, ◌≤◌, nat_le, Bool, true, false, List, [], ◌∷◌, find, length, Option, Some, None, is_some, All, Contains, refl, sym, ap, subst, ◌∙◌, arith}
+use Rattle.std.proofs.Common.{ℕ, ◌≡◌, ◌+◌, ◌<◌, ◌≤◌, nat_le, Bool, true, false, List, [], ◌∷◌, find, length, Option, Some, None, is_some, All, Contains, refl, sym, ap, subst, ◌∙◌, arith}
 use Rattle.std.proofs.lemmas.List.Elements.{All-nil}
 use Rattle.std.specs.List.{range_with_len}
 use Rattle.group_types.specs.Dimensions.{Dimensions, space_of}
@@ -31,6 +31,7 @@ use Rattle.group_run.specs.Receiving.{ack_to, death_known, log_adopted, notice_c
 use Rattle.group_run.specs.Replica.{with_update}
 use Rattle.group_run.specs.Rows.{parity_number}
 use Rattle.block_sessions.specs.Opened.{AreLost}
+use Rattle.leader_role.specs.Laws.{SoundCanStart, StaysSound}
 use Rattle.leader_role.specs.Sound.{FewDead, IsSound, IsVacant}
 use Rattle.leader_role.proofs.Dead.{knows-other, shape-stays, vacant-still}
 use Rattle.leader_role.proofs.Opening.{itself-a-row, lost-and-rows, retried-sound}
@@ -168,3 +169,14 @@ module _ (s : Dimensions) where
   received-sound (DataNode e) (tells.Cease upto) p sound fits few = sound
   received-sound (ParityNode i) (tells.Cease upto) p sound fits few = sound-stays s p _ (stays-alike p _ refl refl refl refl) sound
   received-sound from (tells.Notice dead) p sound fits few = noticed-sound dead p sound fits few
+
+pub stays_sound : (s : Dimensions) → StaysSound s
+stays_sound s = record {
+  opening = opening s;
+  asked = asked-sound s;
+  collected = collected-sound s;
+  received = received-sound s;
+}
+
+pub sound_can_start : SoundCanStart
+sound_can_start s p d h sound there inside = record { lost = can-start s p d h sound there inside; itself = among-rows s p d h sound there inside }

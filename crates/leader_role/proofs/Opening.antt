@@ -1,22 +1,21 @@
 -- A leader can start a session, and is one of its rows.
-use Rattle.std.proofs.Common.{ℕ, suc, ◌≡◌, ◌+◌, ◌<◌, ◌≤◌, ◌==◌, Bool, true, false, not, List, [], ◌∷◌, ◌++◌, length, take, filter, drop, Option, Some, None, is_some, All, Contains, refl, sym, ap, subst, ◌∙◌, arith}
+use Rattle.std.proofs.Common.{ℕ, suc, ◌≡◌, ◌<◌, ◌≤◌, ◌==◌, Bool, true, false, not, List, length, filter, Option, Some, None, Contains, sym, ap, ◌∙◌, arith}
 use Rattle.std.proofs.lemmas.List.{length-take-le}
 use Rattle.std.proofs.lemmas.List.Elements.{All-push, All-take}
-use Rattle.std.specs.List.{list_all, list_any, range_with_len}
+use Rattle.std.specs.List.{list_any, range_with_len}
 use Rattle.group_types.specs.Dimensions.{Dimensions}
 use Rattle.group_types.specs.Lists.{at}
-use Rattle.group_types.specs.declared.process.ProcessId.{ProcessId}
 use Rattle.group_types.specs.declared.process.ProcessId.TheVariants.{DataNode, ParityNode}
 use Rattle.membership.specs.Members.{knows_dead}
-use Rattle.group_run.specs.Applying.{for_each, head_at, replica_of, when}
+use Rattle.group_run.specs.Applying.{for_each, replica_of, when}
 use Rattle.group_run.specs.Asking.{Oldest, retry_block}
 use Rattle.group_run.specs.Leaders.{lost_of, new_session, own_mark, rows_of, session_opened, start_session}
-use Rattle.group_run.specs.Process.{Gathering, Process}
+use Rattle.group_run.specs.Process.{Process}
 use Rattle.group_run.specs.Rows.{parity_number}
 use Rattle.block_sessions.specs.Opened.{AreLost}
 use Rattle.leader_role.specs.Sound.{IsSound, IsVacant}
 use Rattle.leader_role.proofs.Counting.{below-filter, enough, first-left, front-taken, rising-filter, rising-take, some-found}
-use Rattle.leader_role.proofs.Steps.{AreRowed, Stays, mark-stays, sound-stays, stays-each}
+use Rattle.leader_role.proofs.Steps.{mark-stays, sound-stays, stays-each}
 
 module _ (s : Dimensions) (p : Process) (sound : IsSound s p) where
   abbrev left : List ℕ

@@ -1,6 +1,6 @@
 -- The steps of a process that let it lead: each leaves its name, whom it knows to be dead, and what it heads, or
 -- takes over what is vacant; and its sessions keep their rows.
-use Rattle.std.proofs.Common.{ℕ, suc, ◌≡◌, ◌≢◌, ◌≤◌, ◌==◌, ◌⊎◌, Bool, true, false, not, nat_le, List, [], ◌∷◌, Option, Some, None, is_some, find, cond, if◌then◌else◌, All, Contains, inl, inr, refl, sym, ap, subst, ◌∙◌}
+use Rattle.std.proofs.Common.{ℕ, suc, ◌≡◌, ◌≢◌, ◌≤◌, ◌==◌, ◌⊎◌, Bool, true, false, not, List, [], ◌∷◌, Option, Some, None, is_some, find, cond, if◌then◌else◌, All, Contains, inl, inr, refl, sym, ap, subst, ◌∙◌}
 use Rattle.std.proofs.lemmas.Bool.{cases_eq}
 use Rattle.std.proofs.lemmas.List.Elements.{All-filter, All-head, All-map, All-tail, All-weaker}
 use Rattle.group_types.specs.Dimensions.{Dimensions}
@@ -10,9 +10,9 @@ use Rattle.group_types.specs.declared.process.ProcessId.{ProcessId}
 use Rattle.group_types.specs.declared.process.ProcessId.TheVariants.{ParityNode}
 use Rattle.group_types.proofs.Lists.{at-put, at-put-other}
 use Rattle.membership.specs.Members.{Membership, knows_dead, lost_of}
-use Rattle.group_run.specs.Applying.{ProcessStep, apply_to, for_each, head_at, replica_of, when, with_head}
+use Rattle.group_run.specs.Applying.{ProcessStep, apply_to, for_each, head_at, when, with_head}
 use Rattle.group_run.specs.Heading.{acknowledge, acknowledged, judge, judge_head}
-use Rattle.group_run.specs.Leaders.{block_comes, block_gathered, copy_kept, copy_marked, gathered_when, is_complete, mark_comes, mark_taken, open_session, rebuilt_block, rebuilt_unless, row_comes, row_finished, row_gathered, with_decoded, with_session, without_session}
+use Rattle.group_run.specs.Leaders.{block_comes, block_gathered, copy_kept, copy_marked, gathered_when, is_complete, mark_comes, mark_taken, open_session, rebuilt_block, rebuilt_unless, row_comes, row_finished, row_gathered, with_decoded, without_session}
 use Rattle.group_run.specs.Process.{Copy, Gathering, Head, LeaderState, Process}
 use Rattle.group_run.specs.Receiving.{enthroned, take_over_if, taken_over, takes_over}
 use Rattle.group_run.specs.Rows.{accepts_mark, begin_copy, copy_begun, copy_in, is_marked, marked, parity_number, with_copies, without_copy}
@@ -129,9 +129,9 @@ module _ (s : Dimensions) where
   found-rowed i number [] g found all = absurd (cc found)
   found-rowed i number (x ∷ xs) g found all =
       by (x.number == number) found (λ there. found-rowed i number xs g there (All-tail (λ y. Contains y.rows i) x xs all)) where
-    by : (b : Bool) → cond b (Some x) (find (λ y. y.number == number) xs) ≡ Some g → (find (λ y. y.number == number) xs ≡ Some g → Contains g.rows i) → Contains g.rows i
-    by true here later = let same : x ≡ g = cc here in subst (λ (y : Gathering). Contains y.rows i) same (All-head (λ y. Contains y.rows i) x xs all)
-    by false there later = later there
+        by : (b : Bool) → cond b (Some x) (find (λ y. y.number == number) xs) ≡ Some g → (find (λ y. y.number == number) xs ≡ Some g → Contains g.rows i) → Contains g.rows i
+        by true here later = let same : x ≡ g = cc here in subst (λ (y : Gathering). Contains y.rows i) same (All-head (λ y. Contains y.rows i) x xs all)
+        by false there later = later there
 
   pub row-stays : (j number : ℕ) (bytes : List ℕ) (p : Process) → Stays p (row_comes s number j bytes p)
   row-stays j number bytes p = record { name = refl; known = refl; seats = λ d. refl; rows = λ i all. by i (open_session p.as_leader number) refl all } where

@@ -5,6 +5,7 @@
 
 pub mod cease;
 pub mod rows;
+pub mod soundness;
 pub mod start;
 #[cfg(test)]
 mod tests;

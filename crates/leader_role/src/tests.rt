@@ -15,8 +15,11 @@ use std::alloc::Global;
 use std::test::Fail;
 
 const FIRST: ProcessId = ProcessId::DataNode(0);
+
 const SECOND: ProcessId = ProcessId::DataNode(1);
+
 const LOWEST: ProcessId = ProcessId::ParityNode(0);
+
 const NEXT: ProcessId = ProcessId::ParityNode(1);
 
 fn group() -> Result<Shape, Fail>
@@ -77,12 +80,7 @@ fn the_other_row_gets_a_mark_for_each_lost_partition(rt: HostRuntime) -> Result<
 }
 
 // What parity process 0 sends to rebuild block 3, as its session 5.
-fn first_sent(
-    alloc: Global,
-    shape: Shape,
-    known: &Members,
-    rows: &[u32],
-) -> Result<Vec<Sent>, Fail>
+fn first_sent(alloc: Global, shape: Shape, known: &Members, rows: &[u32]) -> Result<Vec<Sent>, Fail>
     requires { shape ≡ record { k = 2; m = 2; blocks = 4; block = 16 } }
 {
     let start = Start {

@@ -1,4 +1,4 @@
-use Rattle.std.proofs.Common.{ℕ, ◌<◌, Bool, List, [], ◌∷◌, refl, sym, ◌∙◌, arith}
+use Rattle.std.proofs.Common.{ℕ, ◌<◌, List, [], ◌∷◌, refl, sym, ◌∙◌, arith}
 use Rattle.group_types.specs.declared.process.ProcessId.TheVariants.{DataNode}
 use Rattle.membership.specs.Members.{knows_dead}
 use Rattle.leader_role.specs.Starting.{dead_data}

@@ -1,4 +1,4 @@
-use Rattle.std.proofs.Common.{ℕ, ◌<◌, Bool, not, List, [], ◌∷◌, refl, sym, ap, ◌∙◌, arith}
+use Rattle.std.proofs.Common.{ℕ, ◌<◌, not, List, [], ◌∷◌, refl, sym, ap, ◌∙◌, arith}
 use Rattle.group_types.specs.declared.process.ProcessId.TheVariants.{ParityNode}
 use Rattle.membership.specs.Members.{knows_dead}
 use Rattle.leader_role.specs.Starting.{living_parity}

@@ -1,4 +1,4 @@
-use Rattle.std.proofs.Common.{ℕ, ◌≡◌, ◌<◌, Bool, List, ◌∷◌, ◌++◌, flat_map, length, map, slice_index_or, refl, sym, ap, ◌∙◌, arith}
+use Rattle.std.proofs.Common.{ℕ, ◌≡◌, ◌<◌, List, ◌++◌, flat_map, map, slice_index_or, refl, sym, ap, ◌∙◌, arith}
 use Rattle.group_types.specs.declared.process.ProcessId.TheVariants.{DataNode}
 use Rattle.membership.specs.Members.{knows_dead}
 use Rattle.group_types.specs.Lists.{at}

@@ -1,11 +1,9 @@
-use Rattle.std.proofs.Common.{ℕ, ◌≡◌, List, [], ◌++◌, map, sym, ap, ◌∙◌}
-use Rattle.std.proofs.lemmas.List.{append_assoc}
+use Rattle.std.proofs.Common.{ℕ, ◌≡◌, List, ◌++◌, map, sym, ap, ◌∙◌}
 use Rattle.group_run.specs.Applying.{Sent}
 use Rattle.group_run.specs.Leaders.{rows_of}
-use Rattle.group_run.specs.Process.{Process}
 use Rattle.group_run.specs.Replica.{Replica}
 use Rattle.membership.specs.Members.{Membership}
-use Rattle.leader_role.specs.Starting.{HasParts, marks_of_lost, reads}
+use Rattle.leader_role.specs.Starting.{marks_of_lost, reads}
 use Rattle.leader_role.proofs.start.Start.questions.Goals as goal
 
 pub returns : goal.returns
