@@ -1,0 +1,6 @@
+mod Dead
+mod Counting
+mod Steps
+mod Opening
+pub mod Laws
+mod Ranges
