@@ -155,7 +155,7 @@ module _ (s : Dimensions) (shaped : IsShape s) (v u w : State) (x p : ProcessId)
   marks (tells.Ack r d n) may = tt
   marks (tells.Stable r d n) may = tt
   marks (tells.Adopt r d base list) may = tt
-  marks (tells.ReadBlock session block rows) may = tt
+  marks (tells.ReadBlock session block rows) may = subst IsParity (sym may.0) may.1
   marks (tells.Block session bytes n) may = tt
   marks (tells.Row session bytes stamp) may = tt
   marks (tells.Cease upto) may = tt

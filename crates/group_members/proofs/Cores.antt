@@ -40,9 +40,9 @@ MaySend due k p to (tells.Adopt r d base list) = (d.0 < k) × (seat_of p d.0 ≡
 MaySend due k p to (tells.Ack r d n) = due to r.0 d.0
 MaySend due k p to (tells.Mark session r block d n) = (d.0 < k) × (seat_of p d.0 ≡ Some r.0) × (0 < r.0 → session.leader ≡ p.name) × IsParity to
 MaySend due k p to (tells.ReadBlock session block rows) = (session.leader ≡ p.name) × IsParity p.name × IsData to
-MaySend due k p to (tells.Block session bytes n) = (session.leader ≡ to) × IsData p.name
-MaySend due k p to (tells.Row session bytes stamp) = (session.leader ≡ to) × IsParity p.name
-MaySend due k p to (tells.Cease upto) = Unit {0}
+MaySend due k p to (tells.Block session bytes n) = (session.leader ≡ to) × IsData p.name × IsParity to
+MaySend due k p to (tells.Row session bytes stamp) = (session.leader ≡ to) × IsParity p.name × IsParity to
+MaySend due k p to (tells.Cease upto) = IsParity to
 MaySend due k p to (tells.Notice dead) = ⊥
 
 -- each message of a step may be sent by the process that it leaves
@@ -64,9 +64,9 @@ may-kept due k p q keeps to (tells.Adopt r d base list) may = (may.0, keeps.seat
 may-kept due k p q keeps to (tells.Ack r d n) may = may
 may-kept due k p q keeps to (tells.Mark session r block d n) may = (may.0, keeps.seats d.0 r.0 may.1, (λ above. may.2 above ∙ sym keeps.name), may.3)
 may-kept due k p q keeps to (tells.ReadBlock session block rows) may = (may.0 ∙ sym keeps.name, subst IsParity (sym keeps.name) may.1, may.2)
-may-kept due k p q keeps to (tells.Block session bytes n) may = (may.0, subst IsData (sym keeps.name) may.1)
-may-kept due k p q keeps to (tells.Row session bytes stamp) may = (may.0, subst IsParity (sym keeps.name) may.1)
-may-kept due k p q keeps to (tells.Cease upto) may = tt
+may-kept due k p q keeps to (tells.Block session bytes n) may = (may.0, subst IsData (sym keeps.name) may.1, may.2)
+may-kept due k p q keeps to (tells.Row session bytes stamp) may = (may.0, subst IsParity (sym keeps.name) may.1, may.2)
+may-kept due k p q keeps to (tells.Cease upto) may = may
 may-kept due k p q keeps to (tells.Notice dead) may = may
 
 module _ (due : ProcessId → ℕ → ℕ → Type 0) (k : ℕ) where
@@ -119,7 +119,7 @@ module _ (due : ProcessId → ℕ → ℕ → Type 0) (k : ℕ) where
   -- a row takes a mark
   step-row_finished : (b : Bool) (s : Dimensions) (copy : Copy) (p : Process) → IsParity p.name → Step p (row_finished b s copy p)
   step-row_finished true s copy p parity = step-quiet p _ (record { name = refl; known = refl; ranks = refl; seats = λ e. refl })
-  step-row_finished false s copy p parity = record { same = core-refl p; sent = ((refl, parity), tt) }
+  step-row_finished false s copy p parity = record { same = core-refl p; sent = ((refl, parity, tt), tt) }
 
   step-copy_kept : (b : Bool) (s : Dimensions) (copy : Copy) (p : Process) → IsParity p.name → Step p (copy_kept b s copy p)
   step-copy_kept true s copy p parity =

@@ -162,7 +162,7 @@ module _ (s : Dimensions) where
   may-on v w goes x q (tells.ReadBlock session block rows) may = may
   may-on v w goes x q (tells.Block session bytes n) may = may
   may-on v w goes x q (tells.Row session bytes stamp) may = may
-  may-on v w goes x q (tells.Cease upto) may = tt
+  may-on v w goes x q (tells.Cease upto) may = may
   may-on v w goes x q (tells.Notice dead) may = tt
 
   -- what a process may send may stand in its link
@@ -174,9 +174,9 @@ module _ (s : Dimensions) where
   sent-stands due w ground p pin lives owed q (tells.Ack r d n) may = owed q r.0 d.0 may
   sent-stands due w ground p pin lives owed q (tells.Mark session r block d n) may = (seat-from w ground p d.0 r.0 pin lives may.0 may.1, (λ above. may.2 above ∙ ground.named p pin), may.3)
   sent-stands due w ground p pin lives owed q (tells.ReadBlock session block rows) may = (may.0 ∙ ground.named p pin, subst IsParity (ground.named p pin) may.1, may.2)
-  sent-stands due w ground p pin lives owed q (tells.Block session bytes n) may = (may.0, subst IsData (ground.named p pin) may.1)
-  sent-stands due w ground p pin lives owed q (tells.Row session bytes stamp) may = (may.0, subst IsParity (ground.named p pin) may.1)
-  sent-stands due w ground p pin lives owed q (tells.Cease upto) may = tt
+  sent-stands due w ground p pin lives owed q (tells.Block session bytes n) may = (may.0, subst IsData (ground.named p pin) may.1, may.2)
+  sent-stands due w ground p pin lives owed q (tells.Row session bytes stamp) may = (may.0, subst IsParity (ground.named p pin) may.1, may.2)
+  sent-stands due w ground p pin lives owed q (tells.Cease upto) may = may
   sent-stands due w ground p pin lives owed q (tells.Notice dead) may = absurd may
 
   -- one living process changes by a step
@@ -430,7 +430,7 @@ module _ (s : Dimensions) (shaped : IsShape s) where
     marks (tells.Ack r d n) may = tt
     marks (tells.Stable r d n) may = tt
     marks (tells.Adopt r d base list) may = tt
-    marks (tells.ReadBlock session block rows) may = tt
+    marks (tells.ReadBlock session block rows) may = subst IsParity (sym may.0) may.1
     marks (tells.Block session bytes n) may = tt
     marks (tells.Row session bytes stamp) may = tt
     marks (tells.Cease upto) may = tt

@@ -97,12 +97,12 @@ module _ (s : Dimensions) (x : ProcessId) where
         inr (same, now, omega (arith, now, before, risen))
 
   -- a leader asks for a block, and gets it and the marks
-  read : (m : Message) (p : Process) (y : ProcessId) (session : Session) (block : ℕ) (rows : List ℕ) → p.name ≡ y → IsProcess s y → Seated s p y → Received s.k x m p (read_comes s session block rows p y)
-  read m p (ParityNode i) session block rows name inside seated = still m p p (core-refl p)
-  read m p (DataNode d) session block rows name inside seated = by-step m p (read_comes s session block rows p (DataNode d)) (record {
+  read : (m : Message) (p : Process) (y : ProcessId) (session : Session) (block : ℕ) (rows : List ℕ) → p.name ≡ y → IsProcess s y → Seated s p y → IsParity session.leader → Received s.k x m p (read_comes s session block rows p y)
+  read m p (ParityNode i) session block rows name inside seated leader = still m p p (core-refl p)
+  read m p (DataNode d) session block rows name inside seated leader = by-step m p (read_comes s session block rows p (DataNode d)) (record {
     same = core-refl p;
     sent = (
-      (refl, subst IsData (sym name) tt),
+      (refl, subst IsData (sym name) tt, leader),
       each-map (λ z. MaySend (DueTo x m) s.k p z.to z.message) (λ i. record { to = ParityNode i; message = tells.Mark session (rank 0) block (partition d) (replica_of p d).applied }) rows
           (each-all (λ i. MaySend (DueTo x m) s.k p (ParityNode i) (tells.Mark session (rank 0) block (partition d) (replica_of p d).applied)) (λ i. (inside, seat, (λ above. absurd (omega (arith, above))), tt)) rows),
     );
@@ -113,9 +113,10 @@ module _ (s : Dimensions) (x : ProcessId) where
     seat : seat_of p d ≡ Some 0
     seat = (seated.sits d inside).0 ∙ ap (λ (b : Bool). if b then Some 0 else None) own
 
-  -- a message that a row takes for a session
+  -- a mark comes to a row, and a question is of a parity process
   abbrev pub MarksRow : Message → ProcessId → Type 0
   MarksRow (tells.Mark session r block d n) y = IsParity y
+  MarksRow (tells.ReadBlock session block rows) y = IsParity session.leader
   MarksRow _ y = Unit {0}
 
   -- every message but a notice
@@ -134,7 +135,7 @@ module _ (s : Dimensions) (x : ProcessId) where
     from_ack (ParityNode i) is = acked (tells.Ack r d n) p i r.0 d.0 n (head_at p d.0) refl
   received y (tells.ReadBlock session block rows) p plain inside seated marks =
       subst (λ (z : ProcessId). Received s.k x (tells.ReadBlock session block rows) p (read_comes s session block rows p z)) (sym seated.name)
-      (read (tells.ReadBlock session block rows) p y session block rows seated.name inside seated)
+      (read (tells.ReadBlock session block rows) p y session block rows seated.name inside seated marks)
   received y (tells.Block session bytes n) p plain inside seated marks = from_block x where
     from_block : (z : ProcessId) → Received s.k x (tells.Block session bytes n) p (receive s z (tells.Block session bytes n) p)
     from_block (DataNode e) = still (tells.Block session bytes n) p _ (record { name = refl; known = refl; ranks = refl; seats = λ e. refl })

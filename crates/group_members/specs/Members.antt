@@ -90,9 +90,9 @@ MayStand s v x q (tells.Adopt r d base list) = IsFrom s v x d.0 r.0 × (0 < r.0)
 MayStand s v x q (tells.Ack r d n) = IsFrom s v q d.0 r.0
 MayStand s v x q (tells.Mark session r block d n) = IsFrom s v x d.0 r.0 × (0 < r.0 → session.leader ≡ x) × IsParity q
 MayStand s v x q (tells.ReadBlock session block rows) = (session.leader ≡ x) × IsParity x × IsData q
-MayStand s v x q (tells.Block session bytes n) = (session.leader ≡ q) × IsData x
-MayStand s v x q (tells.Row session bytes stamp) = (session.leader ≡ q) × IsParity x
-MayStand s v x q (tells.Cease upto) = Unit {0}
+MayStand s v x q (tells.Block session bytes n) = (session.leader ≡ q) × IsData x × IsParity q
+MayStand s v x q (tells.Row session bytes stamp) = (session.leader ≡ q) × IsParity x × IsParity q
+MayStand s v x q (tells.Cease upto) = IsParity q
 MayStand s v x q (tells.Notice dead) = Unit {0}
 
 -- what holds of the members of a group

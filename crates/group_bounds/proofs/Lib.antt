@@ -1,0 +1,7 @@
+mod Counts
+mod Sending
+mod Settling
+mod Addressing
+mod Leaving
+mod Deaths
+mod Numbers

@@ -1,0 +1,179 @@
+-- No number rises above that of the events.
+use Rattle.std.proofs.Common.{ℕ, suc, ◌≡◌, ◌≢◌, ◌<◌, ◌≤◌, ◌+◌, ◌%◌, ◌==◌, Bool, true, false, List, [], ◌∷◌, ◌++◌, length, take, All, Option, Some, None, ◌⊎◌, inl, inr, refl, sym, ap, subst, ◌∙◌, if◌then◌else◌, arith}
+use Rattle.std.proofs.lemmas.Bool.{cases_eq}
+use Rattle.std.proofs.lemmas.Grind.{common_steps}
+use Rattle.std.proofs.lemmas.List.{length-append, length-take-le}
+use Rattle.group_types.specs.Dimensions.{Dimensions}
+use Rattle.group_types.specs.Hash.{fnv1a, home_of}
+use Rattle.group_types.specs.Names.{IsProcess}
+use Rattle.group_types.specs.Shape.{IsShape}
+use Rattle.group_types.specs.declared.process.ProcessId.{ProcessId}
+use Rattle.group_types.specs.declared.process.ProcessId.TheVariants.{DataNode, ParityNode}
+use Rattle.group_types.proofs.Names.{same-cases}
+use Rattle.memc_table.specs.Act.{key_of, value_of}
+use Rattle.memc_table.specs.Asked.{Asked}
+use Rattle.group_message.specs.declared.message.Message.{Message}
+use Rattle.group_message.specs.declared.message.Message.TheVariants as tells
+use Rattle.group_message.specs.declared.update.Update.{Update}
+use Rattle.group_calls.specs.Turns.{CallName}
+use Rattle.group_calls.specs.declared.event.Event.{Event}
+use Rattle.group_run.specs.Applying.{ProcessStep, head_at, replica_of}
+use Rattle.group_run.specs.Asking.{update_of}
+use Rattle.group_run.specs.Headline.{IsRun, MayCome}
+use Rattle.group_run.specs.History.{History, no_history, prolonged}
+use Rattle.group_run.specs.Process.{Head, Process}
+use Rattle.group_run.specs.Receiving.{receive}
+use Rattle.group_run.specs.Replica.{Replica, last_of}
+use Rattle.group_run.specs.World.{World, after}
+use Rattle.group_frame.specs.Moves.{Acted, Died, Failed, Moves, Popped, Received, Stays, Treated, Treats}
+use Rattle.group_frame.specs.State.{IsUp, Opens, State, state_of}
+use Rattle.group_frame.proofs.Runs.{runs_move}
+use Rattle.group_members.specs.Members.{Members, Sits, is_notice}
+use Rattle.group_members.proofs.Calls.{seat-head}
+use Rattle.group_members.proofs.Keeping as members
+use Rattle.group_histories.specs.Histories.{HistoryLaws, history}
+use Rattle.group_reach.specs.Issuing.{IssueKeeps}
+use Rattle.group_reach.specs.Reach.{IsKeeper, Reach, ReplicaReaches}
+use Rattle.group_reach.proofs.Keeping as reaching
+use Rattle.group_reach.proofs.Weaker.{reach-weaker}
+use Rattle.group_log.specs.Book.{book_of, booked, no_book}
+use Rattle.group_log.proofs.Books.{book-history, book-shape, book-world, book_always}
+use Rattle.group_bounds.specs.Numbers.{NumbersAreLow, NumbersLowAlways}
+use Rattle.group_bounds.proofs.Leaving.{noticed-last, rests-received, starts-treated}
+
+-- a history of no more than so many updates
+abbrev Short : ℕ → ℕ → ℕ → List Update → Type 0
+Short n d a h = length h ≤ n
+
+short-laws : (n : ℕ) → HistoryLaws (Short n)
+short-laws n = record { start = λ d. omega arith; rises = λ d a b h short low high. short }
+
+-- no last session of a number above this one
+abbrev SessionsLow : Dimensions → ℕ → State → Type 0
+SessionsLow s n v = (p : ProcessId) → IsProcess s p → (v.process p).as_leader.last_session ≤ n
+
+-- what is carried
+record Low (s : Dimensions) (n : ℕ) (v : State) : Type 0 where
+  members : Members s v
+  reach : Reach (Short n) s v
+  sessions : SessionsLow s n v
+
+inside : (a k : ℕ) → 0 < k → a % k < k
+inside a k some = omega (arith, some)
+
+-- where a process heads a partition, it keeps it
+head-keeps : (p : Process) (d : ℕ) (h : Head) (x : ProcessId) → Sits p d x → head_at p d ≡ Some h → IsKeeper d x
+head-keeps p d h (ParityNode i) sits heads = tt
+head-keeps p d h (DataNode e) sits heads = by (cases_eq d e) where
+  seat-if : Bool → Option ℕ
+  seat-if b = if b then Some 0 else None
+
+  by : (d ≡ e) ⊎ (d ≢ e) → e ≡ d
+  by (inl same) = sym same
+  by (inr other) =
+      let not_own : (d == e) ≡ false = grind (arith, common_steps) in
+      let none : seat-if (d == e) ≡ None = ap seat-if not_own in
+      absurd (cc (seat-head p d h heads, sits.0, none))
+
+module _ (s : Dimensions) (shaped : IsShape s) where
+  some : 0 < s.k
+  some = let first = shaped.k.0 in omega (arith, first)
+
+  short-more : (n d a : ℕ) (h : List Update) → Short n d a h → Short (suc n) d a h
+  short-more n d a h short = omega (arith, short)
+
+  -- an update that is issued makes a history longer by one
+  issues-one : (n : ℕ) (v : State) → Low s n v → (p : ProcessId) → IsProcess s p → v.dead p ≡ false → (name : CallName) (op : Asked) → IssueKeeps (Short (suc n)) s v p name op
+  issues-one n v low p pin lives name op h body outcome heads decided =
+      let d : ℕ = home_of (key_of op.act) s.k in
+      let below : d < s.k = inside (fnv1a (key_of op.act)) s.k some in
+      let keeps : IsKeeper d p = head-keeps (v.process p) d h p (low.members.sits p d pin lives below) heads in
+      let reached : ReplicaReaches (Short n) d (v.settled d) (v.process p) = (low.reach d below).replicas p pin lives keeps in
+      let short = reached.fine.1 in
+      let longer = length-append (history (v.settled d) (replica_of (v.process p) d)) (update_of name op d body outcome (v.process p) ∷ []) in
+      omega (arith, short, longer)
+
+  acted-low : (n : ℕ) (v w : State) (p : ProcessId) (t : ProcessStep) → Acted s v w p t → SessionsLow s n v → t.process.as_leader.last_session ≤ suc n → SessionsLow s (suc n) w
+  acted-low n v w p t acts low here y yin = by (same-cases y p) where
+    by : (y ≡ p) ⊎ (y ≢ p) → (w.process y).as_leader.last_session ≤ suc n
+    by (inl same) = let is = ap (λ (q : Process). q.as_leader.last_session) (ap w.process same ∙ acts.process) in omega (arith, is, here)
+    by (inr other) = let is = ap (λ (q : Process). q.as_leader.last_session) (acts.others y yin other) in let was = low y yin in omega (arith, is, was)
+
+  received-low : (n : ℕ) (x : ProcessId) (m : Message) (p : Process) → p.as_leader.last_session ≤ n → (receive s x m p).process.as_leader.last_session ≤ suc n
+  received-low n x m p low = by m (is_notice m) refl where
+    by : (k : Message) (b : Bool) → is_notice k ≡ b → (receive s x k p).process.as_leader.last_session ≤ suc n
+    by k false plain = let same = (rests-received s x k p plain).last in omega (arith, same, low)
+    by (tells.Notice dead) true is = let same = noticed-last s dead p in omega (arith, same, low)
+    by (tells.Update r d un stable) true is = cc is
+    by (tells.Ack r d k) true is = cc is
+    by (tells.Stable r d k) true is = cc is
+    by (tells.Adopt r d base list) true is = cc is
+    by (tells.ReadBlock session block rows) true is = cc is
+    by (tells.Block session bytes k) true is = cc is
+    by (tells.Mark session r block d k) true is = cc is
+    by (tells.Row session bytes stamp) true is = cc is
+    by (tells.Cease upto) true is = cc is
+
+  -- each move raises numbers by one at most
+  moved : (n : ℕ) (v w : State) → Moves s v w → Low s n v → Low s (suc n) w
+  moved n v w (Stays same) low = subst (Low s (suc n)) (sym same) (record {
+    members = low.members;
+    reach = reach-weaker (Short n) (Short (suc n)) (short-more n) s v low.reach;
+    sessions = λ p pin. let was = low.sessions p pin in omega (arith, was);
+  })
+  moved n v w (Treated p t pin up lives treats acts) low = record {
+    members = (members.keeps s shaped).treats v w p t pin up lives treats low.members acts;
+    reach = reaching.treats (Short (suc n)) (short-laws (suc n)) s shaped v w p t pin up lives (λ name op bytes. issues-one n v low p pin lives name op) treats low.members
+        (reach-weaker (Short n) (Short (suc n)) (short-more n) s v low.reach) acts;
+    sessions = acted-low n v w p t acts low.sessions (let one = (starts-treated s (v.process p) t treats).last in let was = low.sessions p pin in omega (arith, one, was));
+  }
+  moved n v w (Received u x p m xin pin apart up lives pops acts) low = record {
+    members = (members.keeps s shaped).receives v u w x p m xin pin apart up lives low.members pops acts;
+    reach = reaching.receives (Short (suc n)) (short-laws (suc n)) s shaped v u w x p m xin pin apart up lives low.members (reach-weaker (Short n) (Short (suc n)) (short-more n) s v low.reach) pops acts;
+    sessions = acted-low n u w p (receive s x m (v.process p)) acts
+        (λ y yin. let is = ap (λ (q : Process). q.as_leader.last_session) (pops.processes y yin) in let was = low.sessions y yin in omega (arith, is, was))
+        (received-low n x m (v.process p) (low.sessions p pin));
+  }
+  moved n v w (Failed p keep pin died) low = record {
+    members = (members.keeps s shaped).dies v w p keep pin low.members died;
+    reach = reaching.dies (Short (suc n)) (short-laws (suc n)) s shaped v w p keep pin (reach-weaker (Short n) (Short (suc n)) (short-more n) s v low.reach) died;
+    sessions = λ y yin. let is = ap (λ (q : Process). q.as_leader.last_session) (died.processes y yin) in let was = low.sessions y yin in omega (arith, is, was);
+  }
+
+  began : (v : State) → Opens s v → Low s 0 v
+  began v starts = record {
+    members = (members.keeps s shaped).opens v starts;
+    reach = reaching.opens (Short 0) (short-laws 0) s shaped v starts;
+    sessions = λ p pin. let is = ap (λ (q : Process). q.as_leader.last_session) (starts.process p pin) in omega (arith, is);
+  }
+
+  -- a replica's last number is the length of its history
+  last-low : (n : ℕ) (v : State) → Low s n v → (p : ProcessId) (d : ℕ) → IsProcess s p → v.dead p ≡ false → d < s.k → IsKeeper d p → last_of (replica_of (v.process p) d) ≤ n
+  last-low n v low p d pin lives below keeps =
+      let r : Replica = replica_of (v.process p) d in
+      let reached : ReplicaReaches (Short n) d (v.settled d) (v.process p) = (low.reach d below).replicas p pin lives keeps in
+      let short = reached.fine.1 in
+      let longer = length-append (take r.applied (v.settled d)) r.log in
+      let applied = length-take-le r.applied (v.settled d) reached.applied in
+      omega (arith, short, longer, applied)
+
+-- along every run
+low-always : (s : Dimensions) (es : List Event) → IsRun s es → Low s (book_of s es).history.world.events (state_of (book_of s es).history)
+low-always s es run = book_always s (λ b. Low s b.history.world.events (state_of b.history)) (began s run.0 (state_of (no_history s)) (runs_move s).opens) next es run where
+  next : (done : List Event) (e : Event) → IsRun s done → IsRun s (done ++ e ∷ []) → MayCome (after s done) e → Low s (book_of s done).history.world.events (state_of (book_of s done).history)
+      → Low s (booked (book_of s done) e).history.world.events (state_of (booked (book_of s done) e).history)
+  next done e ran more may low =
+      moved s ran.0 (book_of s done).history.world.events (state_of (book_of s done).history) (state_of (prolonged (book_of s done).history e))
+      (subst (λ (h : History). Moves s (state_of h) (state_of (prolonged h e))) (sym (book-history (no_book s) done)) ((runs_move s).moves done e ran may)) low
+
+low-in : (s : Dimensions) → IsShape s → (h : History) → h.world.shape ≡ s → Low s h.world.events (state_of h) → NumbersAreLow h.world
+low-in s shaped h shape low = record {
+  at_data = λ d lives. last-low s shaped h.world.events (state_of h) low (DataNode d) d (inside_s (DataNode d) lives.0) lives.1 (inside_s (DataNode d) lives.0) refl;
+  at_parity = λ i d below lives. last-low s shaped h.world.events (state_of h) low (ParityNode i) d (inside_s (ParityNode i) lives.0) lives.1 (subst (λ (t : Dimensions). d < t.k) shape below) tt;
+  sessions = λ p lives. low.sessions p (inside_s p lives.0);
+} where
+  inside_s : (p : ProcessId) → IsProcess h.world.shape p → IsProcess s p
+  inside_s p pin = subst (λ (t : Dimensions). IsProcess t p) shape pin
+
+pub numbers_low_always : NumbersLowAlways
+numbers_low_always s es run = subst NumbersAreLow (book-world s es) (low-in s run.0 (book_of s es).history (book-shape s es) (low-always s es run))

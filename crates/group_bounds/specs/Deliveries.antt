@@ -1,0 +1,48 @@
+-- What comes to a process by its kind, and how many dead a process may learn of.
+use Rattle.std.specs.Prelude.{◌≡◌, ◌≢◌, ◌≤◌, ⊤, List, ◌∷◌}
+use Rattle.group_types.specs.Dimensions.{Dimensions}
+use Rattle.group_types.specs.Names.{IsProcess}
+use Rattle.group_types.specs.declared.process.ProcessId.{ProcessId}
+use Rattle.group_types.specs.declared.process.ProcessId.TheVariants.{DataNode, ParityNode}
+use Rattle.membership.specs.Members.{lost_of, with_dead}
+use Rattle.group_message.specs.declared.message.Message.{Message}
+use Rattle.group_message.specs.declared.message.Message.TheVariants as tells
+use Rattle.group_calls.specs.declared.event.Event.{Event}
+use Rattle.group_run.specs.Headline.{IsRun}
+use Rattle.group_run.specs.Meaning.{IsDown, Lives, link, process_of}
+use Rattle.group_run.specs.World.{World, after}
+
+-- to a data process come acknowledgements, questions for a block, and notices
+abbrev pub IsForData : Message → Type 0
+IsForData (tells.Ack _ _ _) = ⊤
+IsForData (tells.ReadBlock _ _ _) = ⊤
+IsForData (tells.Notice _) = ⊤
+IsForData _ = ⊥
+
+-- to a parity process comes all but questions, and of blocks and rows those of its own sessions
+abbrev pub IsForParity : ProcessId → Message → Type 0
+IsForParity name (tells.ReadBlock _ _ _) = ⊥
+IsForParity name (tells.Block session _ _) = session.leader ≡ name
+IsForParity name (tells.Row session _ _) = session.leader ≡ name
+IsForParity name _ = ⊤
+
+abbrev pub IsFor : ProcessId → Message → Type 0
+IsFor (DataNode d) m = IsForData m
+IsFor (ParityNode i) m = IsForParity (ParityNode i) m
+
+-- the first message of each link into a living process is for it
+abbrev pub FirstsAreFor : Dimensions → World → Type 0
+FirstsAreFor s w = (from to : ProcessId) (m : Message) (rest : List Message) → IsProcess s from → IsProcess s to → from ≢ to → Lives w to → link w from to ≡ m ∷ rest → IsFor to m
+
+-- so it is along every run
+abbrev pub KindsAlways : Type 0
+KindsAlways = (s : Dimensions) (es : List Event) → IsRun s es → FirstsAreFor s (after s es)
+
+-- a living process that receives a notice next knows of no more than m dead then
+abbrev pub KnowsFewDead : Dimensions → World → Type 0
+KnowsFewDead s w = (from to dead : ProcessId) (rest : List Message) → IsProcess s from → IsProcess s to → from ≢ to → Lives w to → link w from to ≡ tells.Notice dead ∷ rest
+    → lost_of (with_dead (process_of w to).known dead) ≤ s.m
+
+-- so it is along every run, while the group isn't down
+abbrev pub FewDeadAlways : Type 0
+FewDeadAlways = (s : Dimensions) (es : List Event) → IsRun s es → ¬ (IsDown (after s es)) → KnowsFewDead s (after s es)

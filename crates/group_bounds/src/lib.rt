@@ -1,0 +1,33 @@
+//! Bounds of every run, for code that runs the machine and makes its room before each step: which messages come to
+//! which process, how many dead a process may learn of, how high numbers rise, and how much one step sends and
+//! settles. It is told of the pure machine; that what comes fits the process is left to the crate of the headline.
+#![tactic(auto)]
+
+ghost use Rattle.group_bounds.specs.Deliveries.{FewDeadAlways, KindsAlways};
+ghost use Rattle.group_bounds.specs.Numbers.{NumbersLowAlways};
+ghost use Rattle.group_bounds.specs.Steps.{AlwaysSendsFew, AlwaysSettlesFew};
+
+/// Every message that is delivered to a living process is of a kind that is for it.
+pub fn kinds_always()
+    ensures { KindsAlways }
+{}
+
+/// While the group isn't down no living process learns of more than m dead.
+pub fn few_dead_always()
+    ensures { FewDeadAlways }
+{}
+
+/// No update and no session has a number above that of the events.
+pub fn numbers_low_always()
+    ensures { NumbersLowAlways }
+{}
+
+/// No step of a process sends more messages to one process than one for each partition, and one.
+pub fn sends_few()
+    ensures { AlwaysSendsFew }
+{}
+
+/// No step of a process settles more updates than wait in its logs, and one that was asked.
+pub fn settles_few()
+    ensures { AlwaysSettlesFew }
+{}
