@@ -1,3 +1,5 @@
+pub mod Followed
+mod Oldest
 mod Whole
 mod Asked
 mod Lists

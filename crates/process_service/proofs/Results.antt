@@ -13,3 +13,7 @@ pub on-ok-all : {T E : Type 0} {A B C : Type 0} {P Q : T → Type 0} (r : Result
     → OnOk r A → OnOk r B → OnOk r C → IfOk r P → IfOk r Q
 on-ok-all (Ok x) from a b c is = from x a b c is
 on-ok-all (Err e) from a b c is = tt
+
+pub on-err-any : {T E : Type 0} {P : Type 0} (r : Result T E) → P → OnErr r P
+on-err-any (Ok x) p = tt
+on-err-any (Err e) p = p

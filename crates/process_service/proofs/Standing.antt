@@ -30,6 +30,12 @@ pub record AreKept (b b2 : Process) : Type 0 where
 pub after-kept : (s : Dimensions) (d : ℕ) (us : List Update) (b : Process) → d < length b.as_leader.rebuilt → AreKept b (bytes_after s d us b)
 after-kept s d us b within = record { name = refl; blocks = blocks-kept s d us b within }
 
+pub after-as : (s : Dimensions) (d : ℕ) (us : List Update) (b b2 : Process) → d < length b.as_leader.rebuilt → b2 ≡ bytes_after s d us b → AreKept b b2
+after-as s d us b b2 within is = subst (AreKept b) (sym is) (after-kept s d us b within)
+
+pub same-as : (b b2 : Process) → b2 ≡ b → AreKept b b2
+same-as b b2 is = subst (AreKept b) (sym is) (record { name = refl; blocks = refl })
+
 pub acts-kept : (s : Dimensions) (d : ℕ) (peers : Peers) (h : Head) (name : CallName) (op : Asked) (r : Replica) (held : List Held) (b : Process) (decision : Decision)
     → d < length b.as_leader.rebuilt → AreKept b (acts s d peers h name op r held b decision).bytes
 acts-kept s d peers h name op r held b (decides.Answer reply) within = record { name = refl; blocks = refl }

@@ -1,3 +1,4 @@
+pub mod Inherited
 pub mod Noticing
 pub mod Standing
 pub mod Steps

@@ -111,6 +111,14 @@ impl Service {
         self.replicas[partition.0 as usize].applied()
     }
 
+    /// The rank under which the process follows a partition.
+    pub fn rank(&self, partition: Partition) -> Rank
+        requires { partition.0 < self.now.shape.k }
+        ensures { result.0 ≡ at 0 self.now.ranks partition.0 }
+    {
+        self.ranks[partition.0 as usize]
+    }
+
     /// Whether no partition has nearly used up its numbers, which is a condition of `ask`.
     pub fn has_numbers(&self) -> bool
         ensures { IsTrue result ↔ All (λ r. last_of r < 2 ^ 62) self.now.replicas }

@@ -1,4 +1,4 @@
-use Rattle.std.proofs.Common.{ℕ, ◌≡◌, ◌<◌}
+use Rattle.std.proofs.Common.{ℕ, ◌<◌}
 use Rattle.group_types.specs.Lists.{at}
 use Rattle.group_run.specs.Replica.{empty_replica, last_of}
 use Rattle.process_service.proofs.service.Service.has_numbers.Given as goal
