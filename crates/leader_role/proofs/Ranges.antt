@@ -17,7 +17,8 @@ module _ (f : ℕ → Bool) (n i : ℕ) (within : i < n) where
   found-if b is = ap (filter f) front ∙ ap (λ (x : Bool). cond x (i ∷ found_from f n (i + 1)) (found_from f n (i + 1))) is
 
   -- the next doesn't pass
-  pub skipped : {X : Type 0} (made : List ℕ → List X) (done all : List X) → f i ≡ false → done ++ made (found_from f n i) ≡ all → done ++ made (found_from f n (i + 1)) ≡ all
+  pub skipped : {X : Type 0} (made : List ℕ → List X) (done all : List X) → f i ≡ false → done ++ made (found_from f n i) ≡ all
+      → done ++ made (found_from f n (i + 1)) ≡ all
   skipped made done all fails is = ap (λ (is : List ℕ). done ++ made is) (sym (found-if false fails)) ∙ is
 
   -- the next passes, and what is made of it is added

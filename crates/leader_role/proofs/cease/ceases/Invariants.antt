@@ -7,6 +7,7 @@ use Rattle.leader_role.proofs.cease.ceases.Given as goal
 
 abbrev pub invariant-parities : goal.invariant-parities
 invariant-parities l = record {
-  told : l.sent.items ++ to_parities (peers_from l.peers.name l.peers.known l.peers.m l.parity) (tells.Cease l.last) ≡ l.initial.sent.items ++ to_all l.peers (tells.Cease l.last);
+  told : l.sent.items ++ to_parities (peers_from l.peers.name l.peers.known l.peers.m l.parity) (tells.Cease l.last)
+      ≡ l.initial.sent.items ++ to_all l.peers (tells.Cease l.last);
   before : take (length l.initial.sent.items) l.sent.items ≡ l.initial.sent.items;
 }
