@@ -78,7 +78,8 @@ enough of_data parity k m few =
 pub some-found : (f : ℕ → Bool) (n a d : ℕ) → a ≤ d → d < a + n → f d ≡ true → 1 ≤ length (filter f (range_with_len a n))
 some-found f zero a d above below passes = absurd (omega (arith, above, below))
 some-found f (suc n) a d above below passes = by (f a) refl (λ above. some-found f n (a + 1) d above (omega (arith, below)) passes) where
-  by : (b : Bool) → f a ≡ b → (a + 1 ≤ d → 1 ≤ length (filter f (range_with_len (a + 1) n))) → 1 ≤ length (cond b (a ∷ filter f (range_with_len (a + 1) n)) (filter f (range_with_len (a + 1) n)))
+  by : (b : Bool) → f a ≡ b → (a + 1 ≤ d → 1 ≤ length (filter f (range_with_len (a + 1) n)))
+      → 1 ≤ length (cond b (a ∷ filter f (range_with_len (a + 1) n)) (filter f (range_with_len (a + 1) n)))
   by true here later = omega arith
   by false there later =
       let other : d ≢ a = λ same. cc (sym there ∙ ap f (sym same) ∙ passes) in

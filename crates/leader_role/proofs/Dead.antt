@@ -48,7 +48,8 @@ all-still f g turns (x ∷ xs) all =
 pub vacant-still : (known : Membership) (dead : ProcessId) (d number : ℕ) → IsVacant known d number → IsVacant (with_dead known dead) d number
 vacant-still known dead d number vacant = record {
   lost = knows-still known dead (DataNode d) vacant.lost;
-  lower = all-still (λ j. knows_dead known (ParityNode j)) (λ j. knows_dead (with_dead known dead) (ParityNode j)) (λ j. knows-still known dead (ParityNode j)) (range_with_len 0 number) vacant.lower;
+  lower = all-still (λ j. knows_dead known (ParityNode j)) (λ j. knows_dead (with_dead known dead) (ParityNode j))
+      (λ j. knows-still known dead (ParityNode j)) (range_with_len 0 number) vacant.lower;
 }
 
 -- what a process takes over is vacant

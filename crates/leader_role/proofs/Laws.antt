@@ -1,5 +1,5 @@
 -- A parity process can lead from the start, and after every step.
-use Rattle.std.proofs.Common.{ℕ, ◌≡◌, ◌+◌, ◌<◌, ◌≤◌, nat_le, Bool, true, false, List, [], ◌∷◌, find, length, Option, Some, None, is_some, All, Contains, refl, sym, ap, subst, ◌∙◌, arith}
+use Rattle.std.proofs.Common.{ℕ, ◌≡◌, ◌+◌, ◌<◌, nat_le, Bool, true, false, List, [], ◌∷◌, find, length, Option, Some, None, is_some, Contains, refl, sym, ap, ◌∙◌, arith}
 use Rattle.std.proofs.lemmas.List.Elements.{All-nil}
 use Rattle.std.specs.List.{range_with_len}
 use Rattle.group_types.specs.Dimensions.{Dimensions, space_of}
@@ -9,7 +9,6 @@ use Rattle.group_types.specs.Shape.{IsShape}
 use Rattle.group_types.specs.declared.process.ProcessId.{ProcessId}
 use Rattle.group_types.specs.declared.process.ProcessId.TheVariants.{DataNode, ParityNode}
 use Rattle.group_types.proofs.Lists.{at-replicate}
-use Rattle.membership.specs.Members.{Membership, knows_dead, lost_of, with_dead}
 use Rattle.memc_table.specs.Act.{key_of}
 use Rattle.memc_table.specs.Asked.{Asked}
 use Rattle.group_calls.specs.Turns.{CallName}
@@ -19,23 +18,24 @@ use Rattle.group_message.specs.declared.message.Message.{Message}
 use Rattle.group_message.specs.declared.message.Message.TheVariants as tells
 use Rattle.group_message.specs.declared.message.Session.{Session}
 use Rattle.group_message.specs.declared.update.Update.{Update}
-use Rattle.group_run.specs.Applying.{ProcessStep, apply_to, for_each, head_at, held_at, quiet, replica_of, with_replica}
+use Rattle.group_run.specs.Applying.{ProcessStep, apply_to, head_at, held_at, quiet, replica_of, with_replica}
 use Rattle.group_run.specs.Asking.{act_on, ask_head, ask_process, collect_from, collect_held, found_at, handed_out, is_call, issued, oldest_inherited, ticketed, update_of}
 use Rattle.group_run.specs.Deciding.{decide}
-use Rattle.group_run.specs.Fitting.{Fits, NoticeFits}
+use Rattle.group_run.specs.Fitting.{Fits}
 use Rattle.group_run.specs.Heading.{judge}
 use Rattle.group_run.specs.Leaders as leaders
 use Rattle.group_run.specs.Leaders.{close_sessions, rows_of}
-use Rattle.group_run.specs.Process.{Gathering, Head, Held, Process, opening_process}
-use Rattle.group_run.specs.Receiving.{ack_to, death_known, log_adopted, notice_comes, read_comes, receive, take_over_if, update_taken}
+use Rattle.group_run.specs.Process.{Head, Held, Process, opening_process}
+use Rattle.group_run.specs.Receiving.{ack_to, log_adopted, read_comes, receive, update_taken}
 use Rattle.group_run.specs.Replica.{with_update}
 use Rattle.group_run.specs.Rows.{parity_number}
 use Rattle.block_sessions.specs.Opened.{AreLost}
 use Rattle.leader_role.specs.Laws.{SoundCanStart, StaysSound}
 use Rattle.leader_role.specs.Sound.{FewDead, IsSound, IsVacant}
-use Rattle.leader_role.proofs.Dead.{knows-other, shape-stays, vacant-still}
+use Rattle.leader_role.proofs.Coming.{block-stays, mark-stays, row-stays}
+use Rattle.leader_role.proofs.Noticed.{noticed-sound}
 use Rattle.leader_role.proofs.Opening.{itself-a-row, lost-and-rows, retried-sound}
-use Rattle.leader_role.proofs.Steps.{Stays, acknowledge-stays, block-stays, each-sound, judge-stays, mark-stays, row-stays, sound-stays, stays-alike, stays-each, stays-self, stays-then, stays-when, takes-sound}
+use Rattle.leader_role.proofs.Steps.{Stays, acknowledge-stays, judge-stays, sound-stays, stays-alike, stays-self, stays-then, stays-when}
 
 module _ (s : Dimensions) where
   pub opening : (i : ℕ) → IsShape s → i < s.m → IsSound s (opening_process s (ParityNode i))
@@ -83,7 +83,8 @@ module _ (s : Dimensions) where
       let at_once : Bool = nat_le u.number (replica_of step.process d).applied in
       sound-stays s p (ticketed at_once d u step).step.process (ticketed-stays at_once d u p step (issued-stays d h u p)) sound
 
-  head-asked : (name : CallName) (op : Asked) (d : ℕ) (p : Process) (o : Option Head) → head_at p d ≡ o → d < s.k → IsSound s p → IsSound s (ask_head s name op d p o).step.process
+  head-asked : (name : CallName) (op : Asked) (d : ℕ) (p : Process) (o : Option Head) → head_at p d ≡ o → d < s.k → IsSound s p
+      → IsSound s (ask_head s name op d p o).step.process
   head-asked name op d p None there inside sound = sound
   head-asked name op d p (Some h) there inside sound =
       acted-sound name op d h p (decide (space_of s) h.inherited (replica_of p d) op (found_at s d p p.name)) sound (among-rows p d h sound there inside)
@@ -105,60 +106,23 @@ module _ (s : Dimensions) where
     by None rest = rest
     by (Some h) rest = sound-stays s p _ (handed (nat_le h.number (replica_of p d).applied) h) sound
 
-  -- a process that knows of one death more, and has no session open
-  record IsBereaved (dead : ProcessId) (p q : Process) : Type 0 where
-    pub name : q.name ≡ p.name
-    pub known : q.known ≡ with_dead p.known dead
-    pub heads : q.heads ≡ p.heads
-    pub sessions : q.as_leader.sessions ≡ []
-
-  bereaved-sound : (dead : ProcessId) (p q : Process) → IsBereaved dead p q → NoticeFits s p dead → lost_of (with_dead p.known dead) ≤ s.m → IsSound s p → IsSound s q
-  bereaved-sound dead p q is fits few sound = record {
-    limits = sound.limits;
-    named = (sound.named.0, is.name ∙ sound.named.1, sound.named.2);
-    shape = ap (λ (known : Membership). known.shape) is.known ∙ shape-stays p.known dead ∙ sound.shape;
-    few = subst (λ (known : Membership). lost_of known ≤ s.m) (sym is.known) few;
-    living = ap (knows_dead q.known) is.name ∙ ap (λ (known : Membership). knows_dead known p.name) is.known ∙ knows-other p.known dead p.name fits.other ∙ sound.living;
-    heads = λ d heads.
-        let before : is_some (head_at p d) ≡ true = ap (λ (hs : List (Option Head)). is_some (at None hs d)) (sym is.heads) ∙ heads in
-        subst (λ (known : Membership). IsVacant known d (parity_number q.name)) (sym is.known)
-        (subst (λ (name : ProcessId). IsVacant (with_dead p.known dead) d (parity_number name)) (sym is.name)
-        (vacant-still p.known dead d (parity_number p.name) (sound.heads d before)));
-    rows = subst (λ (gs : List Gathering). All (λ g. Contains g.rows (parity_number q.name)) gs) (sym is.sessions) (All-nil (λ g. Contains g.rows (parity_number q.name)));
-  }
-
-  closed-bereaved : (dead : ProcessId) (p q : Process) (gs : List Gathering) → q.name ≡ p.name → q.known ≡ with_dead p.known dead → q.heads ≡ p.heads → q.as_leader.sessions ≡ gs
-      → IsBereaved dead p (close_sessions s gs q).process
-  closed-bereaved dead p q [] name known heads sessions = record { name = name; known = known; heads = heads; sessions = sessions }
-  closed-bereaved dead p q (g ∷ gs) name known heads sessions = record { name = name; known = known; heads = heads; sessions = refl }
-
-  death-bereaved : (dead : ProcessId) (p : Process) → IsBereaved dead p (close_sessions s (death_known dead p).as_leader.sessions (death_known dead p)).process
-  death-bereaved (DataNode d) p = closed-bereaved (DataNode d) p (death_known (DataNode d) p) p.as_leader.sessions refl refl refl refl
-  death-bereaved (ParityNode i) p = closed-bereaved (ParityNode i) p (death_known (ParityNode i) p) p.as_leader.sessions refl refl refl refl
-
-  noticed-sound : (dead : ProcessId) (p : Process) → IsSound s p → NoticeFits s p dead → lost_of (with_dead p.known dead) ≤ s.m → IsSound s (notice_comes s dead p).process
-  noticed-sound dead p sound fits few =
-      let q : Process = death_known dead p in
-      let closed : Process = (close_sessions s q.as_leader.sessions q).process in
-      let judged : Process = (for_each (range_with_len 0 s.k) (judge s) closed).process in
-      each-sound s (take_over_if s) (λ d x is. takes-sound s d x is) (range_with_len 0 s.k) judged
-      (sound-stays s closed judged (stays-each (judge s) (λ d x. judge-stays s d x) (range_with_len 0 s.k) closed)
-      (bereaved-sound dead p closed (death-bereaved dead p) fits few sound))
-
   read-stays : (session : Session) (block : ℕ) (rows : List ℕ) (p : Process) (name : ProcessId) → Stays p (read_comes s session block rows p name).process
   read-stays session block rows p (DataNode d) = stays-self p
   read-stays session block rows p (ParityNode i) = stays-self p
 
   -- a message that comes
-  pub received-sound : (from : ProcessId) (message : Message) (p : Process) → IsSound s p → Fits s from message p → FewDead s message p → IsSound s (receive s from message p).process
+  pub received-sound : (from : ProcessId) (message : Message) (p : Process) → IsSound s p → Fits s from message p → FewDead s message p
+      → IsSound s (receive s from message p).process
   received-sound from (tells.Update r d u stable) p sound fits few =
-      sound-stays s p _ (stays-when (nat_le (at 0 p.ranks d.0) r.0) p (ack_to from r.0 d.0 u.number (update_taken s d.0 u stable p)) (stays-alike p _ refl refl refl refl)) sound
+      let step : ProcessStep = ack_to from r.0 d.0 u.number (update_taken s d.0 u stable p) in
+      sound-stays s p _ (stays-when (nat_le (at 0 p.ranks d.0) r.0) p step (stays-alike p _ refl refl refl refl)) sound
   received-sound (DataNode e) (tells.Ack r d n) p sound fits few = sound
   received-sound (ParityNode i) (tells.Ack r d n) p sound fits few = sound-stays s p _ (acknowledge-stays s i r.0 d.0 n p (head_at p d.0) refl) sound
   received-sound from (tells.Stable r d n) p sound fits few =
       sound-stays s p _ (stays-when (nat_le (at 0 p.ranks d.0) r.0) p (quiet (apply_to s d.0 n p)) (stays-alike p _ refl refl refl refl)) sound
   received-sound from (tells.Adopt r d base list) p sound fits few =
-      sound-stays s p _ (stays-when (nat_le (at 0 p.ranks d.0) r.0) p (ack_to from r.0 d.0 (base + length list) (log_adopted s r.0 d.0 base list p)) (stays-alike p _ refl refl refl refl)) sound
+      let step : ProcessStep = ack_to from r.0 d.0 (base + length list) (log_adopted s r.0 d.0 base list p) in
+      sound-stays s p _ (stays-when (nat_le (at 0 p.ranks d.0) r.0) p step (stays-alike p _ refl refl refl refl)) sound
   received-sound from (tells.ReadBlock session block rows) p sound fits few = sound-stays s p _ (read-stays session block rows p p.name) sound
   received-sound (DataNode e) (tells.Block session bytes n) p sound fits few = sound-stays s p _ (block-stays s e session.number bytes p) sound
   received-sound (ParityNode i) (tells.Block session bytes n) p sound fits few = sound
@@ -168,7 +132,7 @@ module _ (s : Dimensions) where
   received-sound (ParityNode i) (tells.Row session bytes stamp) p sound fits few = sound-stays s p _ (row-stays s i session.number bytes p) sound
   received-sound (DataNode e) (tells.Cease upto) p sound fits few = sound
   received-sound (ParityNode i) (tells.Cease upto) p sound fits few = sound-stays s p _ (stays-alike p _ refl refl refl refl) sound
-  received-sound from (tells.Notice dead) p sound fits few = noticed-sound dead p sound fits few
+  received-sound from (tells.Notice dead) p sound fits few = noticed-sound s dead p sound fits few
 
 pub stays_sound : (s : Dimensions) → StaysSound s
 stays_sound s = record {

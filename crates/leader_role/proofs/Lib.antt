@@ -1,6 +1,8 @@
 mod Dead
 mod Counting
 mod Steps
+mod Coming
 mod Opening
+mod Noticed
 pub mod Laws
 mod Ranges

@@ -15,7 +15,8 @@ use Rattle.group_run.specs.Rows.{parity_number}
 use Rattle.block_sessions.specs.Opened.{AreLost}
 use Rattle.leader_role.specs.Sound.{IsSound, IsVacant}
 use Rattle.leader_role.proofs.Counting.{below-filter, enough, first-left, front-taken, rising-filter, rising-take, some-found}
-use Rattle.leader_role.proofs.Steps.{mark-stays, sound-stays, stays-each}
+use Rattle.leader_role.proofs.Coming.{mark-stays}
+use Rattle.leader_role.proofs.Steps.{sound-stays, stays-each}
 
 module _ (s : Dimensions) (p : Process) (sound : IsSound s p) where
   abbrev left : List ℕ

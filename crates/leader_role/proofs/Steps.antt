@@ -1,21 +1,17 @@
 -- The steps of a process that let it lead: each leaves its name, whom it knows to be dead, and what it heads, or
 -- takes over what is vacant; and its sessions keep their rows.
-use Rattle.std.proofs.Common.{ℕ, suc, ◌≡◌, ◌≢◌, ◌≤◌, ◌==◌, ◌⊎◌, Bool, true, false, not, List, [], ◌∷◌, Option, Some, None, is_some, find, cond, if◌then◌else◌, All, Contains, inl, inr, refl, sym, ap, subst, ◌∙◌}
+use Rattle.std.proofs.Common.{ℕ, suc, ◌≡◌, ◌≢◌, ◌≤◌, ◌==◌, ◌⊎◌, Bool, true, false, List, [], ◌∷◌, Option, Some, None, is_some, All, Contains, inl, inr, refl, sym, ap, subst, ◌∙◌}
 use Rattle.std.proofs.lemmas.Bool.{cases_eq}
-use Rattle.std.proofs.lemmas.List.Elements.{All-filter, All-head, All-map, All-tail, All-weaker}
 use Rattle.group_types.specs.Dimensions.{Dimensions}
 use Rattle.group_types.specs.Lists.{at, put}
-use Rattle.group_types.specs.Names.{same_process}
 use Rattle.group_types.specs.declared.process.ProcessId.{ProcessId}
-use Rattle.group_types.specs.declared.process.ProcessId.TheVariants.{ParityNode}
 use Rattle.group_types.proofs.Lists.{at-put, at-put-other}
 use Rattle.membership.specs.Members.{Membership, knows_dead, lost_of}
-use Rattle.group_run.specs.Applying.{ProcessStep, apply_to, for_each, head_at, when, with_head}
+use Rattle.group_run.specs.Applying.{ProcessStep, for_each, head_at, when, with_head}
 use Rattle.group_run.specs.Heading.{acknowledge, acknowledged, judge, judge_head}
-use Rattle.group_run.specs.Leaders.{block_comes, block_gathered, copy_kept, copy_marked, gathered_when, is_complete, mark_comes, mark_taken, open_session, rebuilt_block, rebuilt_unless, row_comes, row_finished, row_gathered, with_decoded, without_session}
-use Rattle.group_run.specs.Process.{Copy, Gathering, Head, LeaderState, Process}
+use Rattle.group_run.specs.Process.{Gathering, Head, Process}
 use Rattle.group_run.specs.Receiving.{enthroned, take_over_if, taken_over, takes_over}
-use Rattle.group_run.specs.Rows.{accepts_mark, begin_copy, copy_begun, copy_in, is_marked, marked, parity_number, with_copies, without_copy}
+use Rattle.group_run.specs.Rows.{parity_number}
 use Rattle.leader_role.specs.Sound.{IsSound, IsVacant}
 use Rattle.leader_role.proofs.Dead.{taken-vacant}
 
@@ -72,7 +68,8 @@ module _ (s : Dimensions) where
     few_of : (known : Membership) → known ≡ p.known → lost_of known ≤ s.m
     few_of known is = subst (λ (x : Membership). lost_of x ≤ s.m) (sym is) sound.few
 
-    vacant_of : (d : ℕ) (known : Membership) (name : ProcessId) → known ≡ p.known → name ≡ p.name → IsVacant p.known d (parity_number p.name) → IsVacant known d (parity_number name)
+    vacant_of : (d : ℕ) (known : Membership) (name : ProcessId) → known ≡ p.known → name ≡ p.name → IsVacant p.known d (parity_number p.name)
+        → IsVacant known d (parity_number name)
     vacant_of d known name is named vacant =
         subst (λ (x : Membership). IsVacant x d (parity_number name)) (sym is) (subst (λ (x : ProcessId). IsVacant p.known d (parity_number x)) (sym named) vacant)
 
@@ -101,82 +98,6 @@ module _ (s : Dimensions) where
       let q : Process = with_head d (Some (acknowledged i n h)) p in
       stays-when (r == h.rank) p (judge s d q) (stays-then p q (judge s d q).process (head-stays d h (acknowledged i n h) p there) (judge-stays d q))
 
-  -- what is decoded leaves the sessions
-  decoded-sessions : (g : Gathering) (ls : List ℕ) (state : LeaderState) → (with_decoded s g ls state).sessions ≡ state.sessions
-  decoded-sessions g [] state = refl
-  decoded-sessions g (l ∷ ls) state =
-      decoded-sessions g ls (rebuilt_unless (is_some (rebuilt_block state l g.block)) s g l state) ∙ unless (is_some (rebuilt_block state l g.block))
-    where
-      unless : (b : Bool) → (rebuilt_unless b s g l state).sessions ≡ state.sessions
-      unless true = refl
-      unless false = refl
-
-  -- what comes in leaves the others
-  gathered-rowed : (i : ℕ) (complete : Bool) (g : Gathering) (state : LeaderState) → Contains g.rows i → AreRowed i state.sessions → AreRowed i (gathered_when complete s g state).sessions
-  gathered-rowed i true g state mine all =
-      subst (AreRowed i) (sym (decoded-sessions g g.lost (record state { sessions = without_session g.number state.sessions })))
-      (All-filter (λ x. not (x.number == g.number)) (λ x. Contains x.rows i) state.sessions all)
-  gathered-rowed i false g state mine all =
-      All-map (λ x. Contains x.rows i) (λ x. if x.number == g.number then g else x) state.sessions
-      (All-weaker (λ x. Contains x.rows i) (λ x. Contains (if x.number == g.number then g else x).rows i) (λ x has. by (x.number == g.number) x has) state.sessions all)
-    where
-      by : (b : Bool) (x : Gathering) → Contains x.rows i → Contains (if b then g else x).rows i
-      by true x has = mine
-      by false x has = has
-
-  -- the session that is found is one of them
-  found-rowed : (i number : ℕ) (gs : List Gathering) (g : Gathering) → find (λ x. x.number == number) gs ≡ Some g → AreRowed i gs → Contains g.rows i
-  found-rowed i number [] g found all = absurd (cc found)
-  found-rowed i number (x ∷ xs) g found all =
-      by (x.number == number) found (λ there. found-rowed i number xs g there (All-tail (λ y. Contains y.rows i) x xs all)) where
-        by : (b : Bool) → cond b (Some x) (find (λ y. y.number == number) xs) ≡ Some g → (find (λ y. y.number == number) xs ≡ Some g → Contains g.rows i) → Contains g.rows i
-        by true here later = let same : x ≡ g = cc here in subst (λ (y : Gathering). Contains y.rows i) same (All-head (λ y. Contains y.rows i) x xs all)
-        by false there later = later there
-
-  pub row-stays : (j number : ℕ) (bytes : List ℕ) (p : Process) → Stays p (row_comes s number j bytes p)
-  row-stays j number bytes p = record { name = refl; known = refl; seats = λ d. refl; rows = λ i all. by i (open_session p.as_leader number) refl all } where
-    by : (i : ℕ) (o : Option Gathering) → open_session p.as_leader number ≡ o → AreRowed i p.as_leader.sessions → AreRowed i (row_gathered s j bytes o p.as_leader).sessions
-    by i None found all = all
-    by i (Some g) found all =
-        let more : Gathering = record g { rows_in = put None g.rows_in j (Some bytes) } in
-        gathered-rowed i (is_complete s more) more p.as_leader (found-rowed i number p.as_leader.sessions g found all) all
-
-  pub block-stays : (e number : ℕ) (bytes : List ℕ) (p : Process) → Stays p (block_comes s number e bytes p)
-  block-stays e number bytes p = record { name = refl; known = refl; seats = λ d. refl; rows = λ i all. by i (open_session p.as_leader number) refl all } where
-    by : (i : ℕ) (o : Option Gathering) → open_session p.as_leader number ≡ o → AreRowed i p.as_leader.sessions → AreRowed i (block_gathered s e bytes o p.as_leader).sessions
-    by i None found all = all
-    by i (Some g) found all =
-        let more : Gathering = record g { blocks_in = put None g.blocks_in e (Some bytes) } in
-        gathered-rowed i (is_complete s more) more p.as_leader (found-rowed i number p.as_leader.sessions g found all) all
-
-  -- a row takes a mark
-  finished-stays : (own : Bool) (c : Copy) (p : Process) → Stays p (row_finished own s c p).process
-  finished-stays true c p = row-stays c.leader c.number c.bytes p
-  finished-stays false c p = stays-self p
-
-  kept-stays : (complete : Bool) (c : Copy) (p : Process) → Stays p (copy_kept complete s c p).process
-  kept-stays true c p =
-      let q : Process = with_copies (without_copy c.leader c.number p.as_row.copies) p in
-      let own : Bool = same_process p.name (ParityNode c.leader) in
-      stays-then p q (row_finished own s c q).process (stays-alike p q refl refl refl refl) (finished-stays own c q)
-  kept-stays false c p = stays-alike p _ refl refl refl refl
-
-  marked-stays : (d n : ℕ) (o : Option Copy) (p : Process) → Stays p (copy_marked s d n o p).process
-  marked-stays d n None p = stays-self p
-  marked-stays d n (Some c) p = kept-stays (is_marked s (marked d n c)) (marked d n c) p
-
-  begun-stays : (begun : Bool) (l number block : ℕ) (p : Process) → Stays p (copy_begun begun s l number block p)
-  begun-stays true l number block p = stays-self p
-  begun-stays false l number block p = stays-alike p _ refl refl refl refl
-
-  pub mark-stays : (l number r block d n : ℕ) (p : Process) → Stays p (mark_comes s l number r block d n p).process
-  mark-stays l number r block d n p =
-      let begun : Process = begin_copy s l number block p in
-      let q : Process = apply_to s d n begun in
-      let to_q : Stays p q = stays-then p begun q (begun-stays (is_some (copy_in p.as_row.copies l number)) l number block p) (stays-alike begun q refl refl refl refl) in
-      stays-when (accepts_mark p l number r d) p (mark_taken s l number block d n p)
-      (stays-then p q (copy_marked s d n (copy_in q.as_row.copies l number) q).process to_q (marked-stays d n (copy_in q.as_row.copies l number) q))
-
   -- a partition is taken over where it is vacant
   enthroned-sound : (r d : ℕ) (p : Process) → IsVacant p.known d (parity_number p.name) → IsSound s p → IsSound s (enthroned s r d p)
   enthroned-sound r d p vacant sound = record {
@@ -201,6 +122,7 @@ module _ (s : Dimensions) where
     by true takes = sound-stays q (judge s d q).process (judge-stays d q) (enthroned-sound (suc (parity_number p.name)) d p (taken-vacant p d p.name takes) sound)
     by false takes = sound
 
-  pub each-sound : (f : ℕ → Process → ProcessStep) → ((x : ℕ) (q : Process) → IsSound s q → IsSound s (f x q).process) → (xs : List ℕ) (p : Process) → IsSound s p → IsSound s (for_each xs f p).process
+  pub each-sound : (f : ℕ → Process → ProcessStep) → ((x : ℕ) (q : Process) → IsSound s q → IsSound s (f x q).process) → (xs : List ℕ) (p : Process) → IsSound s p
+      → IsSound s (for_each xs f p).process
   each-sound f each [] p sound = sound
   each-sound f each (x ∷ xs) p sound = each-sound f each xs (f x p).process (each x p sound)

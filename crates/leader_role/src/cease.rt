@@ -1,6 +1,5 @@
-ghost use Rattle.std.specs.Prelude.{◌≡◌, ◌++◌, OnOk};
+ghost use Rattle.std.specs.Prelude.{◌≡◌, ◌++◌, length, take, OnOk};
 ghost use Rattle.group_message.specs.declared.message.Message.TheVariants as tells;
-ghost use Rattle.group_run.specs.Heading.{to_others};
 ghost use Rattle.head_service.specs.Peers.{to_all};
 
 use group_message::Message;
@@ -10,7 +9,8 @@ use std::alloc::AllocError;
 
 /// Tells the other parity processes that the leader's sessions up to a number are closed.
 pub fn ceases(peers: &Peers, last: u64, sent: &mut Vec<Sent>) -> Result<(), AllocError>
-    ensures { OnOk result (sent.new.items ≡ sent.old.items ++ to_all peers.now (tells.Cease last)) }
+    ensures told { OnOk result (sent.new.items ≡ sent.old.items ++ to_all peers.now (tells.Cease last)) }
+    ensures before { take (length sent.old.items) sent.new.items ≡ sent.old.items }
 {
     'parities: for parity in 0..peers.m {
         if !peers.has(parity) {

@@ -1,7 +1,7 @@
 ghost use Rattle.std.specs.Prelude.{◌≡◌, length, IfOk};
 ghost use Rattle.group_run.specs.Leaders.{lost_of, rows_of};
 ghost use Rattle.group_run.specs.Process.{Process};
-ghost use Rattle.leader_role.specs.Starting.{dead_data, living_parity};
+ghost use Rattle.leader_role.specs.Starting.{living_parity};
 
 use group_types::{ProcessId, Shape};
 use membership::Members;
@@ -11,7 +11,14 @@ use std::alloc::{AllocError, Global};
 pub fn lost(alloc: Global, shape: Shape, known: &Members) -> Result<Vec<u32>, AllocError>
     ensures { IfOk result (λ lost. (p : Process) → p.known ≡ known.now → lost.items ≡ lost_of shape p) }
 {
-    dead_data(alloc, shape, known)
+    let mut dead = Vec::new(alloc);
+    'partitions: for d in 0..shape.k() {
+        if !known.is_dead(ProcessId::DataNode(d)) {
+            continue;
+        }
+        dead.push(d)?;
+    }
+    Ok(dead)
 }
 
 /// The rows of a session: of the parity processes that aren't known dead the lowest, as many as are lost.
@@ -26,19 +33,6 @@ pub fn rows(
     let mut rows = living_parity(alloc, shape, known)?;
     rows.truncate(lost);
     Ok(rows)
-}
-
-fn dead_data(alloc: Global, shape: Shape, known: &Members) -> Result<Vec<u32>, AllocError>
-    ensures { IfOk result (λ lost. lost.items ≡ dead_data shape known.now) }
-{
-    let mut dead = Vec::new(alloc);
-    'partitions: for d in 0..shape.k() {
-        if !known.is_dead(ProcessId::DataNode(d)) {
-            continue;
-        }
-        dead.push(d)?;
-    }
-    Ok(dead)
 }
 
 fn living_parity(alloc: Global, shape: Shape, known: &Members) -> Result<Vec<u32>, AllocError>

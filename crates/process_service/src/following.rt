@@ -5,6 +5,7 @@ ghost use Rattle.group_run.specs.Receiving.{adopt_comes, stable_comes, update_co
 ghost use Rattle.group_run.specs.Replica.{empty_replica};
 ghost use Rattle.head_service.specs.Serving.{serving};
 ghost use Rattle.process_service.specs.Standing.{IsBeneath};
+ghost use Rattle.process_service.specs.Steps.{stepped};
 
 use crate::acks::{ack_to, reach};
 use crate::service::Service;
@@ -37,7 +38,7 @@ impl Service {
         ensures name { self.new.name ≡ self.old.name }
         ensures beneath { IsBeneath self.new (B.shape below.new) (B.process below.new) (B.is_ready below.new) }
         ensures step { IfOk result (λ step. update_comes self.old.shape from rank.0 partition.0 update.now stable (serving self.old (B.process below.old))
-            ≡ record { process = serving self.new (B.process below.new); sent = step.sent.items; settled = step.settled.items }) }
+            ≡ stepped (serving self.new (B.process below.new)) step) }
         ensures self_err { OnErr result (self.new ≡ self.old) }
         ensures bytes_err { OnErr result (B.process below.new ≡ B.process below.old) }
     {
@@ -65,7 +66,7 @@ impl Service {
         ensures name { self.new.name ≡ self.old.name }
         ensures beneath { IsBeneath self.new (B.shape below.new) (B.process below.new) (B.is_ready below.new) }
         ensures step { IfOk result (λ step. stable_comes self.old.shape rank.0 partition.0 number (serving self.old (B.process below.old))
-            ≡ record { process = serving self.new (B.process below.new); sent = step.sent.items; settled = step.settled.items }) }
+            ≡ stepped (serving self.new (B.process below.new)) step) }
         ensures self_err { OnErr result (self.new ≡ self.old) }
         ensures bytes_err { OnErr result (B.process below.new ≡ B.process below.old) }
     {
@@ -96,7 +97,7 @@ impl Service {
         ensures name { self.new.name ≡ self.old.name }
         ensures beneath { IsBeneath self.new (B.shape below.new) (B.process below.new) (B.is_ready below.new) }
         ensures step { IfOk result (λ step. adopt_comes self.old.shape from rank.0 partition.0 base list.now (serving self.old (B.process below.old))
-            ≡ record { process = serving self.new (B.process below.new); sent = step.sent.items; settled = step.settled.items }) }
+            ≡ stepped (serving self.new (B.process below.new)) step) }
         ensures self_err { OnErr result (self.new ≡ self.old) }
         ensures bytes_err { OnErr result (B.process below.new ≡ B.process below.old) }
     {

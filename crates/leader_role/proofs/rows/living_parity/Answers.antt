@@ -9,7 +9,8 @@ pub parities-preserved-then-is_dead : goal.parities-preserved-then-is_dead
 parities-preserved-then-is_dead c =
     let within : c.parities.i < c.args.shape.m = omega (arith, c.parities-test.true, c.m-i-end.ensures.value) in
     skipped (λ (i : ℕ). not (knows_dead c.args.known.now (ParityNode i))) c.args.shape.m c.parities.i within
-    (λ (is : List ℕ). is) c.parities.living.items (living_parity c.args.shape c.args.known.now) (ap not (sym c.is_dead.ensures ∙ c.if-is_dead.true)) c.parities.invariant
+    (λ (is : List ℕ). is) c.parities.living.items (living_parity c.args.shape c.args.known.now)
+    (ap not (sym c.is_dead.ensures ∙ c.if-is_dead.true)) c.parities.invariant
 
 pub parities-preserved : goal.parities-preserved
 parities-preserved c =

@@ -11,7 +11,8 @@ partitions-preserved-then-is_dead c =
     let within : c.partitions.d < c.args.shape.k = omega (arith, c.partitions-test.true, c.k-d-end.ensures.value) in
     skipped (λ (d : ℕ). not (knows_dead c.args.known.now (DataNode d))) c.args.shape.k c.partitions.d within
     (λ (ds : List ℕ). map (read_of c.args.self.now c.args.rows.now) ds) c.partitions.sent.items
-    (c.args.sent.now.items ++ reads c.args.self.now c.args.shape c.args.known.now c.args.rows.now) (ap not (sym c.is_dead.ensures ∙ c.if-is_dead.true)) c.partitions.invariant
+    (c.args.sent.now.items ++ reads c.args.self.now c.args.shape c.args.known.now c.args.rows.now)
+    (ap not (sym c.is_dead.ensures ∙ c.if-is_dead.true)) c.partitions.invariant
 
 pub partitions-preserved : goal.partitions-preserved
 partitions-preserved c =
@@ -19,6 +20,7 @@ partitions-preserved c =
     added (λ (d : ℕ). not (knows_dead c.args.known.now (DataNode d))) c.args.shape.k c.partitions.d within
     (λ (ds : List ℕ). map (read_of c.args.self.now c.args.rows.now) ds) c.partitions.sent.items c.push.new.self.items
     (read_of c.args.self.now c.args.rows.now c.partitions.d ∷ [])
-    (c.args.sent.now.items ++ reads c.args.self.now c.args.shape c.args.known.now c.args.rows.now) (ap not (sym c.is_dead.ensures ∙ c.if-is_dead.false))
+    (c.args.sent.now.items ++ reads c.args.self.now c.args.shape c.args.known.now c.args.rows.now)
+    (ap not (sym c.is_dead.ensures ∙ c.if-is_dead.false))
     (c.in_ok-push.ensures.items ∙ ap (λ (m : Message). c.partitions.sent.items ++ record { to = DataNode c.partitions.d; message = m } ∷ []) c.in_ok-message.ensures)
     refl c.partitions.invariant
