@@ -19,12 +19,12 @@ pub record Holding : Type 0 where
 abbrev pub process_of : Dimensions → ℕ → List ℕ → RowState → LeaderState → Process
 process_of s number bytes row leader = record (opening_process s (ParityNode number)) { space = bytes; as_row = row; as_leader = leader }
 
--- what no message changes: the shape, the pages, whose process it is, and that it has blocks of each partition
+-- what no message changes: the shape, the pages, whose process it is, and how many partitions have blocks
 pub record Stays (old new : Holding) : Type 0 where
   pub shape : new.shape ≡ old.shape
   pub made : new.made ≡ old.made
   pub name : new.process.name ≡ old.process.name
-  pub partitions : length new.process.as_leader.rebuilt ≡ old.shape.k
+  pub partitions : length new.process.as_leader.rebuilt ≡ length old.process.as_leader.rebuilt
 
 -- an update of partition d can be added: d is one of the group, and the pages of what it writes are made
 abbrev pub IsReady : Holding → ℕ → Update → Type 0

@@ -22,6 +22,7 @@ impl Sessions {
         requires known { IfSome (open_session self.old.state number) (λ g. ¬ (Contains g.lost d)) }
         ensures shape { self.new.shape ≡ self.old.shape }
         ensures state { self.new.state ≡ block_gathered self.old.shape d bytes.now (open_session self.old.state number) self.old.state }
+        ensures partitions { length self.new.state.rebuilt ≡ length self.old.state.rebuilt }
     {
         if let Some(place) = place_of(&self.sessions, number) {
             self.sessions[place].known.put(d, bytes.bytes());
@@ -36,6 +37,7 @@ impl Sessions {
         requires awaited { IfSome (open_session self.old.state number) (λ g. Contains g.rows i) }
         ensures shape { self.new.shape ≡ self.old.shape }
         ensures state { self.new.state ≡ row_gathered self.old.shape i bytes.now (open_session self.old.state number) self.old.state }
+        ensures partitions { length self.new.state.rebuilt ≡ length self.old.state.rebuilt }
     {
         if let Some(place) = place_of(&self.sessions, number) {
             self.sessions[place].coded.put(i, bytes);

@@ -24,9 +24,8 @@ impl ParityBytes {
             ≡ session_begun self.old.shape (parity_number self.old.process.name) block lost.items rows.items self.old.process) }
         ensures err { OnErr result (self.new ≡ self.old) }
     {
-        let number = self.sessions.last() + 1;
         let blank = blank_for(self.shape, block, &self.space, &mut self.rows)?;
-        self.sessions.start(block, lost, rows)?;
+        let number = self.sessions.start(block, lost, rows)?;
         begin_own(self.number, number, block, blank, &mut self.rows);
         Ok(number)
     }

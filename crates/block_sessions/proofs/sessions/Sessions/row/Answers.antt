@@ -1,6 +1,6 @@
-use Rattle.std.proofs.Common.{◌≡◌, ◌<◌, List, Option, None, Some, IfSome, Contains, length, set, get_or, ap, sym, subst, ◌∙◌, arith}
+use Rattle.std.proofs.Common.{◌≡◌, ◌<◌, List, Option, None, Some, IfSome, Contains, length, map, set, get_or, ap, sym, subst, ◌∙◌, arith}
 use Rattle.std.specs.Prelude.{position}
-use Rattle.std.proofs.lemmas.List.{with_items_is}
+use Rattle.std.proofs.lemmas.List.{length-map, with_items_is}
 use Rattle.page_map.specs.Pages.{Contents}
 use Rattle.group_types.specs.Lists.{put}
 use Rattle.group_run.specs.Leaders.{row_gathered, gathered, open_session}
@@ -8,6 +8,7 @@ use Rattle.group_run.specs.Process.{Gathering}
 use Rattle.block_sessions.specs.declared.session.OpenSession.{OpenSession}
 use Rattle.block_sessions.specs.Leading.{AreParts, Leading, state_of}
 use Rattle.block_sessions.specs.Opened.{gathering_of}
+use Rattle.block_sessions.specs.Rebuilt.{rebuilt_in}
 use Rattle.block_sessions.proofs.Coming.{row_in, row_parts, has_number, row_there, none_open}
 use Rattle.block_sessions.proofs.sessions.Sessions.row.Goals as goal
 
@@ -90,3 +91,15 @@ returns-in_default-clause-state c =
     let none : None ≡ position (has_number c.args.number) sessions = c.in_default.ensures ∙ ap (position (has_number c.args.number)) c.deref.ensures.value in
     let closed : open_session c.args.self.now.state c.args.number ≡ None = ap (λ (l : Leading). open_session l.state c.args.number) (sym c.self.view_is) ∙ none_open c.args.number sessions none in
     sym (ap (λ (o : Option Gathering). row_gathered c.args.self.now.shape c.args.i c.args.bytes.now o c.args.self.now.state) closed)
+
+pub returns-in-Some-clause-partitions : goal.returns-in-Some-clause-partitions
+returns-in-Some-clause-partitions c =
+    let pages = c.self.inside.rebuilt.items in
+    let new = c.gather.new.rebuilt in
+    let whole : length new ≡ c.self.inside.rebuilt.len = omega (arith, c.gather.auto.rebuilt, c.deref_mut.ensures.len) in
+    ap (λ (ps : List Contents). length (map rebuilt_in ps)) (with_items_is c.self.inside.rebuilt new whole)
+    ∙ length-map new rebuilt_in
+    ∙ c.gather.auto.rebuilt
+    ∙ ap length c.deref_mut.ensures.value
+    ∙ sym (length-map pages rebuilt_in)
+    ∙ ap (λ (l : Leading). length l.state.rebuilt) c.self.view_is
