@@ -19,8 +19,8 @@ use Rattle.group_run.specs.Meaning.{IsDown}
 use Rattle.group_run.specs.Process.{Process}
 use Rattle.group_run.specs.Receiving.{receive}
 use Rattle.group_run.specs.World.{World, dead_nodes}
-use Rattle.group_frame.specs.Moves.{Acted, Died, Keeps, Popped, Treats}
-use Rattle.group_frame.specs.State.{IsUp, Opens, State, lost_in, state_of}
+use Rattle.group_frame.specs.Moves.{Acted, Keeps, Popped}
+use Rattle.group_frame.specs.State.{State, lost_in, state_of}
 use Rattle.group_frame.proofs.Events.{FramedHistory, lost-nodes}
 use Rattle.group_frame.proofs.Known.{known-notice}
 use Rattle.group_frame.proofs.Runs.{framed-from, framed-opening, holds_always, shape-from, world-from}
@@ -184,5 +184,5 @@ few_dead_always s es run = subst (λ (w : World). ¬ (IsDown w) → KnowsFewDead
       let framed = framed-from (no_history s) es (framed-opening s) run.1 in
       let most = few-lost s (history_of s es) (shape-from (no_history s) es) framed up in
       let known = few-known s (state_of (history_of s es)) (with_dead ((state_of (history_of s es)).process to).known dead)
-          (all-known s (state_of (history_of s es)) both.0 both.1 from to dead rest fin tin apart lives.1 first) in
+      (all-known s (state_of (history_of s es)) both.0 both.1 from to dead rest fin tin apart lives.1 first) in
       omega (arith, most, known)

@@ -4,4 +4,5 @@ mod Settling
 mod Addressing
 mod Leaving
 mod Deaths
+mod Elsewhere
 mod Numbers

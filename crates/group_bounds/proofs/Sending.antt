@@ -1,5 +1,5 @@
 -- What one step sends to one process.
-use Rattle.std.proofs.Common.{ℕ, zero, suc, ◌≡◌, ◌≢◌, ◌<◌, ◌≤◌, ◌+◌, ◌*◌, ◌==◌, nat_le, Bool, true, false, not, ◌&&◌, List, [], ◌∷◌, ◌++◌, length, map, filter, flat_map, find, AllPairs, Option, Some, None, refl, sym, ap, subst, ◌∙◌, arith, cond}
+use Rattle.std.proofs.Common.{ℕ, suc, ◌≡◌, ◌≢◌, ◌<◌, ◌≤◌, ◌+◌, ◌*◌, ◌==◌, nat_le, Bool, true, false, not, ◌&&◌, List, [], ◌∷◌, ◌++◌, length, map, filter, flat_map, find, AllPairs, Option, Some, None, refl, sym, ap, ◌∙◌, arith, cond}
 use Rattle.std.proofs.lemmas.Grind.{common_steps}
 use Rattle.std.proofs.lemmas.List.FromFn.{length-range_with_len}
 use Rattle.std.specs.Prelude.{is_some}
@@ -8,7 +8,6 @@ use Rattle.group_types.specs.Dimensions.{Dimensions, space_of}
 use Rattle.group_types.specs.Hash.{home_of}
 use Rattle.group_types.specs.Lists.{at}
 use Rattle.group_types.specs.Names.{same_process}
-use Rattle.group_types.specs.Shape.{IsShape}
 use Rattle.group_types.specs.declared.process.ProcessId.{ProcessId}
 use Rattle.group_types.specs.declared.process.ProcessId.TheVariants.{DataNode, ParityNode}
 use Rattle.group_types.specs.declared.run.Run.{Run}
@@ -23,18 +22,18 @@ use Rattle.group_message.specs.declared.update.Update.{Update}
 use Rattle.group_calls.specs.Turns.{CallName}
 use Rattle.group_calls.specs.declared.decision.Decision.{Decision}
 use Rattle.group_calls.specs.declared.decision.Decision.TheVariants as decides
-use Rattle.group_run.specs.Applying.{ProcessStep, Sent, and_then, apply_to, for_each, head_at, held_at, quiet, replica_of, sending, when, with_head, with_replica}
-use Rattle.group_run.specs.Asking.{Oldest, act_on, ask_head, collect_from, collect_held, found_at, handed_out, is_call, issue, issued, oldest_inherited, retry_block, ticketed, update_of}
+use Rattle.group_run.specs.Applying.{ProcessStep, Sent, apply_to, for_each, head_at, held_at, quiet, replica_of, when, with_head, with_replica}
+use Rattle.group_run.specs.Asking.{Oldest, act_on, ask_head, collect_from, collect_held, found_at, handed_out, is_call, issued, oldest_inherited, retry_block, ticketed, update_of}
 use Rattle.group_run.specs.Deciding.{Missing, decide}
 use Rattle.group_run.specs.Fitting.{Fits}
-use Rattle.group_run.specs.Heading.{acknowledge, acknowledged, judge, judge_head, other_parities, partition, rank, tell_stable, tell_stables, to_others, to_parities}
+use Rattle.group_run.specs.Heading.{acknowledge, acknowledged, judge, judge_head, other_parities, partition, rank, tell_stable, tell_stables, to_others}
 use Rattle.group_run.specs.Leaders.{close_sessions, copy_kept, copy_marked, leader_marks, left_of, lost_of, mark_comes, mark_taken, own_mark, row_finished, rows_of, session_of, session_opened, session_starts, start_session}
 use Rattle.group_run.specs.Process.{Copy, Gathering, Head, Held, Process}
 use Rattle.group_run.specs.Receiving.{ack_to, data_marks, death_known, enthroned, log_adopted, notice_comes, read_comes, receive, take_over_if, taken_over, takes_over, update_taken}
 use Rattle.group_run.specs.Replica.{Replica, with_update}
 use Rattle.group_run.specs.Rows.{accepts_mark, begin_copy, block_in, copy_begun, copy_in, is_copy, is_marked, marked, parity_number, stamp_of, with_copies, without_copy}
 use Rattle.group_reach.proofs.Deciding.{RestsWell, decides-well}
-use Rattle.group_bounds.specs.Steps.{AlwaysSendsFew, FewForEach, SendsFew}
+use Rattle.group_bounds.specs.Steps.{AlwaysSendsFew}
 use Rattle.group_bounds.proofs.Counts.{count-append, count-datas, count-flat, count-one, count-parities, count_to, length-filtered, once-differing, once-range, times, times-filtered, times-taken}
 
 -- the other parity processes, each once

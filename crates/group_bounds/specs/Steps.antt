@@ -7,7 +7,7 @@ use Rattle.group_types.specs.declared.process.ProcessId.{ProcessId}
 use Rattle.memc_table.specs.Asked.{Asked}
 use Rattle.group_message.specs.declared.message.Message.{Message}
 use Rattle.group_calls.specs.Turns.{CallName}
-use Rattle.group_run.specs.Applying.{ProcessStep, Sent}
+use Rattle.group_run.specs.Applying.{Sent}
 use Rattle.group_run.specs.Asking.{ask_process, collect_from}
 use Rattle.group_run.specs.Fitting.{Fits}
 use Rattle.group_run.specs.Process.{Process}
