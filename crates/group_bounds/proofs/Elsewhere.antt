@@ -1,5 +1,5 @@
 -- Only a partition that a process keeps gets updates there.
-use Rattle.std.proofs.Common.{ℕ, ◌≡◌, ◌≢◌, ◌<◌, ◌≤◌, ◌+◌, ◌==◌, nat_le, Bool, true, false, not, List, [], ◌∷◌, length, find, Option, Some, None, ◌⊎◌, inl, inr, refl, sym, ap, subst, ◌∙◌, if◌then◌else◌, arith}
+use Rattle.std.proofs.Common.{ℕ, ◌≡◌, ◌≢◌, ◌<◌, ◌+◌, ◌==◌, nat_le, Bool, true, false, not, List, [], ◌∷◌, length, find, Option, Some, None, ◌⊎◌, inl, inr, refl, sym, ap, subst, ◌∙◌, if◌then◌else◌, arith}
 use Rattle.std.proofs.lemmas.Bool.{cases_eq}
 use Rattle.std.proofs.lemmas.Grind.{common_steps}
 use Rattle.std.specs.List.{list_any, range_with_len}
@@ -74,7 +74,8 @@ module _ (s : Dimensions) (d : ℕ) where
   ticketed-last true e u t = refl
   ticketed-last false e u t = refl
 
-  act-last : (x : ProcessId) (name : CallName) (op : Asked) (e : ℕ) (h : Head) (p : Process) → Keeps s x e → (decision : Decision) → KeepsOr s x d p (act_on s name op e h p decision).step.process
+  act-last : (x : ProcessId) (name : CallName) (op : Asked) (e : ℕ) (h : Head) (p : Process) → Keeps s x e → (decision : Decision)
+      → KeepsOr s x d p (act_on s name op e h p decision).step.process
   act-last x name op e h p keeps (decides.Answer reply) = inr refl
   act-last x name op e h p keeps (decides.Retry n) = inr refl
   act-last x name op e h p keeps decides.NoSpace = inr refl
@@ -90,9 +91,11 @@ module _ (s : Dimensions) (d : ℕ) where
     by (inl same) = inl (subst (Keeps s x) (sym same) keeps)
     by (inr other) =
         let q : Process = with_replica e (with_update u (replica_of p e)) p in
-        inr (ticketed-last (nat_le u.number (replica_of t.process e).applied) e u t ∙ (plain-judge s d e q).last ∙ other-replica p e (with_update u (replica_of p e)) other)
+        inr (ticketed-last (nat_le u.number (replica_of t.process e).applied) e u t ∙ (plain-judge s d e q).last ∙ other-replica p e
+        (with_update u (replica_of p e)) other)
 
-  ask-last : (x : ProcessId) (name : CallName) (op : Asked) (e : ℕ) (p : Process) → ((h : Head) → head_at p e ≡ Some h → Keeps s x e) → (o : Option Head) → head_at p e ≡ o
+  ask-last : (x : ProcessId) (name : CallName) (op : Asked) (e : ℕ) (p : Process) → ((h : Head) → head_at p e ≡ Some h → Keeps s x e) → (o : Option Head)
+      → head_at p e ≡ o
       → KeepsOr s x d p (ask_head s name op e p o).step.process
   ask-last x name op e p keeps None heads = inr refl
   ask-last x name op e p keeps (Some h) heads = act-last x name op e h p (keeps h heads) (decide (space_of s) h.inherited (replica_of p e) op (found_at s e p p.name))
@@ -109,10 +112,12 @@ module _ (s : Dimensions) (d : ℕ) where
     by None rest = rest
     by (Some h) rest = handed (nat_le h.number (replica_of p e).applied) h
 
-  pub treated-last : (x : ProcessId) (p : Process) (t : ProcessStep) → ((e : ℕ) (h : Head) → e < s.k → head_at p e ≡ Some h → IsKeeper e x) → ((op : Asked) → home_of (key_of op.act) s.k < s.k)
+  pub treated-last : (x : ProcessId) (p : Process) (t : ProcessStep) → ((e : ℕ) (h : Head) → e < s.k → head_at p e ≡ Some h → IsKeeper e x)
+      → ((op : Asked) → home_of (key_of op.act) s.k < s.k)
       → Treats s p t → KeepsOr s x d p t.process
   treated-last x p t keeps below (Asks name op bytes) =
-      ask-last x name op (home_of (key_of op.act) s.k) p (λ h heads. (keeps (home_of (key_of op.act) s.k) h (below op) heads, below op)) (head_at p (home_of (key_of op.act) s.k)) refl
+      ask-last x name op (home_of (key_of op.act) s.k) p (λ h heads. (keeps (home_of (key_of op.act) s.k) h (below op) heads, below op))
+      (head_at p (home_of (key_of op.act) s.k)) refl
   treated-last x p t keeps below (Collects caller call) = inr (collect-last caller call p (range_with_len 0 s.k))
   treated-last x p t keeps below Flushes = inr refl
 
@@ -127,11 +132,13 @@ module _ (s : Dimensions) (d : ℕ) where
     by true = (plain-judge s d e q).last
     by false = refl
 
-  read-last : (session : Session) (block : ℕ) (rows : List ℕ) (p : Process) (name : ProcessId) → last_of (replica_of (read_comes s session block rows p name).process d) ≡ last_of (replica_of p d)
+  read-last : (session : Session) (block : ℕ) (rows : List ℕ) (p : Process) (name : ProcessId)
+      → last_of (replica_of (read_comes s session block rows p name).process d) ≡ last_of (replica_of p d)
   read-last session block rows p (ParityNode i) = refl
   read-last session block rows p (DataNode e) = refl
 
-  update-last : (x : ProcessId) (from : ProcessId) (r e : ℕ) (u : Update) (stable : ℕ) (p : Process) → Keeps s x e → (b : Bool) → KeepsOr s x d p (when b p (ack_to from r e u.number (update_taken s e u stable p))).process
+  update-last : (x : ProcessId) (from : ProcessId) (r e : ℕ) (u : Update) (stable : ℕ) (p : Process) → Keeps s x e → (b : Bool)
+      → KeepsOr s x d p (when b p (ack_to from r e u.number (update_taken s e u stable p))).process
   update-last x from r e u stable p keeps false = inr refl
   update-last x from r e u stable p keeps true = by (cases_eq d e) where
     q : Process
@@ -141,7 +148,8 @@ module _ (s : Dimensions) (d : ℕ) where
     by (inl same) = inl (subst (Keeps s x) (sym same) keeps)
     by (inr other) = inr (other-replica q e (with_update u (replica_of q e)) other ∙ (plain-apply s d e stable p).last)
 
-  adopt-last : (x : ProcessId) (from : ProcessId) (r e base : ℕ) (list : List Update) (p : Process) → Keeps s x e → (b : Bool) → KeepsOr s x d p (when b p (ack_to from r e (base + length list) (log_adopted s r e base list p))).process
+  adopt-last : (x : ProcessId) (from : ProcessId) (r e base : ℕ) (list : List Update) (p : Process) → Keeps s x e → (b : Bool)
+      → KeepsOr s x d p (when b p (ack_to from r e (base + length list) (log_adopted s r e base list p))).process
   adopt-last x from r e base list p keeps false = inr refl
   adopt-last x from r e base list p keeps true = by (cases_eq d e) where
     q : Process

@@ -1,5 +1,7 @@
 mod Counts
 mod Sending
+mod Starting
+mod Inside
 mod Settling
 mod Addressing
 mod Leaving

@@ -1,5 +1,5 @@
 -- No number rises above that of the events.
-use Rattle.std.proofs.Common.{ℕ, suc, ◌≡◌, ◌≢◌, ◌<◌, ◌≤◌, ◌%◌, ◌==◌, Bool, true, false, List, [], ◌∷◌, ◌++◌, length, take, All, Option, Some, None, ◌⊎◌, inl, inr, refl, sym, ap, subst, ◌∙◌, if◌then◌else◌, arith}
+use Rattle.std.proofs.Common.{ℕ, suc, ◌≡◌, ◌≢◌, ◌<◌, ◌≤◌, ◌%◌, Bool, true, false, List, [], ◌∷◌, ◌++◌, length, take, All, Option, Some, None, ◌⊎◌, inl, inr, refl, sym, ap, subst, ◌∙◌, arith}
 use Rattle.std.proofs.lemmas.Bool.{cases_eq}
 use Rattle.std.proofs.lemmas.List.{length-append, length-take-le}
 use Rattle.std.specs.Prelude.{slice_index_or}
@@ -9,7 +9,6 @@ use Rattle.group_types.specs.Lists.{at, put}
 use Rattle.group_types.specs.Names.{IsProcess}
 use Rattle.group_types.specs.Shape.{IsShape}
 use Rattle.group_types.specs.declared.process.ProcessId.{ProcessId}
-use Rattle.group_types.specs.declared.process.ProcessId.TheVariants.{DataNode, ParityNode}
 use Rattle.group_types.proofs.Lists.{at-put, at-put-other, at-replicate, at_index}
 use Rattle.group_types.proofs.Names.{same-cases}
 use Rattle.memc_table.specs.Act.{key_of}
@@ -76,7 +75,8 @@ module _ (s : Dimensions) (shaped : IsShape s) where
   short-more n d a h short = omega (arith, short)
 
   -- an update that is issued makes a history longer by one
-  issues-one : (n : ℕ) (v : State) → Low s n v → (p : ProcessId) → IsProcess s p → v.dead p ≡ false → (name : CallName) (op : Asked) → IssueKeeps (Short (suc n)) s v p name op
+  issues-one : (n : ℕ) (v : State) → Low s n v → (p : ProcessId) → IsProcess s p → v.dead p ≡ false → (name : CallName) (op : Asked)
+      → IssueKeeps (Short (suc n)) s v p name op
   issues-one n v low p pin lives name op h body outcome heads decided =
       let d : ℕ = home_of (key_of op.act) s.k in
       let below : d < s.k = inside (fnv1a (key_of op.act)) s.k some in
@@ -86,7 +86,8 @@ module _ (s : Dimensions) (shaped : IsShape s) where
       let longer = length-append (history (v.settled d) (replica_of (v.process p) d)) (update_of name op d body outcome (v.process p) ∷ []) in
       omega (arith, short, longer)
 
-  acted-low : (n : ℕ) (v w : State) (p : ProcessId) (t : ProcessStep) → Acted s v w p t → SessionsLow s n v → t.process.as_leader.last_session ≤ suc n → SessionsLow s (suc n) w
+  acted-low : (n : ℕ) (v w : State) (p : ProcessId) (t : ProcessStep) → Acted s v w p t → SessionsLow s n v → t.process.as_leader.last_session ≤ suc n
+      → SessionsLow s (suc n) w
   acted-low n v w p t acts low here y yin = by (same-cases y p) where
     by : (y ≡ p) ⊎ (y ≢ p) → (w.process y).as_leader.last_session ≤ suc n
     by (inl same) = let is = ap (λ (q : Process). q.as_leader.last_session) (ap w.process same ∙ acts.process) in omega (arith, is, here)
@@ -108,7 +109,8 @@ module _ (s : Dimensions) (shaped : IsShape s) where
     by (tells.Cease upto) true is = cc is
 
   -- elsewhere nothing comes
-  acted-elsewhere : (v w : State) (p : ProcessId) (t : ProcessStep) → Acted s v w p t → EmptyElsewhere s v → ((d : ℕ) → KeepsOr s p d (v.process p) t.process) → EmptyElsewhere s w
+  acted-elsewhere : (v w : State) (p : ProcessId) (t : ProcessStep) → Acted s v w p t → EmptyElsewhere s v → ((d : ℕ) → KeepsOr s p d (v.process p) t.process)
+      → EmptyElsewhere s w
   acted-elsewhere v w p t acts empty here y yin living d = by (same-cases y p) (empty y yin (sym (acts.dead y yin) ∙ living) d) where
     by : (y ≡ p) ⊎ (y ≢ p) → Keeps s y d ⊎ (last_of (replica_of (v.process y) d) ≡ 0) → Keeps s y d ⊎ (last_of (replica_of (w.process y) d) ≡ 0)
     by which (inl keeps) = inl keeps
@@ -121,7 +123,8 @@ module _ (s : Dimensions) (shaped : IsShape s) where
           let before = ap (λ (z : ProcessId). last_of (replica_of (v.process z) d)) same in
           inr (now ∙ last ∙ sym before ∙ none)
 
-  keeps-own : (v : State) → Members s v → (p : ProcessId) → IsProcess s p → v.dead p ≡ false → (e : ℕ) (h : Head) → e < s.k → head_at (v.process p) e ≡ Some h → IsKeeper e p
+  keeps-own : (v : State) → Members s v → (p : ProcessId) → IsProcess s p → v.dead p ≡ false → (e : ℕ) (h : Head) → e < s.k → head_at (v.process p) e ≡ Some h
+      → IsKeeper e p
   keeps-own v held p pin lives e h below heads = head-keeps (v.process p) e h p (held.sits p e pin lives below) heads
 
   -- each move raises numbers by one at most
@@ -134,17 +137,21 @@ module _ (s : Dimensions) (shaped : IsShape s) where
   })
   moved n v w (Treated p t pin up lives treats acts) low = record {
     members = (members.keeps s shaped).treats v w p t pin up lives treats low.members acts;
-    reach = reaching.treats (Short (suc n)) (short-laws (suc n)) s shaped v w p t pin up lives (λ name op bytes. issues-one n v low p pin lives name op) treats low.members
+    reach = reaching.treats (Short (suc n)) (short-laws (suc n)) s shaped v w p t pin up lives
+        (λ name op bytes. issues-one n v low p pin lives name op) treats low.members
         (reach-weaker (Short n) (Short (suc n)) (short-more n) s v low.reach) acts;
     elsewhere = acted-elsewhere v w p t acts low.elsewhere
         (λ d. treated-last s d p (v.process p) t (keeps-own v low.members p pin lives) (λ op. inside (fnv1a (key_of op.act)) s.k some) treats);
-    sessions = acted-low n v w p t acts low.sessions (let one = (starts-treated s (v.process p) t treats).last in let was = low.sessions p pin in omega (arith, one, was));
+    sessions = acted-low n v w p t acts low.sessions
+        (let one = (starts-treated s (v.process p) t treats).last in let was = low.sessions p pin in omega (arith, one, was));
   }
   moved n v w (Received u x p m xin pin apart up lives pops acts) low = record {
     members = (members.keeps s shaped).receives v u w x p m xin pin apart up lives low.members pops acts;
-    reach = reaching.receives (Short (suc n)) (short-laws (suc n)) s shaped v u w x p m xin pin apart up lives low.members (reach-weaker (Short n) (Short (suc n)) (short-more n) s v low.reach) pops acts;
+    reach = reaching.receives (Short (suc n)) (short-laws (suc n)) s shaped v u w x p m xin pin apart up lives low.members
+        (reach-weaker (Short n) (Short (suc n)) (short-more n) s v low.reach) pops acts;
     elsewhere = acted-elsewhere u w p (receive s x m (v.process p)) acts
-        (λ y yin living d. subst (λ (q : Process). Keeps s y d ⊎ (last_of (replica_of q d) ≡ 0)) (sym (pops.processes y yin)) (low.elsewhere y yin (sym (pops.dead y yin) ∙ living) d))
+        (λ y yin living d. subst (λ (q : Process). Keeps s y d ⊎ (last_of (replica_of q d) ≡ 0)) (sym (pops.processes y yin))
+        (low.elsewhere y yin (sym (pops.dead y yin) ∙ living) d))
         (λ d. subst (λ (q : Process). KeepsOr s p d q (receive s x m (v.process p)).process) (sym (pops.processes p pin))
         (received-last s d v p x m (v.process p) (subst (Each (MayStand s v x p)) pops.first (low.members.may x p xin pin apart lives)).0));
     sessions = acted-low n u w p (receive s x m (v.process p)) acts
@@ -154,7 +161,8 @@ module _ (s : Dimensions) (shaped : IsShape s) where
   moved n v w (Failed p keep pin died) low = record {
     members = (members.keeps s shaped).dies v w p keep pin low.members died;
     reach = reaching.dies (Short (suc n)) (short-laws (suc n)) s shaped v w p keep pin (reach-weaker (Short n) (Short (suc n)) (short-more n) s v low.reach) died;
-    elsewhere = λ y yin living d. subst (λ (q : Process). Keeps s y d ⊎ (last_of (replica_of q d) ≡ 0)) (sym (died.processes y yin)) (low.elsewhere y yin (lived y yin living) d);
+    elsewhere = λ y yin living d. subst (λ (q : Process). Keeps s y d ⊎ (last_of (replica_of q d) ≡ 0)) (sym (died.processes y yin))
+        (low.elsewhere y yin (lived y yin living) d);
     sessions = λ y yin. let is = ap (λ (q : Process). q.as_leader.last_session) (died.processes y yin) in let was = low.sessions y yin in omega (arith, is, was);
   } where
     lived : (y : ProcessId) → IsProcess s y → w.dead y ≡ false → v.dead y ≡ false
@@ -172,7 +180,8 @@ module _ (s : Dimensions) (shaped : IsShape s) where
   }
 
   -- a replica's last number is the length of its history
-  last-low : (n : ℕ) (v : State) → Low s n v → (p : ProcessId) (d : ℕ) → IsProcess s p → v.dead p ≡ false → d < s.k → IsKeeper d p → last_of (replica_of (v.process p) d) ≤ n
+  last-low : (n : ℕ) (v : State) → Low s n v → (p : ProcessId) (d : ℕ) → IsProcess s p → v.dead p ≡ false → d < s.k → IsKeeper d p
+      → last_of (replica_of (v.process p) d) ≤ n
   last-low n v low p d pin lives below keeps =
       let r : Replica = replica_of (v.process p) d in
       let reached : ReplicaReaches (Short n) d (v.settled d) (v.process p) = (low.reach d below).replicas p pin lives keeps in
@@ -208,16 +217,19 @@ record LowIn (s : Dimensions) (h : History) : Type 0 where
   calls : (caller : ℕ) → at 0 h.world.asked caller ≤ h.world.events
 
 low-always : (s : Dimensions) (es : List Event) → IsRun s es → LowIn s (book_of s es).history
-low-always s es run = book_always s (λ b. LowIn s b.history) (record { state = began s run.0 (state_of (no_history s)) (runs_move s).opens; calls = none }) next es run where
-  none : (caller : ℕ) → at 0 (no_history s).world.asked caller ≤ 0
-  none caller = let is : at 0 (no_history s).world.asked caller ≡ 0 = at-replicate 0 callers caller in omega (arith, is)
+low-always s es run = book_always s (λ b. LowIn s b.history)
+    (record { state = began s run.0 (state_of (no_history s)) (runs_move s).opens; calls = none }) next es run where
+      none : (caller : ℕ) → at 0 (no_history s).world.asked caller ≤ 0
+      none caller = let is : at 0 (no_history s).world.asked caller ≡ 0 = at-replicate 0 callers caller in omega (arith, is)
 
-  next : (done : List Event) (e : Event) → IsRun s done → IsRun s (done ++ e ∷ []) → MayCome (after s done) e → LowIn s (book_of s done).history → LowIn s (booked (book_of s done) e).history
-  next done e ran more may low = record {
-    state = moved s ran.0 (book_of s done).history.world.events (state_of (book_of s done).history) (state_of (prolonged (book_of s done).history e))
-        (subst (λ (h : History). Moves s (state_of h) (state_of (prolonged h e))) (sym (book-history (no_book s) done)) ((runs_move s).moves done e ran may)) low.state;
-    calls = λ caller. asks-more (book_of s done).history.world.asked (call_of (book_of s done).history.world e) caller (book_of s done).history.world.events (low.calls caller);
-  }
+      next : (done : List Event) (e : Event) → IsRun s done → IsRun s (done ++ e ∷ []) → MayCome (after s done) e → LowIn s (book_of s done).history
+          → LowIn s (booked (book_of s done) e).history
+      next done e ran more may low = record {
+        state = moved s ran.0 (book_of s done).history.world.events (state_of (book_of s done).history) (state_of (prolonged (book_of s done).history e))
+            (subst (λ (h : History). Moves s (state_of h) (state_of (prolonged h e))) (sym (book-history (no_book s) done)) ((runs_move s).moves done e ran may)) low.state;
+        calls = λ caller. asks-more (book_of s done).history.world.asked (call_of (book_of s done).history.world e) caller (book_of s done).history.world.events
+            (low.calls caller);
+      }
 
 low-in : (s : Dimensions) → IsShape s → (h : History) → h.world.shape ≡ s → LowIn s h → NumbersAreLow h.world
 low-in s shaped h shape low = record {

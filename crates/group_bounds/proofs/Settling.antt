@@ -144,11 +144,13 @@ module _ (s : Dimensions) where
       omega (arith, same, whole)
 
   receive-few : (x : ProcessId) (m : Message) (p : Process) → length (receive s x m p).settled ≤ waiting p.replicas
-  receive-few x (tells.Update r d u stable) p = few-none p _ (none-when (nat_le (at 0 p.ranks d.0) r.0) p (ack_to x r.0 d.0 u.number (update_taken s d.0 u stable p)) refl)
+  receive-few x (tells.Update r d u stable) p = few-none p _
+      (none-when (nat_le (at 0 p.ranks d.0) r.0) p (ack_to x r.0 d.0 u.number (update_taken s d.0 u stable p)) refl)
   receive-few (DataNode e) (tells.Ack r d n) p = omega arith
   receive-few (ParityNode i) (tells.Ack r d n) p = acknowledge-few i r.0 d.0 n (head_at p d.0) p
   receive-few x (tells.Stable r d n) p = few-none p _ (none-when (nat_le (at 0 p.ranks d.0) r.0) p (quiet (apply_to s d.0 n p)) refl)
-  receive-few x (tells.Adopt r d base list) p = few-none p _ (none-when (nat_le (at 0 p.ranks d.0) r.0) p (ack_to x r.0 d.0 (base + length list) (log_adopted s r.0 d.0 base list p)) refl)
+  receive-few x (tells.Adopt r d base list) p = few-none p _
+      (none-when (nat_le (at 0 p.ranks d.0) r.0) p (ack_to x r.0 d.0 (base + length list) (log_adopted s r.0 d.0 base list p)) refl)
   receive-few x (tells.ReadBlock session block rows) p = few-none p _ (read-none p session block rows p.name)
   receive-few (DataNode e) (tells.Block session bytes n) p = omega arith
   receive-few (ParityNode i) (tells.Block session bytes n) p = omega arith
@@ -164,7 +166,8 @@ module _ (s : Dimensions) where
   start-none block p =
       let leader : ℕ = parity_number p.name in
       let number : ℕ = suc p.as_leader.last_session in
-      none-each (lost_of s p) (own_mark s leader number block) (session_opened s number block p) (λ l r. mark-none leader number (at 0 r.ranks l) block l (replica_of r l).applied r)
+      none-each (lost_of s p) (own_mark s leader number block) (session_opened s number block p)
+      (λ l r. mark-none leader number (at 0 r.ranks l) block l (replica_of r l).applied r)
 
   retry-none : (block : ℕ) (o : Option Oldest) (p : Process) → (retry_block s block o p).step.settled ≡ []
   retry-none block (Some o) p = refl
@@ -182,7 +185,8 @@ module _ (s : Dimensions) where
       let longer = length-append (replica_of p d).log (u ∷ []) in
       omega (arith, most, put_in, longer)
 
-  act-few : (name : CallName) (op : Asked) (d : ℕ) (h : Head) (p : Process) (decision : Decision) → length (act_on s name op d h p decision).step.settled ≤ suc (waiting p.replicas)
+  act-few : (name : CallName) (op : Asked) (d : ℕ) (h : Head) (p : Process) (decision : Decision)
+      → length (act_on s name op d h p decision).step.settled ≤ suc (waiting p.replicas)
   act-few name op d h p (decides.Answer reply) = omega arith
   act-few name op d h p (decides.Retry n) = omega arith
   act-few name op d h p decides.NoSpace = omega arith

@@ -1,5 +1,5 @@
 -- How high numbers rise: no higher than the number of events.
-use Rattle.std.specs.Prelude.{ℕ, ◌<◌, ◌≤◌, List, All}
+use Rattle.std.specs.Prelude.{ℕ, ◌≤◌, List, All}
 use Rattle.group_types.specs.Dimensions.{Dimensions}
 use Rattle.group_types.specs.Lists.{at}
 use Rattle.group_types.specs.declared.process.ProcessId.{ProcessId}

@@ -5,7 +5,7 @@
 
 ghost use Rattle.group_bounds.specs.Deliveries.{FewDeadAlways, KindsAlways};
 ghost use Rattle.group_bounds.specs.Numbers.{NumbersLowAlways};
-ghost use Rattle.group_bounds.specs.Steps.{AlwaysSendsFew, AlwaysSettlesFew};
+ghost use Rattle.group_bounds.specs.Steps.{AlwaysSendsFew, AlwaysSendsInside, AlwaysSettlesFew};
 
 /// Every message that is delivered to a living process is of a kind that is for it.
 pub fn kinds_always()
@@ -25,6 +25,11 @@ pub fn numbers_low_always()
 /// No step of a process sends more messages to one process than one for each partition, and one.
 pub fn sends_few()
     ensures { AlwaysSendsFew }
+{}
+
+/// Every step of a process sends to processes of the group alone.
+pub fn sends_inside()
+    ensures { AlwaysSendsInside }
 {}
 
 /// No step of a process settles more updates than wait in its logs, and one that was asked.
