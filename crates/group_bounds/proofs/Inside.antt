@@ -1,6 +1,5 @@
 -- Every step sends to processes of the group alone.
-use Rattle.std.proofs.Common.{ℕ, zero, suc, ◌≡◌, ◌≢◌, ◌<◌, ◌≤◌, ◌+◌, ◌==◌, nat_le, Bool, true, false, not, ◌&&◌, List, [], ◌∷◌, ◌++◌, length, take, map, filter, flat_map, find, All, Option, Some, None, refl, sym, ap, subst, ◌∙◌, arith, cond}
-use Rattle.std.specs.Prelude.{is_some, slice_index_or}
+use Rattle.std.proofs.Common.{ℕ, zero, suc, ◌≡◌, ◌<◌, ◌+◌, ◌==◌, nat_le, Bool, true, false, not, ◌&&◌, List, [], ◌∷◌, ◌++◌, length, map, filter, flat_map, All, Option, Some, None, refl, sym, ap, subst, arith, cond}
 use Rattle.std.specs.List.{list_any, range_with_len}
 use Rattle.group_types.specs.Dimensions.{Dimensions, space_of}
 use Rattle.group_types.specs.Hash.{home_of}
@@ -18,21 +17,21 @@ use Rattle.group_message.specs.declared.update.Update.{Update}
 use Rattle.group_calls.specs.Turns.{CallName}
 use Rattle.group_calls.specs.declared.decision.Decision.{Decision}
 use Rattle.group_calls.specs.declared.decision.Decision.TheVariants as decides
-use Rattle.group_run.specs.Applying.{ProcessStep, Sent, and_then, apply_to, for_each, head_at, quiet, replica_of, when, with_head, with_replica}
+use Rattle.group_run.specs.Applying.{ProcessStep, Sent, apply_to, for_each, head_at, quiet, replica_of, when, with_head, with_replica}
 use Rattle.group_run.specs.Asking.{Oldest, act_on, ask_head, found_at, issued, oldest_inherited, retry_block, ticketed, update_of}
 use Rattle.group_run.specs.Deciding.{decide}
 use Rattle.group_run.specs.Fitting.{Fits, MarkFits}
 use Rattle.group_run.specs.Heading.{acknowledge, acknowledged, judge, judge_head, other_parities, partition, rank, tell_stable, tell_stables, to_others}
 use Rattle.group_run.specs.Leaders.{close_sessions, copy_kept, copy_marked, leader_marks, left_of, lost_of, mark_comes, mark_taken, own_mark, row_finished, rows_of, session_of, session_opened, session_starts, start_session}
 use Rattle.group_run.specs.Process.{Copy, Gathering, Head, Process}
-use Rattle.group_run.specs.Receiving.{ack_to, data_marks, death_known, enthroned, log_adopted, notice_comes, read_comes, receive, take_over_if, taken_over, takes_over, update_taken}
+use Rattle.group_run.specs.Receiving.{ack_to, death_known, enthroned, log_adopted, notice_comes, read_comes, receive, take_over_if, taken_over, takes_over, update_taken}
 use Rattle.group_run.specs.Replica.{with_update}
-use Rattle.group_run.specs.Rows.{accepts_mark, begin_copy, block_in, copy_in, is_copy, is_marked, marked, parity_number, with_copies, without_copy}
+use Rattle.group_run.specs.Rows.{accepts_mark, begin_copy, copy_in, is_marked, marked, parity_number, with_copies, without_copy}
 use Rattle.group_members.specs.Members.{Each}
 use Rattle.group_members.proofs.Calls.{each-below}
 use Rattle.group_members.proofs.Eaches.{each-append, each-map, each-take}
 use Rattle.group_reach.proofs.Deciding.{RestsWell, decides-well}
-use Rattle.group_bounds.specs.Steps.{AlwaysSendsInside, SendsInside}
+use Rattle.group_bounds.specs.Steps.{AlwaysSendsInside}
 use Rattle.group_bounds.proofs.Starting.{HasRow, copy-led, missing-row, owns-silent, row-named}
 
 all-each : (s : Dimensions) (sent : List Sent) → Each (λ z. IsProcess s z.to) sent → All (λ z. IsProcess s z.to) sent
@@ -86,7 +85,8 @@ module _ (s : Dimensions) where
 
   inside-acknowledge : (i r d n : ℕ) (h : Option Head) (p : Process) → Inside (acknowledge s i r d n h p).sent
   inside-acknowledge i r d n None p = tt
-  inside-acknowledge i r d n (Some h) p = let after : Process = with_head d (Some (acknowledged i n h)) p in inside-when (r == h.rank) p (judge s d after) (inside-judge d after)
+  inside-acknowledge i r d n (Some h) p = let after : Process = with_head d (Some (acknowledged i n h)) p in inside-when (r == h.rank) p (judge s d after)
+      (inside-judge d after)
 
   -- a mark
   inside-row : (own : Bool) (c : Copy) (p : Process) → c.leader < s.m → Inside (row_finished own s c p).sent
@@ -101,7 +101,8 @@ module _ (s : Dimensions) where
   inside-marked d n None p low = tt
   inside-marked d n (Some c) p low = inside-kept (is_marked s (marked d n c)) (marked d n c) p (low c refl)
 
-  inside-mark : (leader number r block d n : ℕ) (p : Process) → (accepts_mark p leader number r d ≡ true → leader < s.m) → Inside (mark_comes s leader number r block d n p).sent
+  inside-mark : (leader number r block d n : ℕ) (p : Process) → (accepts_mark p leader number r d ≡ true → leader < s.m)
+      → Inside (mark_comes s leader number r block d n p).sent
   inside-mark leader number r block d n p low = by (accepts_mark p leader number r d) refl where
     after : Process
     after = apply_to s d n (begin_copy s leader number block p)
@@ -112,9 +113,11 @@ module _ (s : Dimensions) where
     by false takes = tt
 
   -- a question, and a notice
-  inside-read : (p : Process) (session : Session) (block : ℕ) (rows : List ℕ) (name : ProcessId) → IsProcess s session.leader → Each (λ i. i < s.m) rows → Inside (read_comes s session block rows p name).sent
+  inside-read : (p : Process) (session : Session) (block : ℕ) (rows : List ℕ) (name : ProcessId) → IsProcess s session.leader → Each (λ i. i < s.m) rows
+      → Inside (read_comes s session block rows p name).sent
   inside-read p session block rows (ParityNode i) leader low = tt
-  inside-read p session block rows (DataNode d) leader low = (leader, inside-rows (λ i. tells.Mark session (rank 0) block (partition d) (replica_of p d).applied) rows low)
+  inside-read p session block rows (DataNode d) leader low =
+      (leader, inside-rows (λ i. tells.Mark session (rank 0) block (partition d) (replica_of p d).applied) rows low)
 
   inside-close : (gs : List Gathering) (p : Process) → Inside (close_sessions s gs p).sent
   inside-close [] p = tt
@@ -144,12 +147,15 @@ module _ (s : Dimensions) where
   number-low session led = let is = ap parity_number led.1 in let low = led.2 in omega (arith, is, low)
 
   inside-received : (x : ProcessId) (m : Message) (p : Process) → IsProcess s x → Fits s x m p → Inside (receive s x m p).sent
-  inside-received x (tells.Update r d u stable) p xin fits = inside-when (nat_le (at 0 p.ranks d.0) r.0) p (ack_to x r.0 d.0 u.number (update_taken s d.0 u stable p)) (xin, tt)
+  inside-received x (tells.Update r d u stable) p xin fits = inside-when (nat_le (at 0 p.ranks d.0) r.0) p
+      (ack_to x r.0 d.0 u.number (update_taken s d.0 u stable p)) (xin, tt)
   inside-received x (tells.Stable r d n) p xin fits = inside-when (nat_le (at 0 p.ranks d.0) r.0) p (quiet (apply_to s d.0 n p)) tt
-  inside-received x (tells.Adopt r d base list) p xin fits = inside-when (nat_le (at 0 p.ranks d.0) r.0) p (ack_to x r.0 d.0 (base + length list) (log_adopted s r.0 d.0 base list p)) (xin, tt)
+  inside-received x (tells.Adopt r d base list) p xin fits = inside-when (nat_le (at 0 p.ranks d.0) r.0) p
+      (ack_to x r.0 d.0 (base + length list) (log_adopted s r.0 d.0 base list p)) (xin, tt)
   inside-received (DataNode e) (tells.Ack r d n) p xin fits = tt
   inside-received (ParityNode i) (tells.Ack r d n) p xin fits = inside-acknowledge i r.0 d.0 n (head_at p d.0) p
-  inside-received x (tells.ReadBlock session block rows) p xin fits = inside-read p session block rows p.name (leader-in session fits.leader) (each-from s.m rows fits.in_group)
+  inside-received x (tells.ReadBlock session block rows) p xin fits = inside-read p session block rows p.name (leader-in session fits.leader)
+      (each-from s.m rows fits.in_group)
   inside-received (DataNode e) (tells.Block session bytes n) p xin fits = tt
   inside-received (ParityNode i) (tells.Block session bytes n) p xin fits = tt
   inside-received x (tells.Mark session r block d n) p xin fits = inside-mark (parity_number session.leader) session.number r.0 block d.0 n p low where
@@ -174,13 +180,15 @@ module _ (s : Dimensions) where
   -- a call that is asked
   inside-starts : (leader number block : ℕ) (p : Process) → Inside (session_starts s leader number block p)
   inside-starts leader number block p =
-      inside-append (map (λ d. record { to = DataNode d; message = tells.ReadBlock (session_of leader number) block (rows_of s p) }) (left_of s p)) (flat_map (leader_marks s leader number block p) (lost_of s p))
+      inside-append (map (λ d. record { to = DataNode d; message = tells.ReadBlock (session_of leader number) block (rows_of s p) }) (left_of s p))
+      (flat_map (leader_marks s leader number block p) (lost_of s p))
       (each-map (λ (z : Sent). IsProcess s z.to) (λ d. record { to = DataNode d; message = tells.ReadBlock (session_of leader number) block (rows_of s p) }) (left_of s p)
       (each-filter (λ d. d < s.k) (λ d. not (knows_dead p.known (DataNode d))) (range_with_len 0 s.k) (each-below s.k)))
       (inside-flat (leader_marks s leader number block p) marks (lost_of s p))
     where
       marks : (l : ℕ) → Inside (leader_marks s leader number block p l)
-      marks l = inside-rows (λ i. tells.Mark (session_of leader number) (rank (at 0 p.ranks l)) block (partition l) (replica_of p l).applied) (filter (λ i. not (i == leader)) (rows_of s p))
+      marks l = inside-rows (λ i. tells.Mark (session_of leader number) (rank (at 0 p.ranks l)) block (partition l) (replica_of p l).applied)
+          (filter (λ i. not (i == leader)) (rows_of s p))
           (each-filter (λ i. i < s.m) (λ i. not (i == leader)) (rows_of s p)
           (each-take (λ i. i < s.m) (length (lost_of s p)) (filter (λ i. not (knows_dead p.known (ParityNode i))) (range_with_len 0 s.m))
           (each-filter (λ i. i < s.m) (λ i. not (knows_dead p.known (ParityNode i))) (range_with_len 0 s.m) (each-below s.m))))
@@ -190,7 +198,8 @@ module _ (s : Dimensions) where
       let leader : ℕ = parity_number p.name in
       let number : ℕ = suc p.as_leader.last_session in
       let silent = owns-silent s p.name leader number block (lost_of s p) (session_opened s number block p) (row-named p.name parity) in
-      inside-append (session_starts s leader number block p) (for_each (lost_of s p) (own_mark s leader number block) (session_opened s number block p)).sent (inside-starts leader number block p)
+      inside-append (session_starts s leader number block p) (for_each (lost_of s p) (own_mark s leader number block) (session_opened s number block p)).sent
+      (inside-starts leader number block p)
       (subst Inside (sym silent) tt)
 
   inside-retry : (block : ℕ) (o : Option Oldest) (p : Process) → HasRow p.name → Inside (retry_block s block o p).step.sent
@@ -207,7 +216,8 @@ module _ (s : Dimensions) where
       let update : Message = tells.Update (rank h.rank) (partition d) u (replica_of p d).applied in
       inside-append (to_others s p update) (judge s d after).sent (inside-others p update) (inside-judge d after)
 
-  inside-act : (name : CallName) (op : Asked) (d : ℕ) (h : Head) (p : Process) (decision : Decision) → RestsWell (replica_of p d) (HasRow p.name) decision → Inside (act_on s name op d h p decision).step.sent
+  inside-act : (name : CallName) (op : Asked) (d : ℕ) (h : Head) (p : Process) (decision : Decision) → RestsWell (replica_of p d) (HasRow p.name) decision
+      → Inside (act_on s name op d h p decision).step.sent
   inside-act name op d h p (decides.Answer reply) well = tt
   inside-act name op d h p (decides.Retry n) well = tt
   inside-act name op d h p decides.NoSpace well = tt

@@ -7,4 +7,5 @@ mod Addressing
 mod Leaving
 mod Deaths
 mod Elsewhere
+mod Tickets
 mod Numbers

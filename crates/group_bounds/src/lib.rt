@@ -17,7 +17,8 @@ pub fn few_dead_always()
     ensures { FewDeadAlways }
 {}
 
-/// No update and no session has a number above that of the events.
+/// No update, no session and no call has a number above that of the events, and each ticket is of a call that was
+/// asked.
 pub fn numbers_low_always()
     ensures { NumbersLowAlways }
 {}
