@@ -25,7 +25,7 @@ use Rattle.group_run.specs.History.{History, no_history, prolonged}
 use Rattle.group_run.specs.Process.{Head, Process}
 use Rattle.group_run.specs.Receiving.{receive}
 use Rattle.group_run.specs.Replica.{Replica, callers, empty_replica, last_of}
-use Rattle.group_run.specs.World.{Call, after, asked_after, call_of, group_step, step}
+use Rattle.group_run.specs.World.{Call, after, asked_after, call_of}
 use Rattle.group_frame.specs.Moves.{Acted, Failed, Moves, Received, Stays, Treated}
 use Rattle.group_frame.specs.State.{Opens, State, state_of}
 use Rattle.group_frame.proofs.Runs.{runs_move}
@@ -41,7 +41,6 @@ use Rattle.group_log.proofs.Books.{book-history, book-shape, book-world, book_al
 use Rattle.group_bounds.specs.Numbers.{NumbersAreLow, NumbersLowAlways}
 use Rattle.group_bounds.proofs.Elsewhere.{Keeps, KeepsOr, head-keeps, received-last, treated-last}
 use Rattle.group_bounds.proofs.Leaving.{noticed-last, rests-received, starts-treated}
-use Rattle.group_bounds.proofs.Tickets.{IsAsked, all-asked, tickets-asked}
 
 -- a history of no more than so many updates
 abbrev Short : ℕ → ℕ → ℕ → List Update → Type 0
@@ -216,11 +215,10 @@ asks-more asked (Some c) caller n low = by (cases_eq caller c.name.caller) where
 record LowIn (s : Dimensions) (h : History) : Type 0 where
   state : Low s h.world.events (state_of h)
   calls : (caller : ℕ) → at 0 h.world.asked caller ≤ h.world.events
-  tickets : Each (IsAsked h.world.asked) h.world.tickets
 
 low-always : (s : Dimensions) (es : List Event) → IsRun s es → LowIn s (book_of s es).history
 low-always s es run = book_always s (λ b. LowIn s b.history)
-    (record { state = began s run.0 (state_of (no_history s)) (runs_move s).opens; calls = none; tickets = tt }) next es run where
+    (record { state = began s run.0 (state_of (no_history s)) (runs_move s).opens; calls = none }) next es run where
       none : (caller : ℕ) → at 0 (no_history s).world.asked caller ≤ 0
       none caller = let is : at 0 (no_history s).world.asked caller ≡ 0 = at-replicate 0 callers caller in omega (arith, is)
 
@@ -232,8 +230,6 @@ low-always s es run = book_always s (λ b. LowIn s b.history)
             ((runs_move s).moves done e ran may)) low.state;
         calls = λ caller. asks-more (book_of s done).history.world.asked (call_of (book_of s done).history.world e) caller (book_of s done).history.world.events
             (low.calls caller);
-        tickets = tickets-asked (book_of s done).history.world (length (book_of s done).history.world.log) e (group_step (book_of s done).history.world e).answer
-            (step (book_of s done).history.world e).turn.logged low.tickets;
       }
 
 low-in : (s : Dimensions) → IsShape s → (h : History) → h.world.shape ≡ s → LowIn s h → NumbersAreLow h.world
@@ -241,7 +237,6 @@ low-in s shaped h shape low = record {
   updates = λ p lives. all-low s shaped h.world.events (state_of h) low.state p (inside_s p lives.0) lives.1;
   sessions = λ p lives. low.state.sessions p (inside_s p lives.0);
   calls = low.calls;
-  tickets = all-asked h.world.asked h.world.tickets low.tickets;
 } where
   inside_s : (p : ProcessId) → IsProcess h.world.shape p → IsProcess s p
   inside_s p pin = subst (λ (t : Dimensions). IsProcess t p) shape pin
