@@ -9,3 +9,4 @@ mod Deaths
 mod Elsewhere
 mod Tickets
 mod Numbers
+mod Entries

@@ -6,7 +6,7 @@
 ghost use Rattle.group_bounds.specs.Deliveries.{FewDeadAlways, KindsAlways};
 ghost use Rattle.group_bounds.specs.Numbers.{NumbersLowAlways};
 ghost use Rattle.group_bounds.specs.Steps.{AlwaysSendsFew, AlwaysSendsInside, AlwaysSettlesFew};
-ghost use Rattle.group_bounds.specs.Tickets.{TicketsAlways};
+ghost use Rattle.group_bounds.specs.Tickets.{EntriesAlways, TicketsAlways};
 
 /// Every message that is delivered to a living process is of a kind that is for it.
 pub fn kinds_always()
@@ -26,6 +26,11 @@ pub fn numbers_low_always()
 /// Each ticket is of a call that was asked, and no two are of one call.
 pub fn tickets_always()
     ensures { TicketsAlways }
+{}
+
+/// The entries that one event logs are of different calls.
+pub fn entries_always()
+    ensures { EntriesAlways }
 {}
 
 /// No step of a process sends more messages to one process than one for each partition, and one.
