@@ -36,10 +36,13 @@ module _ (s : Dimensions) (v : State) where
   kind x (ParityNode i) (tells.Mark session r block d n) may = tt
   kind x (ParityNode i) (tells.Cease upto) may = tt
 
-  firsts : Members s v → (x p : ProcessId) (m : Message) (rest : List Message) → IsProcess s x → IsProcess s p → x ≢ p → v.dead p ≡ false → v.link x p ≡ m ∷ rest → IsFor p m
+  firsts : Members s v → (x p : ProcessId) (m : Message) (rest : List Message) → IsProcess s x → IsProcess s p → x ≢ p → v.dead p ≡ false → v.link x p ≡ m ∷ rest
+      → IsFor p m
   firsts members x p m rest xin pin apart lives first = kind x p m (subst (Each (MayStand s v x p)) first (members.may x p xin pin apart lives)).0
 
 pub kinds_always : KindsAlways
-kinds_always s es run = subst (FirstsAreFor s) (world-from (no_history s) es) (λ from to m rest fin tin apart lives first. there from to m rest fin tin apart lives.1 first) where
-  there : (x p : ProcessId) (m : Message) (rest : List Message) → IsProcess s x → IsProcess s p → x ≢ p → (state_of (history_of s es)).dead p ≡ false → (state_of (history_of s es)).link x p ≡ m ∷ rest → IsFor p m
-  there = firsts s (state_of (history_of s es)) (members_always s es run)
+kinds_always s es run = subst (FirstsAreFor s) (world-from (no_history s) es)
+    (λ from to m rest fin tin apart lives first. there from to m rest fin tin apart lives.1 first) where
+      there : (x p : ProcessId) (m : Message) (rest : List Message) → IsProcess s x → IsProcess s p → x ≢ p → (state_of (history_of s es)).dead p ≡ false
+          → (state_of (history_of s es)).link x p ≡ m ∷ rest → IsFor p m
+      there = firsts s (state_of (history_of s es)) (members_always s es run)

@@ -17,7 +17,8 @@ count_to q sent = length (sent_to q sent)
 pub count-append : (q : ProcessId) (xs ys : List Sent) → count_to q (xs ++ ys) ≡ count_to q xs + count_to q ys
 count-append q [] ys = omega arith
 count-append q (x ∷ xs) ys = by (same_process x.to q) (count-append q xs ys) where
-  by : (b : Bool) → count_to q (xs ++ ys) ≡ count_to q xs + count_to q ys → length (front_if b x.message (sent_to q (xs ++ ys))) ≡ length (front_if b x.message (sent_to q xs)) + count_to q ys
+  by : (b : Bool) → count_to q (xs ++ ys) ≡ count_to q xs + count_to q ys
+      → length (front_if b x.message (sent_to q (xs ++ ys))) ≡ length (front_if b x.message (sent_to q xs)) + count_to q ys
   by true rest = omega (arith, rest)
   by false rest = rest
 
@@ -42,7 +43,8 @@ times j [] = 0
 times j (i ∷ is) = (if i == j then 1 else 0) + times j is
 
 -- one message to each of some parity processes, or data processes
-pub count-parities : (f : ℕ → Message) (q : ProcessId) (is : List ℕ) → ((j : ℕ) → times j is ≤ 1) → count_to q (map (λ i. record { to = ParityNode i; message = f i }) is) ≤ 1
+pub count-parities : (f : ℕ → Message) (q : ProcessId) (is : List ℕ) → ((j : ℕ) → times j is ≤ 1)
+    → count_to q (map (λ i. record { to = ParityNode i; message = f i }) is) ≤ 1
 count-parities f (DataNode e) is once = none is where
   none : (is : List ℕ) → count_to (DataNode e) (map (λ i. record { to = ParityNode i; message = f i }) is) ≤ 1
   none [] = omega arith
@@ -108,13 +110,14 @@ none-else j (x ∷ xs) other = by (x == j) refl (none-else j xs (λ i d below. o
 
 pub once-differing : (j : ℕ) (xs : List ℕ) → AllPairs (λ a b. a ≢ b) xs → times j xs ≤ 1
 once-differing j [] differ = omega arith
-once-differing j (x ∷ xs) differ = by (x == j) refl (once-differing j xs (λ i k d before below. differ (suc i) (suc k) d (omega (arith, before)) (omega (arith, below)))) where
-  by : (b : Bool) → (x == j) ≡ b → times j xs ≤ 1 → (if b then 1 else 0) + times j xs ≤ 1
-  by true is rest =
-      let same : x ≡ j = grind (arith, common_steps) in
-      let none = none-else j xs (λ i d below equal. differ zero (suc i) d (omega arith) (omega (arith, below)) (same ∙ equal)) in
-      omega (arith, none)
-  by false is rest = omega (arith, rest)
+once-differing j (x ∷ xs) differ = by (x == j) refl
+    (once-differing j xs (λ i k d before below. differ (suc i) (suc k) d (omega (arith, before)) (omega (arith, below)))) where
+      by : (b : Bool) → (x == j) ≡ b → times j xs ≤ 1 → (if b then 1 else 0) + times j xs ≤ 1
+      by true is rest =
+          let same : x ≡ j = grind (arith, common_steps) in
+          let none = none-else j xs (λ i d below equal. differ zero (suc i) d (omega arith) (omega (arith, below)) (same ∙ equal)) in
+          omega (arith, none)
+      by false is rest = omega (arith, rest)
 
 pub length-filtered : (test : ℕ → Bool) (xs : List ℕ) → length (filter test xs) ≤ length xs
 length-filtered test [] = omega arith

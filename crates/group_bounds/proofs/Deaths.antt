@@ -19,8 +19,8 @@ use Rattle.group_run.specs.Meaning.{IsDown}
 use Rattle.group_run.specs.Process.{Process}
 use Rattle.group_run.specs.Receiving.{receive}
 use Rattle.group_run.specs.World.{World, dead_nodes}
-use Rattle.group_frame.specs.Moves.{Acted, Died, Keeps, Popped, Treats}
-use Rattle.group_frame.specs.State.{IsUp, Opens, State, lost_in, state_of}
+use Rattle.group_frame.specs.Moves.{Acted, Keeps, Popped}
+use Rattle.group_frame.specs.State.{State, lost_in, state_of}
 use Rattle.group_frame.proofs.Events.{FramedHistory, lost-nodes}
 use Rattle.group_frame.proofs.Known.{known-notice}
 use Rattle.group_frame.proofs.Runs.{framed-from, framed-opening, holds_always, shape-from, world-from}
@@ -35,7 +35,8 @@ abbrev one-if : Bool → ℕ
 one-if b = if b then 1 else 0
 
 -- the words that say dead, counted by who is dead in a range
-count-below : (xs : List Bool) (f : ℕ → Bool) (a n : ℕ) → ((d : ℕ) → at false xs d ≡ true → (d < n) × (f (a + d) ≡ true)) → count_dead xs ≤ count_dead (map f (range_with_len a n))
+count-below : (xs : List Bool) (f : ℕ → Bool) (a n : ℕ) → ((d : ℕ) → at false xs d ≡ true → (d < n) × (f (a + d) ≡ true))
+    → count_dead xs ≤ count_dead (map f (range_with_len a n))
 count-below [] f a n all = omega arith
 count-below (true ∷ xs) f a zero all = let none = (all zero refl).0 in absurd (omega (arith, none))
 count-below (false ∷ xs) f a zero all =
@@ -100,24 +101,29 @@ module _ (s : Dimensions) where
           (fact.0, ap (λ (x : ℕ). v.dead (process_at s x)) place ∙ ap v.dead (process_at-index s (ParityNode i) fact.0) ∙ fact.1)
 
   -- a process acts
-  acted-inside : (v w : State) (p : ProcessId) (t : ProcessStep) → Acted s v w p t → KnownInside s v → ((q : ProcessId) → knows_dead t.process.known q ≡ true → IsProcess s q) → KnownInside s w
+  acted-inside : (v w : State) (p : ProcessId) (t : ProcessStep) → Acted s v w p t → KnownInside s v
+      → ((q : ProcessId) → knows_dead t.process.known q ≡ true → IsProcess s q) → KnownInside s w
   acted-inside v w p t acts inside here y yin q knows = by (same-cases y p) where
     by : (y ≡ p) ⊎ (y ≢ p) → IsProcess s q
     by (inl same) = here q (ap (λ (k : Process). knows_dead k.known q) (sym (ap w.process same ∙ acts.process)) ∙ knows)
     by (inr other) = inside y yin q (ap (λ (k : Process). knows_dead k.known q) (sym (acts.others y yin other)) ∙ knows)
 
-  still-inside : (v : State) (p : ProcessId) (q : Process) → IsProcess s p → KnownInside s v → q.known ≡ (v.process p).known → (x : ProcessId) → knows_dead q.known x ≡ true → IsProcess s x
+  still-inside : (v : State) (p : ProcessId) (q : Process) → IsProcess s p → KnownInside s v → q.known ≡ (v.process p).known → (x : ProcessId)
+      → knows_dead q.known x ≡ true → IsProcess s x
   still-inside v p q pin inside same x knows = inside p pin x (ap (λ (k : Membership). knows_dead k x) (sym same) ∙ knows)
 
   -- the notice that comes first is its sender's, which is dead
-  notice-first : (v : State) → Members s v → (x p dead : ProcessId) (rest : List Message) → IsProcess s x → IsProcess s p → x ≢ p → v.dead p ≡ false → v.link x p ≡ tells.Notice dead ∷ rest
+  notice-first : (v : State) → Members s v → (x p dead : ProcessId) (rest : List Message) → IsProcess s x → IsProcess s p → x ≢ p → v.dead p ≡ false
+      → v.link x p ≡ tells.Notice dead ∷ rest
       → (v.dead x ≡ true) × (dead ≡ x)
   notice-first v held x p dead rest xin pin apart lives first =
-      let facts = stands-notice x (v.dead x) (knows_dead (v.process p).known x) dead rest (subst (Stands x (v.dead x) (knows_dead (v.process p).known x)) first (held.stands x p xin pin apart lives)) in
+      let facts = stands-notice x (v.dead x) (knows_dead (v.process p).known x) dead rest
+      (subst (Stands x (v.dead x) (knows_dead (v.process p).known x)) first (held.stands x p xin pin apart lives)) in
       (facts.0, facts.2)
 
   -- after it all known are of the group and dead
-  all-known : (v : State) → Members s v → KnownInside s v → (x p dead : ProcessId) (rest : List Message) → IsProcess s x → IsProcess s p → x ≢ p → v.dead p ≡ false → v.link x p ≡ tells.Notice dead ∷ rest
+  all-known : (v : State) → Members s v → KnownInside s v → (x p dead : ProcessId) (rest : List Message) → IsProcess s x → IsProcess s p → x ≢ p → v.dead p ≡ false
+      → v.link x p ≡ tells.Notice dead ∷ rest
       → (q : ProcessId) → knows_dead (with_dead (v.process p).known dead) q ≡ true → IsProcess s q × (v.dead q ≡ true)
   all-known v held inside x p dead rest xin pin apart lives first q knows = by (same-cases q dead) (notice-first v held x p dead rest xin pin apart lives first) where
     of : IsProcess s q → knows_dead (v.process p).known q ≡ true → (q ≡ p) ⊎ (q ≢ p) → v.dead q ≡ true
@@ -131,13 +137,16 @@ module _ (s : Dimensions) where
         let qin : IsProcess s q = inside p pin q knew in
         (qin, of qin knew (same-cases q p))
 
-  received-inside : (v u w : State) (x p : ProcessId) (m : Message) → IsProcess s x → IsProcess s p → x ≢ p → v.dead p ≡ false → Members s v → KnownInside s v → Popped s v u x p m
+  received-inside : (v u w : State) (x p : ProcessId) (m : Message) → IsProcess s x → IsProcess s p → x ≢ p → v.dead p ≡ false → Members s v → KnownInside s v
+      → Popped s v u x p m
       → (b : Bool) → is_notice m ≡ b → (q : ProcessId) → knows_dead (receive s x m (v.process p)).process.known q ≡ true → IsProcess s q
-  received-inside v u w x p m xin pin apart lives held inside pops false plain q knows = still-inside v p (receive s x m (v.process p)).process pin inside (rests-received s x m (v.process p) plain).known q knows
+  received-inside v u w x p m xin pin apart lives held inside pops false plain q knows = still-inside v p (receive s x m (v.process p)).process pin inside
+      (rests-received s x m (v.process p) plain).known q knows
   received-inside v u w x p m xin pin apart lives held inside pops true tells_death q knows = noticed m pops.first tells_death knows where
     noticed : (n : Message) → v.link x p ≡ n ∷ u.link x p → is_notice n ≡ true → knows_dead (receive s x n (v.process p)).process.known q ≡ true → IsProcess s q
     noticed (tells.Notice dead) first is knew =
-        (all-known v held inside x p dead (u.link x p) xin pin apart lives first q (ap (λ (k : Membership). knows_dead k q) (sym (known-notice s dead (v.process p))) ∙ knew)).0
+        (all-known v held inside x p dead (u.link x p) xin pin apart lives first q
+        (ap (λ (k : Membership). knows_dead k q) (sym (known-notice s dead (v.process p))) ∙ knew)).0
     noticed (tells.Update r d un stable) first is knew = cc is
     noticed (tells.Ack r d n) first is knew = cc is
     noticed (tells.Stable r d n) first is knew = cc is
@@ -150,14 +159,19 @@ module _ (s : Dimensions) where
 
   keeps-inside : IsShape s → Keeps s (λ v. Members s v × KnownInside s v)
   keeps-inside shaped = record {
-    opens = λ v starts. ((members.keeps s shaped).opens v starts, λ p pin q knows. absurd (began (v.process p).known q (ap (λ (k : Process). k.known) (starts.process p pin)) knows));
+    opens = λ v starts. (
+      (members.keeps s shaped).opens v starts,
+      λ p pin q knows. absurd
+          (began (v.process p).known q (ap (λ (k : Process). k.known) (starts.process p pin)) knows),
+    );
     treats = λ v w p t pin up lives treats both acts. (
       (members.keeps s shaped).treats v w p t pin up lives treats both.0 acts,
       acted-inside v w p t acts both.1 (still-inside v p t.process pin both.1 (starts-treated s (v.process p) t treats).known),
     );
     receives = λ v u w x p m xin pin apart up lives both pops acts. (
       (members.keeps s shaped).receives v u w x p m xin pin apart up lives both.0 pops acts,
-      acted-inside u w p (receive s x m (v.process p)) acts (λ y yin q knows. both.1 y yin q (ap (λ (k : Process). knows_dead k.known q) (sym (pops.processes y yin)) ∙ knows))
+      acted-inside u w p (receive s x m (v.process p)) acts
+          (λ y yin q knows. both.1 y yin q (ap (λ (k : Process). knows_dead k.known q) (sym (pops.processes y yin)) ∙ knows))
           (received-inside v u w x p m xin pin apart lives both.0 both.1 pops (is_notice m) refl),
     );
     dies = λ v w p keep pin both died. (
@@ -171,10 +185,12 @@ module _ (s : Dimensions) where
 
 -- a group that isn't down has lost no more than m
 few-lost : (s : Dimensions) (h : History) → h.world.shape ≡ s → FramedHistory h → ¬ (IsDown h.world) → lost_in s (state_of h) ≤ s.m
-few-lost s h shape framed up = subst (λ (t : Dimensions). lost_in t (state_of h) ≤ t.m) shape (by (cases_lt h.world.shape.m (dead_nodes h.world.nodes)) (lost-nodes h.world.shape h.world.nodes h.settled framed.nodes_many)) where
-  by : (h.world.shape.m < dead_nodes h.world.nodes) ⊎ (dead_nodes h.world.nodes ≤ h.world.shape.m) → lost_in h.world.shape (state_of h) ≡ dead_nodes h.world.nodes → lost_in h.world.shape (state_of h) ≤ h.world.shape.m
-  by (inl more) same = absurd (up more)
-  by (inr low) same = omega (arith, low, same)
+few-lost s h shape framed up = subst (λ (t : Dimensions). lost_in t (state_of h) ≤ t.m) shape
+    (by (cases_lt h.world.shape.m (dead_nodes h.world.nodes)) (lost-nodes h.world.shape h.world.nodes h.settled framed.nodes_many)) where
+      by : (h.world.shape.m < dead_nodes h.world.nodes) ⊎ (dead_nodes h.world.nodes ≤ h.world.shape.m) → lost_in h.world.shape (state_of h) ≡ dead_nodes h.world.nodes
+          → lost_in h.world.shape (state_of h) ≤ h.world.shape.m
+      by (inl more) same = absurd (up more)
+      by (inr low) same = omega (arith, low, same)
 
 pub few_dead_always : FewDeadAlways
 few_dead_always s es run = subst (λ (w : World). ¬ (IsDown w) → KnowsFewDead s w) (world-from (no_history s) es) few where
@@ -184,5 +200,5 @@ few_dead_always s es run = subst (λ (w : World). ¬ (IsDown w) → KnowsFewDead
       let framed = framed-from (no_history s) es (framed-opening s) run.1 in
       let most = few-lost s (history_of s es) (shape-from (no_history s) es) framed up in
       let known = few-known s (state_of (history_of s es)) (with_dead ((state_of (history_of s es)).process to).known dead)
-          (all-known s (state_of (history_of s es)) both.0 both.1 from to dead rest fin tin apart lives.1 first) in
+      (all-known s (state_of (history_of s es)) both.0 both.1 from to dead rest fin tin apart lives.1 first) in
       omega (arith, most, known)

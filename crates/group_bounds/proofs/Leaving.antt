@@ -1,5 +1,5 @@
 -- What steps leave of the dead that a process knows, and of the number of its last session.
-use Rattle.std.proofs.Common.{ℕ, suc, ◌≡◌, ◌≤◌, ◌+◌, ◌==◌, nat_le, Bool, true, false, not, List, [], ◌∷◌, length, find, Option, Some, None, refl, sym, ap, ◌∙◌, arith}
+use Rattle.std.proofs.Common.{ℕ, suc, ◌≡◌, ◌≤◌, ◌+◌, ◌==◌, nat_le, Bool, true, false, not, List, [], ◌∷◌, length, find, Option, Some, None, refl, ◌∙◌, arith}
 use Rattle.std.specs.Prelude.{is_some}
 use Rattle.std.specs.List.{list_any, range_with_len}
 use Rattle.group_types.specs.Dimensions.{Dimensions, space_of}
@@ -8,7 +8,6 @@ use Rattle.group_types.specs.Lists.{at, put}
 use Rattle.group_types.specs.Names.{same_process}
 use Rattle.group_types.specs.declared.process.ProcessId.{ProcessId}
 use Rattle.group_types.specs.declared.process.ProcessId.TheVariants.{DataNode, ParityNode}
-use Rattle.membership.specs.Members.{Membership, with_dead}
 use Rattle.memc_table.specs.Act.{key_of}
 use Rattle.memc_table.specs.Asked.{Asked}
 use Rattle.group_message.specs.declared.message.Message.{Message}
@@ -65,10 +64,11 @@ module _ (s : Dimensions) where
   -- what comes in for a session
   decoded-last : (g : Gathering) (ls : List ℕ) (state : LeaderState) → (with_decoded s g ls state).last_session ≡ state.last_session
   decoded-last g [] state = refl
-  decoded-last g (l ∷ ls) state = decoded-last g ls (rebuilt_unless (is_some (rebuilt_block state l g.block)) s g l state) ∙ unless (is_some (rebuilt_block state l g.block)) where
-    unless : (b : Bool) → (rebuilt_unless b s g l state).last_session ≡ state.last_session
-    unless true = refl
-    unless false = refl
+  decoded-last g (l ∷ ls) state = decoded-last g ls (rebuilt_unless (is_some (rebuilt_block state l g.block)) s g l state) ∙ unless
+      (is_some (rebuilt_block state l g.block)) where
+        unless : (b : Bool) → (rebuilt_unless b s g l state).last_session ≡ state.last_session
+        unless true = refl
+        unless false = refl
 
   gathered-last : (complete : Bool) (g : Gathering) (state : LeaderState) → (gathered_when complete s g state).last_session ≡ state.last_session
   gathered-last true g state = decoded-last g g.lost (record state { sessions = without_session g.number state.sessions })
@@ -94,7 +94,8 @@ module _ (s : Dimensions) where
   rests-kept : (all : Bool) (c : Copy) (p : Process) → Rests p (copy_kept all s c p).process
   rests-kept true c p =
       let q : Process = with_copies (without_copy c.leader c.number p.as_row.copies) p in
-      rests-then p q (row_finished (same_process p.name (ParityNode c.leader)) s c q).process (record { known = refl; last = refl }) (rests-finished (same_process p.name (ParityNode c.leader)) c q)
+      rests-then p q (row_finished (same_process p.name (ParityNode c.leader)) s c q).process (record { known = refl; last = refl })
+      (rests-finished (same_process p.name (ParityNode c.leader)) c q)
   rests-kept false c p = record { known = refl; last = refl }
 
   rests-marked : (d n : ℕ) (o : Option Copy) (p : Process) → Rests p (copy_marked s d n o p).process
@@ -119,7 +120,8 @@ module _ (s : Dimensions) where
 
   -- a message that isn't a notice
   pub rests-received : (x : ProcessId) (m : Message) (p : Process) → is_notice m ≡ false → Rests p (receive s x m p).process
-  rests-received x (tells.Update r d u stable) p plain = rests-when (nat_le (at 0 p.ranks d.0) r.0) p (ack_to x r.0 d.0 u.number (update_taken s d.0 u stable p)) (record { known = refl; last = refl })
+  rests-received x (tells.Update r d u stable) p plain = rests-when (nat_le (at 0 p.ranks d.0) r.0) p (ack_to x r.0 d.0 u.number (update_taken s d.0 u stable p))
+      (record { known = refl; last = refl })
   rests-received x (tells.Stable r d n) p plain = rests-when (nat_le (at 0 p.ranks d.0) r.0) p (quiet (apply_to s d.0 n p)) (record { known = refl; last = refl })
   rests-received x (tells.Adopt r d base list) p plain =
       rests-when (nat_le (at 0 p.ranks d.0) r.0) p (ack_to x r.0 d.0 (base + length list) (log_adopted s r.0 d.0 base list p)) (record { known = refl; last = refl })
@@ -151,7 +153,8 @@ module _ (s : Dimensions) where
       let closed : Process = (close_sessions s known.as_leader.sessions known).process in
       let judged : Process = (for_each (range_with_len 0 s.k) (judge s) closed).process in
       rests-then known closed (notice_comes s dead p).process (rests-close known.as_leader.sessions known)
-      (rests-then closed judged (notice_comes s dead p).process (rests-each (range_with_len 0 s.k) (judge s) closed rests-judge) (rests-each (range_with_len 0 s.k) (take_over_if s) judged rests-take))
+      (rests-then closed judged (notice_comes s dead p).process (rests-each (range_with_len 0 s.k) (judge s) closed rests-judge)
+      (rests-each (range_with_len 0 s.k) (take_over_if s) judged rests-take))
 
   death-last : (dead : ProcessId) (p : Process) → (death_known dead p).as_leader.last_session ≡ p.as_leader.last_session
   death-last (DataNode e) p = refl
@@ -173,7 +176,8 @@ module _ (s : Dimensions) where
       let leader : ℕ = parity_number p.name in
       let number : ℕ = suc p.as_leader.last_session in
       let opened : Process = session_opened s number block p in
-      let marks = rests-each (lost_of s p) (own_mark s leader number block) opened (λ l q. rests-mark leader number (at 0 q.ranks l) block l (replica_of q l).applied q) in
+      let marks = rests-each (lost_of s p) (own_mark s leader number block) opened
+      (λ l q. rests-mark leader number (at 0 q.ranks l) block l (replica_of q l).applied q) in
       record { known = marks.known; last = let same = marks.last in omega (arith, same) }
 
   starts-retry : (block : ℕ) (o : Option Oldest) (p : Process) → StartsOne p (retry_block s block o p).step.process
@@ -197,7 +201,8 @@ module _ (s : Dimensions) where
       let t : ProcessStep = issued s d h u p in
       let q : Process = with_replica d (with_update u (replica_of p d)) p in
       let made : Process = (act_on s name op d h p (decides.Issue body outcome)).step.process in
-      starts-none p made (rests-then p q made (record { known = refl; last = refl }) (rests-then q t.process made (rests-judge d q) (rests-ticketed (nat_le u.number (replica_of t.process d).applied) d u t)))
+      starts-none p made (rests-then p q made (record { known = refl; last = refl })
+      (rests-then q t.process made (rests-judge d q) (rests-ticketed (nat_le u.number (replica_of t.process d).applied) d u t)))
 
   starts-ask : (name : CallName) (op : Asked) (d : ℕ) (p : Process) (h : Option Head) → StartsOne p (ask_head s name op d p h).step.process
   starts-ask name op d p None = starts-none p p (rests-self p)
@@ -216,5 +221,6 @@ module _ (s : Dimensions) where
 
   pub starts-treated : (p : Process) (t : ProcessStep) → Treats s p t → StartsOne p t.process
   starts-treated p t (Asks name op bytes) = starts-ask name op (home_of (key_of op.act) s.k) p (head_at p (home_of (key_of op.act) s.k))
-  starts-treated p t (Collects caller call) = starts-none p (collect_from caller call p (range_with_len 0 s.k)).step.process (rests-collect caller call p (range_with_len 0 s.k))
+  starts-treated p t (Collects caller call) = starts-none p (collect_from caller call p (range_with_len 0 s.k)).step.process
+      (rests-collect caller call p (range_with_len 0 s.k))
   starts-treated p t Flushes = starts-none p p (rests-self p)

@@ -1,7 +1,12 @@
 mod Counts
 mod Sending
+mod Starting
+mod Inside
 mod Settling
 mod Addressing
 mod Leaving
 mod Deaths
+mod Elsewhere
+mod Tickets
 mod Numbers
+mod Entries

@@ -1,8 +1,8 @@
 -- What one step settles.
-use Rattle.std.proofs.Common.{ℕ, zero, suc, ◌≡◌, ◌≢◌, ◌<◌, ◌≤◌, ◌+◌, ◌-◌, ◌==◌, nat_le, Bool, true, false, not, List, [], ◌∷◌, ◌++◌, length, map, take, drop, find, Option, Some, None, refl, sym, ap, ◌∙◌, arith}
+use Rattle.std.proofs.Common.{ℕ, zero, suc, ◌≡◌, ◌≤◌, ◌+◌, ◌-◌, ◌==◌, nat_le, Bool, true, false, not, List, [], ◌∷◌, ◌++◌, length, take, drop, find, Option, Some, None, refl, ap, ◌∙◌, arith}
 use Rattle.std.proofs.lemmas.List.{length-append, length-map, take-append-drop}
 use Rattle.std.proofs.lemmas.List.Sums.{sum_by-cons}
-use Rattle.std.specs.List.{list_any, range_with_len, sum_by}
+use Rattle.std.specs.List.{list_any, range_with_len}
 use Rattle.group_types.specs.Dimensions.{Dimensions, space_of}
 use Rattle.group_types.specs.Hash.{home_of}
 use Rattle.group_types.specs.Lists.{at, put}
@@ -18,16 +18,16 @@ use Rattle.group_message.specs.declared.update.Update.{Update}
 use Rattle.group_calls.specs.Turns.{CallName}
 use Rattle.group_calls.specs.declared.decision.Decision.{Decision}
 use Rattle.group_calls.specs.declared.decision.Decision.TheVariants as decides
-use Rattle.group_run.specs.Applying.{ProcessStep, Settlement, and_then, apply_to, for_each, head_at, held_at, quiet, replica_of, sending, when, with_head, with_replica}
+use Rattle.group_run.specs.Applying.{ProcessStep, Settlement, and_then, apply_to, for_each, head_at, held_at, quiet, replica_of, when, with_head, with_replica}
 use Rattle.group_run.specs.Asking.{Oldest, act_on, ask_head, collect_from, collect_held, found_at, handed_out, is_call, issued, oldest_inherited, retry_block, ticketed, update_of}
 use Rattle.group_run.specs.Deciding.{decide}
-use Rattle.group_run.specs.Heading.{acknowledge, acknowledged, judge, judge_head, least_acked, other_parities, partition, rank, settle_to, settlements, to_others}
-use Rattle.group_run.specs.Leaders.{close_sessions, copy_kept, copy_marked, lost_of, mark_comes, mark_taken, own_mark, row_finished, session_opened, session_starts, start_session}
+use Rattle.group_run.specs.Heading.{acknowledge, acknowledged, judge, judge_head, least_acked, other_parities, settle_to, settlements}
+use Rattle.group_run.specs.Leaders.{close_sessions, copy_kept, copy_marked, lost_of, mark_comes, mark_taken, own_mark, row_finished, session_opened, start_session}
 use Rattle.group_run.specs.Process.{Copy, Gathering, Head, Held, Process}
 use Rattle.group_run.specs.Receiving.{ack_to, death_known, enthroned, log_adopted, notice_comes, read_comes, receive, take_over_if, taken_over, takes_over, update_taken}
 use Rattle.group_run.specs.Replica.{Replica, applied_to, empty_replica, last_of, up_to, with_update}
 use Rattle.group_run.specs.Rows.{accepts_mark, begin_copy, copy_in, is_marked, marked, parity_number, with_copies, without_copy}
-use Rattle.group_bounds.specs.Steps.{AlwaysSettlesFew, SettlesFew, waiting}
+use Rattle.group_bounds.specs.Steps.{AlwaysSettlesFew, waiting}
 
 waiting-cons : (x : Replica) (xs : List Replica) → waiting (x ∷ xs) ≡ length x.log + waiting xs
 waiting-cons x xs = sum_by-cons (λ (r : Replica). length r.log) x xs
@@ -138,17 +138,19 @@ module _ (s : Dimensions) where
       let judged : ProcessStep = and_then closed (for_each (range_with_len 0 s.k) (judge s)) in
       let same = known-waiting dead p in
       let first : Settles known judged = settles-then known closed (for_each (range_with_len 0 s.k) (judge s)) (settles-close known.as_leader.sessions known)
-          (settles-each (range_with_len 0 s.k) (judge s) closed.process settles-judge) in
+      (settles-each (range_with_len 0 s.k) (judge s) closed.process settles-judge) in
       let whole : Settles known (notice_comes s dead p) = settles-then known judged (for_each (range_with_len 0 s.k) (take_over_if s)) first
-          (settles-each (range_with_len 0 s.k) (take_over_if s) judged.process settles-take) in
+      (settles-each (range_with_len 0 s.k) (take_over_if s) judged.process settles-take) in
       omega (arith, same, whole)
 
   receive-few : (x : ProcessId) (m : Message) (p : Process) → length (receive s x m p).settled ≤ waiting p.replicas
-  receive-few x (tells.Update r d u stable) p = few-none p _ (none-when (nat_le (at 0 p.ranks d.0) r.0) p (ack_to x r.0 d.0 u.number (update_taken s d.0 u stable p)) refl)
+  receive-few x (tells.Update r d u stable) p = few-none p _
+      (none-when (nat_le (at 0 p.ranks d.0) r.0) p (ack_to x r.0 d.0 u.number (update_taken s d.0 u stable p)) refl)
   receive-few (DataNode e) (tells.Ack r d n) p = omega arith
   receive-few (ParityNode i) (tells.Ack r d n) p = acknowledge-few i r.0 d.0 n (head_at p d.0) p
   receive-few x (tells.Stable r d n) p = few-none p _ (none-when (nat_le (at 0 p.ranks d.0) r.0) p (quiet (apply_to s d.0 n p)) refl)
-  receive-few x (tells.Adopt r d base list) p = few-none p _ (none-when (nat_le (at 0 p.ranks d.0) r.0) p (ack_to x r.0 d.0 (base + length list) (log_adopted s r.0 d.0 base list p)) refl)
+  receive-few x (tells.Adopt r d base list) p = few-none p _
+      (none-when (nat_le (at 0 p.ranks d.0) r.0) p (ack_to x r.0 d.0 (base + length list) (log_adopted s r.0 d.0 base list p)) refl)
   receive-few x (tells.ReadBlock session block rows) p = few-none p _ (read-none p session block rows p.name)
   receive-few (DataNode e) (tells.Block session bytes n) p = omega arith
   receive-few (ParityNode i) (tells.Block session bytes n) p = omega arith
@@ -164,7 +166,8 @@ module _ (s : Dimensions) where
   start-none block p =
       let leader : ℕ = parity_number p.name in
       let number : ℕ = suc p.as_leader.last_session in
-      none-each (lost_of s p) (own_mark s leader number block) (session_opened s number block p) (λ l r. mark-none leader number (at 0 r.ranks l) block l (replica_of r l).applied r)
+      none-each (lost_of s p) (own_mark s leader number block) (session_opened s number block p)
+      (λ l r. mark-none leader number (at 0 r.ranks l) block l (replica_of r l).applied r)
 
   retry-none : (block : ℕ) (o : Option Oldest) (p : Process) → (retry_block s block o p).step.settled ≡ []
   retry-none block (Some o) p = refl
@@ -182,7 +185,8 @@ module _ (s : Dimensions) where
       let longer = length-append (replica_of p d).log (u ∷ []) in
       omega (arith, most, put_in, longer)
 
-  act-few : (name : CallName) (op : Asked) (d : ℕ) (h : Head) (p : Process) (decision : Decision) → length (act_on s name op d h p decision).step.settled ≤ suc (waiting p.replicas)
+  act-few : (name : CallName) (op : Asked) (d : ℕ) (h : Head) (p : Process) (decision : Decision)
+      → length (act_on s name op d h p decision).step.settled ≤ suc (waiting p.replicas)
   act-few name op d h p (decides.Answer reply) = omega arith
   act-few name op d h p (decides.Retry n) = omega arith
   act-few name op d h p decides.NoSpace = omega arith

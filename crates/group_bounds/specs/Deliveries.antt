@@ -32,7 +32,8 @@ IsFor (ParityNode i) m = IsForParity (ParityNode i) m
 
 -- the first message of each link into a living process is for it
 abbrev pub FirstsAreFor : Dimensions → World → Type 0
-FirstsAreFor s w = (from to : ProcessId) (m : Message) (rest : List Message) → IsProcess s from → IsProcess s to → from ≢ to → Lives w to → link w from to ≡ m ∷ rest → IsFor to m
+FirstsAreFor s w = (from to : ProcessId) (m : Message) (rest : List Message) → IsProcess s from → IsProcess s to → from ≢ to → Lives w to
+    → link w from to ≡ m ∷ rest → IsFor to m
 
 -- so it is along every run
 abbrev pub KindsAlways : Type 0
@@ -40,8 +41,8 @@ KindsAlways = (s : Dimensions) (es : List Event) → IsRun s es → FirstsAreFor
 
 -- a living process that receives a notice next knows of no more than m dead then
 abbrev pub KnowsFewDead : Dimensions → World → Type 0
-KnowsFewDead s w = (from to dead : ProcessId) (rest : List Message) → IsProcess s from → IsProcess s to → from ≢ to → Lives w to → link w from to ≡ tells.Notice dead ∷ rest
-    → lost_of (with_dead (process_of w to).known dead) ≤ s.m
+KnowsFewDead s w = (from to dead : ProcessId) (rest : List Message) → IsProcess s from → IsProcess s to → from ≢ to → Lives w to
+    → link w from to ≡ tells.Notice dead ∷ rest → lost_of (with_dead (process_of w to).known dead) ≤ s.m
 
 -- so it is along every run, while the group isn't down
 abbrev pub FewDeadAlways : Type 0

@@ -1,4 +1,4 @@
-use Rattle.group_bounds.proofs.Sending.{sends_few}
+use Rattle.group_bounds.proofs.Starting.{sends_few}
 use Rattle.group_bounds.proofs.sends_few.Goals as goal
 
 pub returns : goal.returns
