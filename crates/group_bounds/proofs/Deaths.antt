@@ -60,7 +60,8 @@ count-below (x ∷ xs) f a (suc n) all = by x refl (count-below xs f (a + 1) n l
       omega (arith, rest, one, word)
   by false is rest = let word = ap one-if is in omega (arith, rest, word)
 
-count-two : (f : ℕ → Bool) (a n m : ℕ) → count_dead (map f (range_with_len a (n + m))) ≡ count_dead (map f (range_with_len a n)) + count_dead (map f (range_with_len (a + n) m))
+count-two : (f : ℕ → Bool) (a n m : ℕ)
+    → count_dead (map f (range_with_len a (n + m))) ≡ count_dead (map f (range_with_len a n)) + count_dead (map f (range_with_len (a + n) m))
 count-two f a zero m =
     let start : zero + m ≡ m = omega arith in
     let place : a ≡ a + zero = omega arith in

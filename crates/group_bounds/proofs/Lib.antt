@@ -1,12 +1,12 @@
 mod Counts
 mod Sending
-mod Starting
-mod Inside
-mod Settling
-mod Addressing
+pub mod Starting
+pub mod Inside
+pub mod Settling
+pub mod Addressing
 mod Leaving
-mod Deaths
+pub mod Deaths
 mod Elsewhere
-mod Tickets
-mod Numbers
-mod Entries
+pub mod Numbers
+pub mod Tickets
+pub mod Entries

@@ -110,7 +110,8 @@ module _ (s : Dimensions) (q : ProcessId) where
     of : (c : Copy) → copy_in after.as_row.copies leader number ≡ Some c → c.leader ≡ leader
     of c is = copy-led after.as_row.copies leader number c is
 
-    by : (b : Bool) → ((when b p (mark_taken s leader number block d n p)).sent ≡ []) × ((when b p (mark_taken s leader number block d n p)).process.name ≡ ParityNode leader)
+    by : (b : Bool)
+        → ((when b p (mark_taken s leader number block d n p)).sent ≡ []) × ((when b p (mark_taken s leader number block d n p)).process.name ≡ ParityNode leader)
     by true = (
       marked-silent d n (copy_in after.as_row.copies leader number) after leader name of,
       marked-name d n

@@ -18,4 +18,5 @@ TicketsAlways = (s : Dimensions) (es : List Event) → IsRun s es → TicketsSta
 
 -- the entries that an event logs are of different calls
 abbrev pub EntriesAlways : Type 0
-EntriesAlways = (s : Dimensions) (es : List Event) (e : Event) → IsRun s es → MayCome (after s es) e → AllPairs (λ a b. name_of a ≢ name_of b) (step (after s es) e).turn.logged
+EntriesAlways = (s : Dimensions) (es : List Event) (e : Event) → IsRun s es → MayCome (after s es) e
+    → AllPairs (λ a b. name_of a ≢ name_of b) (step (after s es) e).turn.logged

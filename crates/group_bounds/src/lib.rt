@@ -1,6 +1,7 @@
 //! Bounds of every run, for code that runs the machine and makes its room before each step: which messages come to
-//! which process, how many dead a process may learn of, how high numbers rise, of which calls the tickets are, and how much one
-//! step sends and settles. It is told of the pure machine; that what comes fits the process is left to the crate of the headline.
+//! which process, how many dead a process may learn of, how high numbers rise, of which calls tickets and entries
+//! are, and how much one step sends and settles. It is told of the pure machine; that what comes fits the process is
+//! left to the crate of the headline.
 #![tactic(auto)]
 
 ghost use Rattle.group_bounds.specs.Deliveries.{FewDeadAlways, KindsAlways};
