@@ -1,5 +1,5 @@
 -- A partition after a message of its head.
-use Rattle.std.proofs.Common.{ℕ, zero, suc, ◌≡◌, ◌+◌, ◌-◌, ◌<◌, ◌≤◌, nat_le, true, false, List, [], ◌∷◌, Some, None, length, map, take, slice_index_or, All, refl, sym, ap, subst, ◌∙◌, arith}
+use Rattle.std.proofs.Common.{ℕ, zero, suc, ◌≡◌, ◌+◌, ◌-◌, ◌<◌, ◌≤◌, nat_le, true, List, [], ◌∷◌, Some, None, length, map, take, slice_index_or, All, refl, sym, ap, subst, ◌∙◌, arith}
 use Rattle.std.specs.Prelude.{set}
 use Rattle.std.specs.List.{slice_get}
 use Rattle.std.proofs.lemmas.Option.{slice_get-get_or, slice_get_within}
@@ -9,7 +9,7 @@ use Rattle.group_types.proofs.Lists.{at-put, put-at, put-put}
 use Rattle.group_types.specs.declared.process.ProcessId.{ProcessId}
 use Rattle.group_message.specs.declared.message.Message.TheVariants as tells
 use Rattle.group_message.specs.declared.update.Update.{Update}
-use Rattle.group_run.specs.Applying.{ProcessStep, Sent, Settlement, apply_to, bytes_after, quiet, replica_of, sending, when, with_replica}
+use Rattle.group_run.specs.Applying.{ProcessStep, Sent, Settlement, apply_to, bytes_after, replica_of, sending, when, with_replica}
 use Rattle.group_run.specs.Fitting.{NumberedFrom}
 use Rattle.group_run.specs.Process.{Process}
 use Rattle.group_run.specs.Heading.{partition, rank}
@@ -25,10 +25,7 @@ use Rattle.process_service.proofs.Standing.{AreKept, standing-next}
 pub none-above : (n : ℕ) (r : Replica) → n ≤ r.applied → up_to n r ≡ []
 none-above n r reached = let none : n - r.applied ≡ 0 = omega (arith, reached) in ap (λ (m : ℕ). take m r.log) none
 
--- a message of a lower rank, and another
-pub dropped : (r d : ℕ) (p : Process) (step : ProcessStep) → nat_le (at 0 p.ranks d) r ≡ false → unless_stale r d p step ≡ quiet p
-dropped r d p step stale = ap (λ test. when test p step) stale
-
+-- a message that isn't of a lower rank
 pub passed : (r d : ℕ) (p : Process) (step : ProcessStep) → nat_le (at 0 p.ranks d) r ≡ true → unless_stale r d p step ≡ step
 passed r d p step current = ap (λ test. when test p step) current
 
