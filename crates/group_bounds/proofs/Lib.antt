@@ -6,6 +6,7 @@ mod Settling
 mod Addressing
 mod Leaving
 mod Deaths
+mod OwnMarks
 mod Elsewhere
 mod Tickets
 mod Numbers
