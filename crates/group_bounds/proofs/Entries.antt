@@ -1,13 +1,12 @@
 -- The entries that one event logs are of different calls, since all entries of a log are.
-use Rattle.std.proofs.Common.{ℕ, ◌≡◌, ◌≢◌, ◌<◌, ◌+◌, List, [], ◌∷◌, ◌++◌, length, AllPairs, Some, refl, sym, ap, subst, ◌∙◌, arith}
+use Rattle.std.proofs.Common.{ℕ, ◌≡◌, ◌≢◌, ◌<◌, ◌+◌, List, [], ◌∷◌, ◌++◌, length, AllPairs, Some, refl, ap, ◌∙◌, arith}
 use Rattle.std.proofs.lemmas.List.{get_or-append-add, length-append}
 use Rattle.std.proofs.lemmas.Option.{slice_get-get_or}
 use Rattle.std.specs.Prelude.{slice_get, slice_index_or}
-use Rattle.group_types.specs.Dimensions.{Dimensions}
 use Rattle.group_calls.specs.Turns.{Turn, log_of, name_of}
 use Rattle.group_calls.specs.declared.entry.Entry.{Entry}
 use Rattle.group_calls.specs.declared.event.Event.{Event}
-use Rattle.group_run.specs.Headline.{IsRun, IsRunFrom, MayCome}
+use Rattle.group_run.specs.Headline.{IsRunFrom, MayCome}
 use Rattle.group_run.specs.World.{World, after, opening, step, turns_from, turns_of, world_after}
 use Rattle.group_log.proofs.Logging.{log-append}
 use Rattle.group_headline.proofs.Headlines.{headline_always}

@@ -1,5 +1,5 @@
 -- What comes in for a session, marks that a row takes, and sessions that it forgets leave a process able to lead.
-use Rattle.std.proofs.Common.{ℕ, ◌≡◌, ◌≤◌, ◌==◌, nat_le, Bool, true, false, not, ◌&&◌, List, [], ◌∷◌, filter, Option, Some, None, is_some, find, if◌then◌else◌, All, Contains, refl, sym, subst, ◌∙◌}
+use Rattle.std.proofs.Common.{ℕ, ◌≡◌, ◌≤◌, ◌==◌, nat_le, Bool, true, false, not, ◌&&◌, List, [], ◌∷◌, filter, Option, Some, None, is_some, find, if◌then◌else◌, Contains, refl, sym, subst, ◌∙◌}
 use Rattle.std.proofs.lemmas.List.Elements.{All-filter, All-map, All-push, All-weaker}
 use Rattle.group_types.specs.Dimensions.{Dimensions}
 use Rattle.group_types.specs.Lists.{put}

@@ -1,5 +1,5 @@
 -- What is found of those of which something holds.
-use Rattle.std.proofs.Common.{◌≡◌, Bool, true, false, List, [], ◌∷◌, Option, Some, None, find, cond, All, refl, subst}
+use Rattle.std.proofs.Common.{◌≡◌, Bool, true, false, List, [], ◌∷◌, Some, None, find, cond, All, refl, subst}
 use Rattle.std.proofs.lemmas.List.Elements.{All-head, All-tail}
 
 -- what holds of all holds of the one that is found
