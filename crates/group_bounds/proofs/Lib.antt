@@ -6,6 +6,7 @@ pub mod Settling
 pub mod Addressing
 mod Leaving
 pub mod Deaths
+pub mod OwnMarks
 mod Elsewhere
 pub mod Numbers
 pub mod Tickets

@@ -1,10 +1,10 @@
 //! Bounds of every run, for code that runs the machine and makes its room before each step: which messages come to
-//! which process, how many dead a process may learn of, how high numbers rise, of which calls tickets and entries
-//! are, and how much one step sends and settles. It is told of the pure machine; that what comes fits the process is
-//! left to the crate of the headline.
+//! which process, how many dead a process may learn of, for which of its own sessions marks come, how high numbers rise,
+//! of which calls tickets and entries are, and how much one step sends and settles. It is told of the pure machine; that
+//! what comes fits the process is left to the crate of the headline.
 #![tactic(auto)]
 
-ghost use Rattle.group_bounds.specs.Deliveries.{FewDeadAlways, KindsAlways};
+ghost use Rattle.group_bounds.specs.Deliveries.{FewDeadAlways, KindsAlways, OwnMarksAlways};
 ghost use Rattle.group_bounds.specs.Numbers.{NumbersLowAlways};
 ghost use Rattle.group_bounds.specs.Steps.{AlwaysSendsFew, AlwaysSendsInside, AlwaysSettlesFew};
 ghost use Rattle.group_bounds.specs.Tickets.{EntriesAlways, TicketsAlways};
@@ -17,6 +17,11 @@ pub fn kinds_always()
 /// While the group isn't down no living process learns of more than m dead.
 pub fn few_dead_always()
     ensures { FewDeadAlways }
+{}
+
+/// A mark that is delivered to the leader of its session is for one that it started.
+pub fn own_marks_always()
+    ensures { OwnMarksAlways }
 {}
 
 /// No update, no session and no call has a number above that of the events.

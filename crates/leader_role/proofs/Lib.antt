@@ -1,5 +1,6 @@
 mod Dead
 mod Counting
+mod Finding
 mod Steps
 mod Coming
 mod Opening

@@ -1,5 +1,5 @@
 -- What the notice of a death leaves a process able to do.
-use Rattle.std.proofs.Common.{◌≡◌, ◌≤◌, true, List, [], ◌∷◌, Option, None, is_some, All, Contains, refl, sym, ap, subst, ◌∙◌}
+use Rattle.std.proofs.Common.{◌≡◌, ◌≤◌, ◌==◌, not, true, List, [], ◌∷◌, Option, None, is_some, All, Contains, refl, sym, ap, subst, ◌∙◌}
 use Rattle.std.proofs.lemmas.List.Elements.{All-nil}
 use Rattle.std.specs.List.{range_with_len}
 use Rattle.group_types.specs.Dimensions.{Dimensions}
@@ -15,8 +15,9 @@ use Rattle.group_run.specs.Process.{Gathering, Head, Process}
 use Rattle.group_run.specs.Receiving.{death_known, notice_comes, take_over_if}
 use Rattle.group_run.specs.Rows.{parity_number}
 use Rattle.leader_role.specs.Sound.{IsSound, IsVacant}
+use Rattle.leader_role.proofs.Coming.{cease-stays, filtered-stays}
 use Rattle.leader_role.proofs.Dead.{knows-other, shape-stays, vacant-still}
-use Rattle.leader_role.proofs.Steps.{each-sound, judge-stays, sound-stays, stays-each, takes-sound}
+use Rattle.leader_role.proofs.Steps.{OwnStarted, each-sound, judge-stays, sound-stays, stays-each, takes-sound}
 
 module _ (s : Dimensions) where
   -- a process that knows of one death more, and has no session open
@@ -25,6 +26,7 @@ module _ (s : Dimensions) where
     pub known : q.known ≡ with_dead p.known dead
     pub heads : q.heads ≡ p.heads
     pub sessions : q.as_leader.sessions ≡ []
+    pub copies : OwnStarted p → OwnStarted q
 
   bereaved-sound : (dead : ProcessId) (p q : Process) → IsBereaved dead p q → NoticeFits s p dead → lost_of (with_dead p.known dead) ≤ s.m → IsSound s p → IsSound s q
   bereaved-sound dead p q is fits few sound = record {
@@ -41,17 +43,25 @@ module _ (s : Dimensions) where
         (vacant-still p.known dead d (parity_number p.name) (sound.heads d before)));
     rows = subst (λ (gs : List Gathering). All (λ g. Contains g.rows (parity_number q.name)) gs) (sym is.sessions)
         (All-nil (λ g. Contains g.rows (parity_number q.name)));
+    copies = is.copies sound.copies;
   }
 
   closed-bereaved : (dead : ProcessId) (p q : Process) (gs : List Gathering) → q.name ≡ p.name → q.known ≡ with_dead p.known dead → q.heads ≡ p.heads
-      → q.as_leader.sessions ≡ gs
+      → q.as_leader.sessions ≡ gs → (OwnStarted p → OwnStarted q)
       → IsBereaved dead p (close_sessions s gs q).process
-  closed-bereaved dead p q [] name known heads sessions = record { name = name; known = known; heads = heads; sessions = sessions }
-  closed-bereaved dead p q (g ∷ gs) name known heads sessions = record { name = name; known = known; heads = heads; sessions = refl }
+  closed-bereaved dead p q [] name known heads sessions copies = record { name = name; known = known; heads = heads; sessions = sessions; copies = copies }
+  closed-bereaved dead p q (g ∷ gs) name known heads sessions copies = record {
+    name = name;
+    known = known;
+    heads = heads;
+    sessions = refl;
+    copies = λ own. (cease-stays s (parity_number q.name) q.as_leader.last_session q).copies (copies own);
+  }
 
   death-bereaved : (dead : ProcessId) (p : Process) → IsBereaved dead p (close_sessions s (death_known dead p).as_leader.sessions (death_known dead p)).process
-  death-bereaved (DataNode d) p = closed-bereaved (DataNode d) p (death_known (DataNode d) p) p.as_leader.sessions refl refl refl refl
+  death-bereaved (DataNode d) p = closed-bereaved (DataNode d) p (death_known (DataNode d) p) p.as_leader.sessions refl refl refl refl (λ own. own)
   death-bereaved (ParityNode i) p = closed-bereaved (ParityNode i) p (death_known (ParityNode i) p) p.as_leader.sessions refl refl refl refl
+      (filtered-stays s (λ c. not (c.leader == i)) p).copies
 
   pub noticed-sound : (dead : ProcessId) (p : Process) → IsSound s p → NoticeFits s p dead → lost_of (with_dead p.known dead) ≤ s.m
       → IsSound s (notice_comes s dead p).process

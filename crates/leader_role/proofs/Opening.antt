@@ -1,7 +1,7 @@
 -- A leader can start a session, and is one of its rows.
-use Rattle.std.proofs.Common.{ℕ, suc, ◌≡◌, ◌<◌, ◌≤◌, ◌==◌, Bool, true, false, not, List, length, filter, Option, Some, None, Contains, sym, ap, ◌∙◌, arith}
+use Rattle.std.proofs.Common.{ℕ, suc, ◌≡◌, ◌<◌, ◌≤◌, ◌==◌, Bool, true, false, not, List, [], ◌∷◌, length, filter, Option, Some, None, Contains, sym, ap, ◌∙◌, arith}
 use Rattle.std.proofs.lemmas.List.{length-take-le}
-use Rattle.std.proofs.lemmas.List.Elements.{All-push, All-take}
+use Rattle.std.proofs.lemmas.List.Elements.{All-push, All-take, All-weaker}
 use Rattle.std.specs.List.{list_any, range_with_len}
 use Rattle.group_types.specs.Dimensions.{Dimensions}
 use Rattle.group_types.specs.Lists.{at}
@@ -16,7 +16,7 @@ use Rattle.block_sessions.specs.Opened.{AreLost}
 use Rattle.leader_role.specs.Sound.{IsSound, IsVacant}
 use Rattle.leader_role.proofs.Counting.{below-filter, enough, first-left, front-taken, rising-filter, rising-take, some-found}
 use Rattle.leader_role.proofs.Coming.{mark-stays}
-use Rattle.leader_role.proofs.Steps.{sound-stays, stays-each}
+use Rattle.leader_role.proofs.Steps.{Stays, sound-stays, stays-self, stays-then}
 
 module _ (s : Dimensions) (p : Process) (sound : IsSound s p) where
   abbrev left : List ℕ
@@ -45,8 +45,8 @@ module _ (s : Dimensions) (p : Process) (sound : IsSound s p) where
       front-taken (length (lost_of s p)) i left front.0 (some-lost d vacant inside) front.1
 
   -- with a session more
-  opened-sound : (number block : ℕ) → Contains (rows_of s p) (parity_number p.name) → IsSound s (session_opened s number block p)
-  opened-sound number block mine = record {
+  opened-sound : (number block : ℕ) → p.as_leader.last_session ≤ number → Contains (rows_of s p) (parity_number p.name) → IsSound s (session_opened s number block p)
+  opened-sound number block later mine = record {
     limits = sound.limits;
     named = sound.named;
     shape = sound.shape;
@@ -54,17 +54,29 @@ module _ (s : Dimensions) (p : Process) (sound : IsSound s p) where
     living = sound.living;
     heads = sound.heads;
     rows = All-push (λ g. Contains g.rows (parity_number p.name)) p.as_leader.sessions (new_session s number block p) sound.rows mine;
+    copies = All-weaker (λ c. c.leader ≡ parity_number p.name → c.number ≤ p.as_leader.last_session) (λ c. c.leader ≡ parity_number p.name → c.number ≤ number)
+        (λ c low is. omega (arith, low is, later)) p.as_row.copies sound.copies;
   }
+
+  -- a leader marks its own row
+  own-marks-stay : (leader number block : ℕ) (ls : List ℕ) (q : Process) → number ≤ q.as_leader.last_session
+      → Stays q (for_each ls (own_mark s leader number block) q).process
+  own-marks-stay leader number block [] q started = stays-self q
+  own-marks-stay leader number block (l ∷ ls) q started =
+      let marked : Process = (own_mark s leader number block l q).process in
+      let one : Stays q marked = mark-stays s leader number (at 0 q.ranks l) block l (replica_of q l).applied q (λ mine. started) in
+      let last = one.last in
+      stays-then q marked (for_each ls (own_mark s leader number block) marked).process one
+      (own-marks-stay leader number block ls marked (omega (arith, started, last)))
 
   started-sound : (block : ℕ) → Contains (rows_of s p) (parity_number p.name) → IsSound s (start_session s block p).process
   started-sound block mine =
       let number : ℕ = suc p.as_leader.last_session in
       let leader : ℕ = parity_number p.name in
       let opened : Process = session_opened s number block p in
-      let mark : ℕ → Process → _ = own_mark s leader number block in
-      sound-stays s opened (for_each (lost_of s p) mark opened).process
-      (stays-each mark (λ l q. mark-stays s leader number (at 0 q.ranks l) block l (replica_of q l).applied q) (lost_of s p) opened)
-      (opened-sound number block mine)
+      sound-stays s opened (for_each (lost_of s p) (own_mark s leader number block) opened).process
+      (own-marks-stay leader number block (lost_of s p) opened (omega arith))
+      (opened-sound number block (omega arith) mine)
 
   -- a block that is missing is waited for, or a session is opened for it
   pub retried-sound : (block : ℕ) (o : Option Oldest) → Contains (rows_of s p) (parity_number p.name) → IsSound s (retry_block s block o p).step.process

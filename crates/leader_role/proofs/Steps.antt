@@ -1,41 +1,54 @@
 -- The steps of a process that let it lead: each leaves its name, whom it knows to be dead, and what it heads, or
--- takes over what is vacant; and its sessions keep their rows.
-use Rattle.std.proofs.Common.{ℕ, suc, ◌≡◌, ◌≢◌, ◌≤◌, ◌==◌, ◌⊎◌, Bool, true, false, List, [], ◌∷◌, Option, Some, None, is_some, All, Contains, inl, inr, refl, sym, ap, subst, ◌∙◌}
+-- takes over what is vacant; its sessions keep their rows, and copies for its own sessions are for those that it started.
+use Rattle.std.proofs.Common.{ℕ, suc, ◌≡◌, ◌≢◌, ◌≤◌, ◌==◌, ◌⊎◌, Bool, true, false, List, [], ◌∷◌, map, if◌then◌else◌, Option, Some, None, is_some, All, Contains, inl, inr, refl, sym, ap, subst, ◌∙◌}
 use Rattle.std.proofs.lemmas.Bool.{cases_eq}
+use Rattle.std.proofs.lemmas.List.Elements.{All-map, All-weaker}
 use Rattle.group_types.specs.Dimensions.{Dimensions}
 use Rattle.group_types.specs.Lists.{at, put}
 use Rattle.group_types.specs.declared.process.ProcessId.{ProcessId}
 use Rattle.group_types.proofs.Lists.{at-put, at-put-other}
 use Rattle.membership.specs.Members.{Membership, knows_dead, lost_of}
-use Rattle.group_run.specs.Applying.{ProcessStep, for_each, head_at, when, with_head}
-use Rattle.group_run.specs.Heading.{acknowledge, acknowledged, judge, judge_head}
-use Rattle.group_run.specs.Process.{Gathering, Head, Process}
+use Rattle.group_message.specs.declared.update.Update.{Update}
+use Rattle.group_run.specs.Applying.{ProcessStep, apply_to, block_after, copy_after, for_each, head_at, replica_of, when, with_head}
+use Rattle.group_run.specs.Heading.{acknowledge, acknowledged, judge, judge_head, least_acked, other_parities}
+use Rattle.group_run.specs.Process.{Copy, Gathering, Head, LeaderState, Process}
 use Rattle.group_run.specs.Receiving.{enthroned, take_over_if, taken_over, takes_over}
+use Rattle.group_run.specs.Replica.{last_of, up_to}
 use Rattle.group_run.specs.Rows.{parity_number}
-use Rattle.leader_role.specs.Sound.{IsSound, IsVacant}
+use Rattle.leader_role.specs.Sound.{AreStarted, IsSound, IsVacant}
 use Rattle.leader_role.proofs.Dead.{taken-vacant}
 
 -- each session has a parity process as a row
 abbrev pub AreRowed : ℕ → List Gathering → Type 0
 AreRowed i gs = All (λ g. Contains g.rows i) gs
 
--- a process with the same name, the same known dead, and the same seats, whose sessions have the same as a row
+-- each copy for a session of the process's own is for one that it started
+abbrev pub OwnStarted : Process → Type 0
+OwnStarted p = AreStarted (parity_number p.name) p.as_leader.last_session p.as_row.copies
+
+-- a process with the same name, the same known dead, the same seats and the same last session, whose sessions have the
+-- same as a row, and whose copies are of its started sessions if they were
 pub record Stays (p q : Process) : Type 0 where
   pub name : q.name ≡ p.name
   pub known : q.known ≡ p.known
   pub seats : (d : ℕ) → is_some (head_at q d) ≡ is_some (head_at p d)
   pub rows : (i : ℕ) → AreRowed i p.as_leader.sessions → AreRowed i q.as_leader.sessions
+  pub last : q.as_leader.last_session ≡ p.as_leader.last_session
+  pub copies : OwnStarted p → OwnStarted q
 
-pub stays-alike : (p q : Process) → q.name ≡ p.name → q.known ≡ p.known → q.heads ≡ p.heads → q.as_leader.sessions ≡ p.as_leader.sessions → Stays p q
-stays-alike p q name known heads sessions = record {
+-- where the name, the known dead, the heads and the leader's part stay
+pub stays-alike : (p q : Process) → q.name ≡ p.name → q.known ≡ p.known → q.heads ≡ p.heads → q.as_leader ≡ p.as_leader → (OwnStarted p → OwnStarted q) → Stays p q
+stays-alike p q name known heads leader copies = record {
   name = name;
   known = known;
   seats = λ d. ap (λ (hs : List (Option Head)). is_some (at None hs d)) heads;
-  rows = λ i all. subst (AreRowed i) (sym sessions) all;
+  rows = λ i all. subst (λ (l : LeaderState). AreRowed i l.sessions) (sym leader) all;
+  last = ap (λ (l : LeaderState). l.last_session) leader;
+  copies = copies;
 }
 
 pub stays-self : (p : Process) → Stays p p
-stays-self p = stays-alike p p refl refl refl refl
+stays-self p = stays-alike p p refl refl refl refl (λ own. own)
 
 pub stays-then : (p q r : Process) → Stays p q → Stays q r → Stays p r
 stays-then p q r a b = record {
@@ -43,6 +56,8 @@ stays-then p q r a b = record {
   known = b.known ∙ a.known;
   seats = λ d. b.seats d ∙ a.seats d;
   rows = λ i all. b.rows i (a.rows i all);
+  last = b.last ∙ a.last;
+  copies = λ own. b.copies (a.copies own);
 }
 
 pub stays-each : (f : ℕ → Process → ProcessStep) → ((x : ℕ) (q : Process) → Stays q (f x q).process) → (xs : List ℕ) (p : Process) → Stays p (for_each xs f p).process
@@ -64,6 +79,7 @@ module _ (s : Dimensions) where
     living = ap (knows_dead q.known) stays.name ∙ ap (λ (known : Membership). knows_dead known p.name) stays.known ∙ sound.living;
     heads = λ d heads. vacant_of d q.known q.name stays.known stays.name (sound.heads d (sym (stays.seats d) ∙ heads));
     rows = subst (λ (name : ProcessId). AreRowed (parity_number name) q.as_leader.sessions) (sym stays.name) (stays.rows (parity_number p.name) sound.rows);
+    copies = stays.copies sound.copies;
   } where
     few_of : (known : Membership) → known ≡ p.known → lost_of known ≤ s.m
     few_of known is = subst (λ (x : Membership). lost_of x ≤ s.m) (sym is) sound.few
@@ -73,17 +89,48 @@ module _ (s : Dimensions) where
     vacant_of d known name is named vacant =
         subst (λ (x : Membership). IsVacant x d (parity_number name)) (sym is) (subst (λ (x : ProcessId). IsVacant p.known d (parity_number x)) (sym named) vacant)
 
+  -- copies stay for their sessions while updates are applied
+  copies-applied : (name : ProcessId) (d i n : ℕ) (us : List Update) (copies : List Copy) → AreStarted i n copies → AreStarted i n (map (copy_after s name d us) copies)
+  copies-applied name d i n us copies all =
+      All-map (λ c. c.leader ≡ i → c.number ≤ n) (copy_after s name d us) copies
+      (All-weaker (λ c. c.leader ≡ i → c.number ≤ n) (λ c. (copy_after s name d us c).leader ≡ i → (copy_after s name d us c).number ≤ n)
+      (λ c is. by (is_some (at None c.marks d)) c is) copies all)
+    where
+      added : Copy → Copy
+      added c = record c { bytes = block_after s name d c.block us c.bytes }
+
+      by : (b : Bool) (c : Copy) → (c.leader ≡ i → c.number ≤ n) → (if b then c else added c).leader ≡ i → (if b then c else added c).number ≤ n
+      by true c is = is
+      by false c is = is
+
+  pub applied-stays : (d n : ℕ) (p : Process) → Stays p (apply_to s d n p)
+  applied-stays d n p = record {
+    name = refl;
+    known = refl;
+    seats = λ e. refl;
+    rows = λ i all. all;
+    last = refl;
+    copies = λ own. copies-applied p.name d (parity_number p.name) p.as_leader.last_session (up_to n (replica_of p d)) p.as_row.copies own;
+  }
+
   -- a head judges, and counts acknowledgements
   judged-stays : (d : ℕ) (p : Process) (h : Option Head) → Stays p (judge_head s d p h).process
   judged-stays d p None = stays-self p
-  judged-stays d p (Some h) = stays-alike p _ refl refl refl refl
+  judged-stays d p (Some h) = applied-stays d (least_acked h (last_of (replica_of p d)) (other_parities s.m p.name p.known)) p
 
   pub judge-stays : (d : ℕ) (p : Process) → Stays p (judge s d p).process
   judge-stays d p = judged-stays d p (head_at p d)
 
   -- a head in the place of one
   head-stays : (d : ℕ) (h new : Head) (p : Process) → head_at p d ≡ Some h → Stays p (with_head d (Some new) p)
-  head-stays d h new p there = record { name = refl; known = refl; seats = λ e. by e (cases_eq e d); rows = λ i all. all } where
+  head-stays d h new p there = record {
+    name = refl;
+    known = refl;
+    seats = λ e. by e (cases_eq e d);
+    rows = λ i all. all;
+    last = refl;
+    copies = λ own. own;
+  } where
     by : (e : ℕ) → (e ≡ d) ⊎ (e ≢ d) → is_some (at None (put None p.heads d (Some new)) e) ≡ is_some (head_at p e)
     by e (inl same) =
         ap (λ (x : ℕ). is_some (at None (put None p.heads d (Some new)) x)) same
@@ -108,6 +155,7 @@ module _ (s : Dimensions) where
     living = sound.living;
     heads = λ e. by e (cases_eq e d);
     rows = sound.rows;
+    copies = sound.copies;
   } where
     by : (e : ℕ) → (e ≡ d) ⊎ (e ≢ d) → is_some (head_at (enthroned s r d p) e) ≡ true → IsVacant p.known e (parity_number p.name)
     by e (inl same) heads = subst (λ (x : ℕ). IsVacant p.known x (parity_number p.name)) (sym same) vacant

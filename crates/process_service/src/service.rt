@@ -133,6 +133,7 @@ impl Service {
 
     /// The other parity processes, as the process knows them.
     pub fn peers(&self) -> Peers
+        ensures shape { result.known.shape ≡ self.now.shape }
         ensures m { result.m ≡ self.now.shape.m }
         ensures name { result.name ≡ self.now.name }
         ensures known { result.known ≡ self.now.known }
