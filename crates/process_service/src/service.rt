@@ -1,6 +1,7 @@
 ghost use Rattle.std.specs.Prelude.{◌≡◌, ◌↔◌, ◌<◌, ◌^◌, false, [], None, All, IsTrue, IfOk, length, map, replicate};
 ghost use Rattle.group_types.specs.Lists.{at};
 ghost use Rattle.group_types.specs.Names.{IsProcess};
+ghost use Rattle.group_types.specs.Shape.{IsShape};
 ghost use Rattle.group_run.specs.Process.{heads_at_start};
 ghost use Rattle.partition_replica.specs.State.{IsTidyBut};
 ghost use Rattle.group_run.specs.Replica.{empty_replica, last_of};
@@ -51,7 +52,8 @@ impl Service {
     /// What a process keeps at the start, where nobody is known dead.
     pub fn new(alloc: Global, shape: Shape, name: ProcessId) -> Result<Service, AllocError>
         requires { IsProcess shape name }
-        ensures { IfOk result (λ service. service ≡ at_start shape name) }
+        ensures value { IfOk result (λ service. service ≡ at_start shape name) }
+        ensures limits { IfOk result (λ _. IsShape shape) }
     {
         Ok(Service {
             alloc,

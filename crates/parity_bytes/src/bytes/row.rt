@@ -11,8 +11,8 @@ ghost use Rattle.row_copies.specs.Row.{IsWhole, marking};
 use super::ParityBytes;
 use group_types::{ByteList, Partition, ProcessId, Run, Shape};
 use parity_space::ParitySpace;
-use row_copies::{Copy, Rows};
 use row_copies::laws::marks_are_the_machines;
+use row_copies::{Copy, Rows};
 use std::alloc::AllocError;
 
 impl ParityBytes {
@@ -36,7 +36,8 @@ impl ParityBytes {
             return Ok(());
         }
         let blank = blank_for(self.shape, block, &self.space, &mut self.rows)?;
-        self.rows.begin(leader, number, block, blank.bytes, blank.marks);
+        self.rows
+            .begin(leader, number, block, blank.bytes, blank.marks);
         Ok(())
     }
 

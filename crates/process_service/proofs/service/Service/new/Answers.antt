@@ -57,8 +57,8 @@ invariant_of-result c = record {
   acks = subst (All (λ (head : Option Head). IfSome head (λ h. length h.acks ≡ c.args.shape.m))) (sym c.in_ok-heads.ensures) (first-counts c.args.shape c.args.name c.requires);
 }
 
-pub returns : goal.returns
-returns c =
+pub returns-clause-value : goal.returns-clause-value
+returns-clause-value c =
     let s : Dimensions = c.args.shape in
     let start : Serving = at_start s c.args.name in
     let replicas : List Replica = map (λ r. r.replica) c.in_ok-replicas.field-0.items in

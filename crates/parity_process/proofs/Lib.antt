@@ -1,0 +1,5 @@
+pub mod Beneath
+pub mod Marks
+pub mod Standing
+pub mod Waiting
+pub mod Starting

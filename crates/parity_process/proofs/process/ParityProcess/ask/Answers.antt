@@ -1,0 +1,23 @@
+use Rattle.std.proofs.Common.{ap, subst}
+use Rattle.group_run.specs.Asking.{CallStep}
+use Rattle.head_service.specs.Acting.{name_of}
+use Rattle.head_service.specs.Serving.{serving}
+use Rattle.head_service.specs.declared.ask.Asked.{Asked}
+use Rattle.process_service.specs.Steps.{IsAsked}
+use Rattle.parity_process.proofs.Standing.{asked-ready, retried-ready}
+use Rattle.parity_process.proofs.process.ParityProcess.ask.Goals as goal
+
+pub invariant_of-self-in-Done : goal.invariant_of-self-in-Done
+invariant_of-self-in-Done c =
+    asked-ready c.self.inside.service c.ask.new.self c.self.inside.bytes c.ask.new.below (name_of c.args.call) c.args.op.now c.self.invariant c.ask.ensures.shape c.ask.ensures.beneath
+    (ap (λ (step : CallStep). step.step.process)
+    (subst (λ (asked : Asked). IsAsked c.self.inside.service.shape (name_of c.args.call) c.args.op.now (serving c.self.inside.service c.self.inside.bytes.process) asked
+    (serving c.ask.new.self c.ask.new.below.process)) c.in-Done.is c.in_ok-step.ensures.asked))
+
+pub invariant_of-self-in-Need : goal.invariant_of-self-in-Need
+invariant_of-self-in-Need c =
+    retried-ready c.self.inside.service c.ask.new.self c.retry.new.service c.self.inside.bytes c.ask.new.below c.retry.new.bytes (name_of c.args.call) c.args.op.now
+    c.in-Need.block c.retry.result c.self.invariant c.ask.ensures.shape
+    (subst (λ (asked : Asked). IsAsked c.self.inside.service.shape (name_of c.args.call) c.args.op.now (serving c.self.inside.service c.self.inside.bytes.process) asked
+    (serving c.ask.new.self c.ask.new.below.process)) c.in-Need.is c.in_ok-step.ensures.asked)
+    c.retry.ensures.shape c.retry.ensures.over c.retry.ensures.step c.retry.ensures.service_err c.retry.ensures.bytes_err

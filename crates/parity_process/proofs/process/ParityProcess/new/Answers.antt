@@ -1,0 +1,6 @@
+use Rattle.parity_process.proofs.Standing.{starts-ready}
+use Rattle.parity_process.proofs.process.ParityProcess.new.Goals as goal
+
+pub invariant_of-result : goal.invariant_of-result
+invariant_of-result c = starts-ready c.args.shape c.args.number c.in_ok-new.field-0 c.in_ok-new-2.field-0 c.in_ok-new.ensures.limits c.requires
+    c.in_ok-new.ensures.value c.in_ok-new-2.ensures

@@ -1,0 +1,4 @@
+pub mod Standing
+pub mod Marking
+pub mod Opening
+pub mod Closing
