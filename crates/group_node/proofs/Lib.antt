@@ -1,0 +1,6 @@
+pub mod Names
+pub mod Ranges
+pub mod Links
+pub mod Sent
+pub mod Standing
+pub mod Cut

@@ -1,0 +1,5 @@
+pub mod Delivering
+pub mod Roles
+pub mod Rooms
+pub mod Standing
+pub mod Steps

@@ -1,0 +1,8 @@
+-- What the calls of a node make, in the machine's words.
+use Rattle.group_run.specs.Process.{Node}
+use Rattle.group_run.specs.World.{NodeStep}
+use Rattle.group_node.specs.declared.node.NodeOut as code
+
+-- the machine's step after which a node stands like this, and which makes what the code's has
+abbrev pub made : Node → code.NodeOut → NodeStep
+made node out = record { node = node; answer = out.answer; settled = out.settled.items }

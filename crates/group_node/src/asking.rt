@@ -1,0 +1,89 @@
+ghost use Rattle.std.specs.Prelude.{◌≡◌, ◌<◌, ◌^◌, false, [], All, IfOk, OnErr};
+ghost use Rattle.group_run.specs.Replica.{callers, last_of};
+ghost use Rattle.group_run.specs.World.{ask_node, collect_node, flush_node, trace_node, unchanged};
+ghost use Rattle.head_service.specs.Acting.{name_of};
+ghost use Rattle.group_node.specs.Steps.{made};
+
+use crate::node::{Node, NodeOut};
+use crate::sending::{make_room, send_all};
+use group_bounds::sends_few;
+use group_calls::Answer;
+use group_types::Partition;
+use head_service::Call;
+use memc_table::Op;
+use std::alloc::AllocError;
+
+impl Node {
+    /// A call is asked. After want of memory nothing but room has changed.
+    pub fn ask(&mut self, call: Call, op: &Op) -> Result<NodeOut, AllocError>
+        requires caller { call.caller < callers }
+        requires numbers { All (λ r. last_of r < 2 ^ 62) self.old.node.process.replicas }
+        requires sessions { self.old.node.process.as_leader.last_session < 2 ^ 62 }
+        ensures shape { self.new.shape ≡ self.old.shape }
+        ensures step { IfOk result (λ out. ask_node self.old.shape (name_of call) op.now self.old.node ≡ made self.new.node out) }
+        ensures err { OnErr result (self.new ≡ self.old) }
+    {
+        if self.down {
+            return Ok(NodeOut::only(self.alloc, Answer::Down));
+        }
+        if self.dead {
+            return Ok(NodeOut::only(self.alloc, Answer::Lost));
+        }
+        make_room(self.shape, &mut self.links)?;
+        let step = self.process.ask(call, op)?;
+        sends_few();
+        send_all(self.shape, self.process.known(), step.sent, &mut self.links);
+        Ok(NodeOut {
+            answer: step.answer,
+            settled: step.settled,
+        })
+    }
+
+    /// A held call is answered once its update is settled, and forgotten then. It takes no memory.
+    pub fn collect(&mut self, caller: u32, call: u64) -> Answer
+        ensures shape { self.new.shape ≡ self.old.shape }
+        ensures step { collect_node self.old.shape caller call self.old.node ≡ unchanged result self.new.node }
+    {
+        if self.down {
+            return Answer::Down;
+        }
+        if self.dead {
+            return Answer::Lost;
+        }
+        self.process.collect(caller, call)
+    }
+
+    /// The process tells how far it has settled. After want of memory nothing but room has changed.
+    pub fn flush(&mut self) -> Result<NodeOut, AllocError>
+        ensures shape { self.new.shape ≡ self.old.shape }
+        ensures step { IfOk result (λ out. flush_node self.old.shape self.old.node ≡ made self.new.node out) }
+        ensures err { OnErr result (self.new ≡ self.old) }
+    {
+        if self.down {
+            return Ok(NodeOut::only(self.alloc, Answer::Down));
+        }
+        if self.dead {
+            return Ok(NodeOut::only(self.alloc, Answer::Lost));
+        }
+        make_room(self.shape, &mut self.links)?;
+        let sent = self.process.flush()?;
+        sends_few();
+        send_all(self.shape, self.process.known(), sent, &mut self.links);
+        Ok(NodeOut::only(self.alloc, Answer::Done))
+    }
+
+    /// What became of a call in a partition. It takes no memory.
+    pub fn trace(&self, caller: u32, call: u64, partition: Partition) -> Answer
+        requires caller { caller < callers }
+        requires partition { partition.0 < self.now.shape.k }
+        ensures { trace_node self.now.shape caller call partition.0 self.now.node ≡ unchanged result self.now.node }
+    {
+        if self.down {
+            return Answer::Down;
+        }
+        if self.dead {
+            return Answer::Lost;
+        }
+        self.process.fate(caller, call, partition)
+    }
+}

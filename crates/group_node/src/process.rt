@@ -1,0 +1,146 @@
+ghost use Rattle.std.specs.Prelude.{◌≡◌, ◌<◌, ◌^◌, [], All, IfOk, OnErr};
+ghost use Rattle.std.specs.List.{range_with_len};
+ghost use Rattle.group_types.specs.Names.{IsProcess};
+ghost use Rattle.group_run.specs.Applying.{head_at, sending};
+ghost use Rattle.group_run.specs.Asking.{ask_process, collect_from, fate_of, only};
+ghost use Rattle.group_run.specs.Process.{opening_process};
+ghost use Rattle.group_run.specs.Receiving as machine;
+ghost use Rattle.group_run.specs.Replica.{callers, last_of};
+ghost use Rattle.group_run.specs.World.{flush_process};
+ghost use Rattle.head_service.specs.Acting.{name_of};
+ghost use Rattle.process_service.specs.Steps.{called, stepped};
+ghost use Rattle.group_node.specs.Delivering.{Comes};
+
+use data_process::DataProcess;
+use group_calls::Answer;
+use group_message::Message;
+use group_types::{Partition, ProcessId, Shape};
+use head_service::{Call, CallStep, Sent};
+use membership::Members;
+use memc_table::Op;
+use parity_process::ParityProcess;
+use process_service::Step;
+use std::alloc::{AllocError, Global};
+use std::marker::Model;
+
+/// What a process is in its group.
+#[derive(Drop)]
+pub enum Role {
+    Data(DataProcess),
+    Parity(ParityProcess),
+}
+
+/// A process of either role.
+#[derive(Drop)]
+pub struct Process {
+    role: Role,
+}
+
+impl Model for Process {
+    ghost use Rattle.process_service.specs.Standing.{Standing};
+    ghost use Rattle.group_node.specs.Roles.{IsNamed, standing_in};
+
+    ghost Value = { Standing };
+
+    ghost view = { λ p. standing_in p.role };
+
+    ghost invariant = { λ p. IsNamed p.role };
+}
+
+impl Process {
+    /// The process of this name at the start.
+    pub fn new(alloc: Global, shape: Shape, name: ProcessId) -> Result<Process, AllocError>
+        requires { IsProcess shape name }
+        ensures { IfOk result (λ process. process ≡ record { shape = shape; process = opening_process shape name; made = [] }) }
+    {
+        let role = match name {
+            ProcessId::DataNode(d) => Role::Data(DataProcess::new(alloc, shape, d)?),
+            ProcessId::ParityNode(i) => Role::Parity(ParityProcess::new(alloc, shape, i)?),
+        };
+        Ok(Process { role })
+    }
+
+    /// A call is asked. After want of memory nothing but room has changed.
+    pub fn ask(&mut self, call: Call, op: &Op) -> Result<CallStep, AllocError>
+        requires caller { call.caller < callers }
+        requires numbers { All (λ r. last_of r < 2 ^ 62) self.old.process.replicas }
+        requires sessions { self.old.process.as_leader.last_session < 2 ^ 62 }
+        ensures shape { self.new.shape ≡ self.old.shape }
+        ensures name { self.new.process.name ≡ self.old.process.name }
+        ensures step { IfOk result (λ step. ask_process self.old.shape (name_of call) op.now self.old.process ≡ called self.new.process step) }
+        ensures err { OnErr result (self.new.process ≡ self.old.process) }
+    {
+        match &mut self.role {
+            Role::Data(process) => process.ask(call, op),
+            Role::Parity(process) => process.ask(call, op),
+        }
+    }
+
+    /// A held call is answered once its update is settled, and forgotten then. It takes no memory.
+    pub fn collect(&mut self, caller: u32, call: u64) -> Answer
+        ensures shape { self.new.shape ≡ self.old.shape }
+        ensures name { self.new.process.name ≡ self.old.process.name }
+        ensures answer { collect_from caller call self.old.process (range_with_len 0 self.old.shape.k) ≡ only result self.new.process }
+    {
+        match &mut self.role {
+            Role::Data(process) => process.collect(caller, call),
+            Role::Parity(process) => process.collect(caller, call),
+        }
+    }
+
+    /// What became of a call in a partition. It takes no memory.
+    pub fn fate(&self, caller: u32, call: u64, partition: Partition) -> Answer
+        requires caller { caller < callers }
+        requires partition { partition.0 < self.now.shape.k }
+        ensures { result ≡ fate_of self.now.shape caller call partition.0 self.now.process (head_at self.now.process partition.0) }
+    {
+        match &self.role {
+            Role::Data(process) => process.fate(caller, call, partition),
+            Role::Parity(process) => process.fate(caller, call, partition),
+        }
+    }
+
+    /// The messages that tell how far the process has settled, which change nothing here.
+    pub fn flush(&self) -> Result<Vec<Sent>, AllocError>
+        ensures { IfOk result (λ sent. (flush_process self.now.shape self.now.process).step ≡ sending sent.items self.now.process) }
+    {
+        match &self.role {
+            Role::Data(process) => process.flush(),
+            Role::Parity(process) => process.flush(),
+        }
+    }
+
+    /// A message comes from another process. After want of memory nothing but room has changed.
+    pub fn receive(&mut self, from: ProcessId, message: &Message) -> Result<Step, AllocError>
+        requires { Comes self.old.shape from message.now self.old.process }
+        ensures shape { self.new.shape ≡ self.old.shape }
+        ensures name { self.new.process.name ≡ self.old.process.name }
+        ensures step { IfOk result (λ step. machine.receive self.old.shape from message.now self.old.process ≡ stepped self.new.process step) }
+        ensures err { OnErr result (self.new.process ≡ self.old.process) }
+    {
+        match &mut self.role {
+            Role::Data(process) => process.receive(from, message),
+            Role::Parity(process) => process.receive(from, message),
+        }
+    }
+
+    /// Which process it is.
+    pub fn name(&self) -> ProcessId
+        ensures { result ≡ self.now.process.name }
+    {
+        match &self.role {
+            Role::Data(process) => process.name(),
+            Role::Parity(process) => process.name(),
+        }
+    }
+
+    /// Who is known dead.
+    pub fn known(&self) -> Members
+        ensures { result ≡ self.now.process.known }
+    {
+        match &self.role {
+            Role::Data(process) => process.known(),
+            Role::Parity(process) => process.known(),
+        }
+    }
+}
