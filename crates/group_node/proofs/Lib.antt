@@ -4,3 +4,5 @@ pub mod Links
 pub mod Sent
 pub mod Standing
 pub mod Cut
+pub mod Treated
+pub mod Delivered
