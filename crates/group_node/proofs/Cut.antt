@@ -63,8 +63,8 @@ module _ (dead : ProcessId) (keep n : ℕ) (before links once new : List (Link M
         ∙ ap (λ (l : Link Message). l.messages) (get_or-set_same once n (record { messages = (link_to once n).messages ++ tells.Notice dead ∷ []; spare = (link_to once n).spare - 1 }) empty_link place)
         ∙ ap (λ (l : Link Message). l.messages ++ tells.Notice dead ∷ []) here
         ∙ ap (λ (l : Link Message). cut_to dead keep l.messages) (cutting.left n (omega arith)) where
-      place : n < length once
-      place = let long = has-place in omega (arith, long, within)
+          place : n < length once
+          place = let long = has-place in omega (arith, long, within)
 
     by : (x : ℕ) → x < n + 1 → x < length before → ((eqb x n ≡ true) × (x ≡ n)) ⊎ ((eqb x n ≡ false) × (x ≢ n)) → (link_to new x).messages ≡ cut_to dead keep (link_to before x).messages
     by x below under (inl same) = subst (λ (y : ℕ). (link_to new y).messages ≡ cut_to dead keep (link_to before y).messages) (sym same.1) there

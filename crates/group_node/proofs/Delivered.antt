@@ -32,21 +32,21 @@ without-is s dead links named long =
     entries-same [] (λ x. if same_process (process_at s x) dead then [] else at [] links x) (put [] links (index_of s dead) []) (s.k + s.m)
     (length-put [] links (index_of s dead) [] (let below = index-below s dead named in omega (arith, long, below)) ∙ long)
     (λ x below. by x (same_process (process_at s x) dead) refl) where
-  by : (x : ℕ) (b : Bool) → same_process (process_at s x) dead ≡ b → at [] (put [] links (index_of s dead) []) x ≡ (if b then [] else at [] links x)
-  by x true e =
-      let here : x ≡ index_of s dead = sym (index-process_at s x) ∙ ap (index_of s) (same-eq (process_at s x) dead e) in
-      ap (at [] (put [] links (index_of s dead) [])) here ∙ at-put [] [] links (index_of s dead) []
-  by x false e = at-put-other [] links (index_of s dead) x [] apart where
-    apart : x ≢ index_of s dead
-    apart same = cc (e, same-refl dead, ap (λ (q : ProcessId). same_process q dead) (ap (process_at s) same ∙ process_at-index s dead named))
+      by : (x : ℕ) (b : Bool) → same_process (process_at s x) dead ≡ b → at [] (put [] links (index_of s dead) []) x ≡ (if b then [] else at [] links x)
+      by x true e =
+          let here : x ≡ index_of s dead = sym (index-process_at s x) ∙ ap (index_of s) (same-eq (process_at s x) dead e) in
+          ap (at [] (put [] links (index_of s dead) [])) here ∙ at-put [] [] links (index_of s dead) []
+      by x false e = at-put-other [] links (index_of s dead) x [] apart where
+        apart : x ≢ index_of s dead
+        apart same = cc (e, same-refl dead, ap (λ (q : ProcessId). same_process q dead) (ap (process_at s) same ∙ process_at-index s dead named))
 
 emptied : (s : Dimensions) (dead : ProcessId) (node : Node) (old new : List (Link Message)) (x n : ℕ) → IsProcess s dead → length old ≡ s.k + s.m → node.links ≡ messages old → x ≡ index_of s dead
     → new ≡ with_link old x [] n → link_emptied s (tells.Notice dead) node ≡ record node { links = messages new }
 emptied s dead node old new x n named long links here is =
     let within : x < length old = let below = index-below s dead named in omega (arith, below, here, long) in
     let after : messages new ≡ links_without s dead node.links =
-        ap messages is ∙ messages-with old x [] n within ∙ ap (λ (y : ℕ). put [] (messages old) y []) here
-        ∙ without-is s dead (messages old) named (messages-long old ∙ long) ∙ ap (links_without s dead) (sym links) in
+    ap messages is ∙ messages-with old x [] n within ∙ ap (λ (y : ℕ). put [] (messages old) y []) here
+    ∙ without-is s dead (messages old) named (messages-long old ∙ long) ∙ ap (links_without s dead) (sym links) in
     ap (λ (ls : List (List Message)). record node { links = ls }) (sym after)
 
 not-emptied : (s : Dimensions) (m : Message) (node : Node) → ((dead : ProcessId) → m ≢ tells.Notice dead) → link_emptied s m node ≡ node

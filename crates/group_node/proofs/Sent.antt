@@ -37,41 +37,41 @@ module _ (s : Dimensions) (known : Membership) (one : Sent) (rest : List Sent) w
   pub none-sent : (links : List (List Message)) → ¬ (IsLiving s known one.to) → links_after s known rest links ≡ links_after s known (one ∷ rest) links
   none-sent links other = range-below (λ x. after false (process_at s x) (at [] links x)) (λ x. after (same_process one.to (process_at s x)) (process_at s x) (at [] links x)) (s.k + s.m)
       (λ x below. by (process_at s x) (at [] links x) (process_at-in s x below) (same_process one.to (process_at s x)) refl) where
-    dead : (q : ProcessId) → IsProcess s q → one.to ≡ q → (b : Bool) → knows_dead known q ≡ b → knows_dead known q ≡ true
-    dead q qin same true is = is
-    dead q qin same false is = absurd (other (record {
-      named = subst (λ (p : ProcessId). IsProcess s p) (sym same) qin;
-      unknown = ap (knows_dead known) same ∙ is;
-    }))
+        dead : (q : ProcessId) → IsProcess s q → one.to ≡ q → (b : Bool) → knows_dead known q ≡ b → knows_dead known q ≡ true
+        dead q qin same true is = is
+        dead q qin same false is = absurd (other (record {
+          named = subst (λ (p : ProcessId). IsProcess s p) (sym same) qin;
+          unknown = ap (knows_dead known) same ∙ is;
+        }))
 
-    by : (q : ProcessId) (link : List Message) → IsProcess s q → (b : Bool) → same_process one.to q ≡ b → after false q link ≡ after b q link
-    by q link qin false e = refl
-    by q link qin true e = link-dead (knows_dead known q) link (sent_to q rest) (one.message ∷ sent_to q rest) (dead q qin (same-eq one.to q e) (knows_dead known q) refl)
+        by : (q : ProcessId) (link : List Message) → IsProcess s q → (b : Bool) → same_process one.to q ≡ b → after false q link ≡ after b q link
+        by q link qin false e = refl
+        by q link qin true e = link-dead (knows_dead known q) link (sent_to q rest) (one.message ∷ sent_to q rest) (dead q qin (same-eq one.to q e) (knows_dead known q) refl)
 
   -- a message to one of the living
   pub one-sent : (links : List (List Message)) → IsLiving s known one.to
       → links_after s known rest (put [] links (index_of s one.to) (at [] links (index_of s one.to) ++ one.message ∷ [])) ≡ links_after s known (one ∷ rest) links
   one-sent links lives = range-below (λ x. after false (process_at s x) (at [] more x)) (λ x. after (same_process one.to (process_at s x)) (process_at s x) (at [] links x)) (s.k + s.m)
       (λ x below. by x (same_process one.to (process_at s x)) refl) where
-    to : ℕ
-    to = index_of s one.to
+        to : ℕ
+        to = index_of s one.to
 
-    more : List (List Message)
-    more = put [] links to (at [] links to ++ one.message ∷ [])
+        more : List (List Message)
+        more = put [] links to (at [] links to ++ one.message ∷ [])
 
-    by : (x : ℕ) (b : Bool) → same_process one.to (process_at s x) ≡ b → after false (process_at s x) (at [] more x) ≡ after b (process_at s x) (at [] links x)
-    by x false e = ap (after false (process_at s x)) (at-put-other [] links to x _ apart) where
-      apart : x ≢ to
-      apart same = cc (e, same-refl one.to, ap (λ (q : ProcessId). same_process one.to q) (ap (process_at s) same ∙ process_at-index s one.to lives.named))
-    by x true e =
-        let q : ProcessId = process_at s x in
-        let same : one.to ≡ q = same-eq one.to q e in
-        let here : to ≡ x = ap (index_of s) same ∙ index-process_at s x in
-        let living : knows_dead known q ≡ false = ap (knows_dead known) (sym same) ∙ lives.unknown in
-        ap (λ (y : ℕ). after false q (at [] more y)) (sym here)
-        ∙ ap (after false q) (at-put [] [] links to (at [] links to ++ one.message ∷ []))
-        ∙ ap (λ (y : ℕ). after false q (at [] links y ++ one.message ∷ [])) here
-        ∙ link-more (knows_dead known q) (at [] links x) one.message (sent_to q rest) living
+        by : (x : ℕ) (b : Bool) → same_process one.to (process_at s x) ≡ b → after false (process_at s x) (at [] more x) ≡ after b (process_at s x) (at [] links x)
+        by x false e = ap (after false (process_at s x)) (at-put-other [] links to x _ apart) where
+          apart : x ≢ to
+          apart same = cc (e, same-refl one.to, ap (λ (q : ProcessId). same_process one.to q) (ap (process_at s) same ∙ process_at-index s one.to lives.named))
+        by x true e =
+            let q : ProcessId = process_at s x in
+            let same : one.to ≡ q = same-eq one.to q e in
+            let here : to ≡ x = ap (index_of s) same ∙ index-process_at s x in
+            let living : knows_dead known q ≡ false = ap (knows_dead known) (sym same) ∙ lives.unknown in
+            ap (λ (y : ℕ). after false q (at [] more y)) (sym here)
+            ∙ ap (after false q) (at-put [] [] links to (at [] links to ++ one.message ∷ []))
+            ∙ ap (λ (y : ℕ). after false q (at [] links y ++ one.message ∷ [])) here
+            ∙ link-more (knows_dead known q) (at [] links x) one.message (sent_to q rest) living
 
   -- there is room for the rest
   pub none-room : (links : List (Link Message)) → HasRoomFor s (one ∷ rest) links → HasRoomFor s rest links

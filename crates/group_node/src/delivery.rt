@@ -58,12 +58,7 @@ impl Node {
         make_room(self.shape, &mut self.links)?;
         let step = self.process.receive(from, message)?;
         sends_few();
-        send_all(
-            self.shape,
-            self.process.known(),
-            step.sent,
-            &mut self.links,
-        );
+        send_all(self.shape, self.process.known(), step.sent, &mut self.links);
         if let Message::Notice { dead } = message {
             self.links.cut(index_of(self.shape, *dead), 0);
         }

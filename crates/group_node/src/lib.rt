@@ -9,6 +9,8 @@ mod failing;
 mod node;
 mod process;
 mod sending;
+#[cfg(test)]
+mod tests;
 
 pub use delivery::deliver_between;
 pub use node::{Node, NodeOut};

@@ -46,7 +46,7 @@ returns-in_ok-out-in-Some-clause-step c =
     let from = c.name-from.ensures.name ∙ sym (ap (λ (v : Standing). v.node.process.name) c.sender.view_is) in
     let comes = subst (λ (name : ProcessId). receive_node r.shape name c.in-Some.message.now r.node ≡ made c.receive.new.self.node c.in_ok-out-in-Some.out) from c.in_ok-out-in-Some.ensures.step in
     subst (λ (v : Standing). deliver_nodes r.shape v.node.process.name r.node.process.name v.node r.node
-      ≡ record { sender = (standing n.shape n.process c.pop.new.self n.dead n.down).node; receiver = made c.receive.new.self.node c.in_ok-out-in-Some.out }) c.sender.view_is
+    ≡ record { sender = (standing n.shape n.process c.pop.new.self n.dead n.down).node; receiver = made c.receive.new.self.node c.in_ok-out-in-Some.out }) c.sender.view_is
     (one-comes r.shape n.process.process.name r.node.process.name (standing n.shape n.process n.links n.dead n.down).node r.node
     (subst (λ (v : Standing). v.node.down ≡ false) c.receiver.view_is c.if-receiver.false) (subst (λ (v : Standing). v.node.dead ≡ false) c.receiver.view_is c.if-receiver-2.false)
     c.in-Some.message.now rest c.receive.new.self.node c.in_ok-out-in-Some.out (messages c.pop.new.self) first taken comes)
