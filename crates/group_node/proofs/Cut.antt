@@ -1,5 +1,5 @@
 -- Links that are cut, one after the other.
-use Rattle.std.proofs.Common.{ℕ, suc, ◌≡◌, ◌≢◌, ◌<◌, ◌≤◌, ◌+◌, ◌-◌, ◌⊎◌, inl, inr, true, false, List, [], ◌∷◌, ◌++◌, length, take, refl, sym, ap, subst, ◌∙◌, arith}
+use Rattle.std.proofs.Common.{ℕ, ◌≡◌, ◌≢◌, ◌<◌, ◌≤◌, ◌+◌, ◌-◌, ◌⊎◌, inl, inr, true, false, List, [], ◌∷◌, ◌++◌, length, take, refl, sym, ap, subst, ◌∙◌, arith}
 use Rattle.std.proofs.lemmas.Bool.Decides.{eqb_tells}
 use Rattle.std.proofs.Math.Dec.{eqb}
 use Rattle.std.proofs.lemmas.List.{get_or-set_same, get_or-set_other}
@@ -42,7 +42,8 @@ module _ (dead : ProcessId) (keep n : ℕ) (before links once new : List (Link M
   pub has-room : HasRoom 1 before → 0 < (link_to once n).spare
   has-room room =
       let spare = room n within in
-      let same : (link_to once n).spare ≡ (link_to before n).spare = ap (λ (l : Link Message). l.spare) (here ∙ ap (λ (l : Link Message). record { messages = take keep l.messages; spare = l.spare }) (cutting.left n (omega arith))) in
+      let same : (link_to once n).spare ≡ (link_to before n).spare = ap (λ (l : Link Message). l.spare)
+      (here ∙ ap (λ (l : Link Message). record { messages = take keep l.messages; spare = l.spare }) (cutting.left n (omega arith))) in
       omega (arith, spare, same)
 
   -- one more is cut
@@ -60,20 +61,23 @@ module _ (dead : ProcessId) (keep n : ℕ) (before links once new : List (Link M
     there : (link_to new n).messages ≡ cut_to dead keep (link_to before n).messages
     there =
         ap (λ (ls : List (Link Message)). (link_to ls n).messages) is_new
-        ∙ ap (λ (l : Link Message). l.messages) (get_or-set_same once n (record { messages = (link_to once n).messages ++ tells.Notice dead ∷ []; spare = (link_to once n).spare - 1 }) empty_link place)
+        ∙ ap (λ (l : Link Message). l.messages)
+        (get_or-set_same once n (record { messages = (link_to once n).messages ++ tells.Notice dead ∷ []; spare = (link_to once n).spare - 1 }) empty_link place)
         ∙ ap (λ (l : Link Message). l.messages ++ tells.Notice dead ∷ []) here
         ∙ ap (λ (l : Link Message). cut_to dead keep l.messages) (cutting.left n (omega arith)) where
           place : n < length once
           place = let long = has-place in omega (arith, long, within)
 
-    by : (x : ℕ) → x < n + 1 → x < length before → ((eqb x n ≡ true) × (x ≡ n)) ⊎ ((eqb x n ≡ false) × (x ≢ n)) → (link_to new x).messages ≡ cut_to dead keep (link_to before x).messages
+    by : (x : ℕ) → x < n + 1 → x < length before → ((eqb x n ≡ true) × (x ≡ n)) ⊎ ((eqb x n ≡ false) × (x ≢ n))
+        → (link_to new x).messages ≡ cut_to dead keep (link_to before x).messages
     by x below under (inl same) = subst (λ (y : ℕ). (link_to new y).messages ≡ cut_to dead keep (link_to before y).messages) (sym same.1) there
     by x below under (inr other) = let not_n = other.1 in ap (λ (l : Link Message). l.messages) (apart x not_n) ∙ cutting.cut x (below-n x below not_n) under where
       below-n : (y : ℕ) → y < n + 1 → y ≢ n → y < n
       below-n y low other = omega (arith, low, other)
 
 -- all links are cut
-pub all-cut : (s : Dimensions) (dead : ProcessId) (keep n : ℕ) (before links : List (Link Message)) → length before ≡ s.k + s.m → s.k + s.m ≤ n → IsCutting dead keep n before links
+pub all-cut : (s : Dimensions) (dead : ProcessId) (keep n : ℕ) (before links : List (Link Message)) → length before ≡ s.k + s.m → s.k + s.m ≤ n
+    → IsCutting dead keep n before links
     → messages links ≡ links_cut s dead keep (messages before)
 all-cut s dead keep n before links long all cutting =
     entries-same [] (λ x. cut_to dead keep (at [] (messages before) x)) (messages links) (s.k + s.m) (messages-long links ∙ cutting.many ∙ long)

@@ -1,5 +1,5 @@
 -- What a delivery makes of two nodes.
-use Rattle.std.proofs.Common.{ℕ, ◌≡◌, ◌≢◌, ◌<◌, ◌+◌, Bool, true, false, if◌then◌else◌, List, [], ◌∷◌, length, drop, Option, Some, None, refl, sym, ap, subst, ◌∙◌, arith}
+use Rattle.std.proofs.Common.{ℕ, ◌≡◌, ◌≢◌, ◌<◌, ◌+◌, Bool, true, false, if◌then◌else◌, List, [], ◌∷◌, length, drop, Some, None, refl, sym, ap, subst, ◌∙◌, arith}
 use Rattle.std.specs.Prelude.{slice_get}
 use Rattle.group_types.specs.Dimensions.{Dimensions}
 use Rattle.group_types.specs.Lists.{at, put}
@@ -10,13 +10,12 @@ use Rattle.group_types.proofs.Names.{index-below, index-process_at, process_at-i
 use Rattle.membership.specs.Members.{Membership}
 use Rattle.group_message.specs.declared.message.Message.{Message}
 use Rattle.group_message.specs.declared.message.Message.TheVariants as tells
-use Rattle.group_calls.specs.declared.event.Answer.{Answer}
 use Rattle.group_calls.specs.declared.event.Answer.TheVariants as says
-use Rattle.group_run.specs.Applying.{ProcessStep, Sent}
+use Rattle.group_run.specs.Applying.{ProcessStep}
 use Rattle.group_run.specs.Fitting.{Fits}
 use Rattle.group_run.specs.Process.{Node, Process}
 use Rattle.group_run.specs.Receiving.{receive}
-use Rattle.group_run.specs.World.{DeliveryStep, NodeStep, deliver_nodes, delivered, link_emptied, links_after, links_without, node_after, receive_node}
+use Rattle.group_run.specs.World.{deliver_nodes, delivered, link_emptied, links_after, links_without, node_after, receive_node}
 use Rattle.process_service.specs.declared.step.Step.{Step}
 use Rattle.process_service.specs.Steps.{stepped}
 use Rattle.link_core.specs.Outgoing.{Link, link_to, with_link}
@@ -27,7 +26,8 @@ use Rattle.group_node.proofs.Links.{messages-at, messages-long, messages-with}
 use Rattle.group_node.proofs.Ranges.{entries-same}
 
 -- the link to a dead process is emptied
-without-is : (s : Dimensions) (dead : ProcessId) (links : List (List Message)) → IsProcess s dead → length links ≡ s.k + s.m → put [] links (index_of s dead) [] ≡ links_without s dead links
+without-is : (s : Dimensions) (dead : ProcessId) (links : List (List Message)) → IsProcess s dead → length links ≡ s.k + s.m
+    → put [] links (index_of s dead) [] ≡ links_without s dead links
 without-is s dead links named long =
     entries-same [] (λ x. if same_process (process_at s x) dead then [] else at [] links x) (put [] links (index_of s dead) []) (s.k + s.m)
     (length-put [] links (index_of s dead) [] (let below = index-below s dead named in omega (arith, long, below)) ∙ long)
@@ -40,7 +40,8 @@ without-is s dead links named long =
         apart : x ≢ index_of s dead
         apart same = cc (e, same-refl dead, ap (λ (q : ProcessId). same_process q dead) (ap (process_at s) same ∙ process_at-index s dead named))
 
-emptied : (s : Dimensions) (dead : ProcessId) (node : Node) (old new : List (Link Message)) (x n : ℕ) → IsProcess s dead → length old ≡ s.k + s.m → node.links ≡ messages old → x ≡ index_of s dead
+emptied : (s : Dimensions) (dead : ProcessId) (node : Node) (old new : List (Link Message)) (x n : ℕ) → IsProcess s dead → length old ≡ s.k + s.m
+    → node.links ≡ messages old → x ≡ index_of s dead
     → new ≡ with_link old x [] n → link_emptied s (tells.Notice dead) node ≡ record node { links = messages new }
 emptied s dead node old new x n named long links here is =
     let within : x < length old = let below = index-below s dead named in omega (arith, below, here, long) in
@@ -62,8 +63,10 @@ not-emptied s (tells.Row session bytes stamp) node other = refl
 not-emptied s (tells.Cease upto) node other = refl
 
 -- a node receives a message: its process makes a step, and what that sends goes into the links
-module _ (s t : Dimensions) (from : ProcessId) (m : Message) (node : Node) (step : Step) (new : Process) (known : Membership) (own roomy after : List (Link Message)) (same : t ≡ s)
-    (is : receive t from m node.process ≡ stepped new step) (links_are : node.links ≡ messages own) (room_made : messages roomy ≡ messages own) (known_is : known ≡ new.known)
+module _ (s t : Dimensions) (from : ProcessId) (m : Message) (node : Node) (step : Step) (new : Process) (known : Membership) (own roomy after : List (Link Message))
+    (same : t ≡ s)
+    (is : receive t from m node.process ≡ stepped new step) (links_are : node.links ≡ messages own) (room_made : messages roomy ≡ messages own)
+    (known_is : known ≡ new.known)
     (sent : messages after ≡ links_after s known step.sent.items (messages roomy)) where
   abbrev pub acted : Node
   acted = record node { process = new; links = messages after }
@@ -75,11 +78,14 @@ module _ (s t : Dimensions) (from : ProcessId) (m : Message) (node : Node) (step
 
   steps : receive_node s from m node ≡ record { node = link_emptied s m acted; answer = says.Done; settled = step.settled.items }
   steps =
-      ap (λ (x : ProcessStep). record { node = link_emptied s m (node_after s x node); answer = says.Done; settled = x.settled }) (ap (λ (x : Dimensions). receive x from m node.process) (sym same) ∙ is)
-      ∙ ap (λ (links : List (List Message)). record { node = link_emptied s m (record node { process = new; links = links }); answer = says.Done; settled = step.settled.items }) links_now
+      ap (λ (x : ProcessStep). record { node = link_emptied s m (node_after s x node); answer = says.Done; settled = x.settled })
+      (ap (λ (x : Dimensions). receive x from m node.process) (sym same) ∙ is)
+      ∙ ap (λ (links : List (List Message)). record
+      { node = link_emptied s m (record node { process = new; links = links }); answer = says.Done; settled = step.settled.items }) links_now
 
   -- the notice of a death
-  pub hears : (dead : ProcessId) (cut : List (Link Message)) (x n : ℕ) → m ≡ tells.Notice dead → Fits s from m node.process → length after ≡ s.k + s.m → x ≡ index_of s dead → cut ≡ with_link after x [] n
+  pub hears : (dead : ProcessId) (cut : List (Link Message)) (x n : ℕ) → m ≡ tells.Notice dead → Fits s from m node.process → length after ≡ s.k + s.m
+      → x ≡ index_of s dead → cut ≡ with_link after x [] n
       → receive_node s from m node ≡ record { node = record acted { links = messages cut }; answer = says.Done; settled = step.settled.items }
   hears dead cut x n notice fits long here made =
       let named : IsProcess s dead = (subst (λ (y : Message). Fits s from y node.process) notice fits).process in
@@ -100,7 +106,8 @@ none-is : {X : Type 0} (xs : List X) → None ≡ slice_get xs 0 → xs ≡ []
 none-is [] is = refl
 none-is (y ∷ ys) is = absurd (cc is)
 
-pub first-is : (links : List (Link Message)) (x y : ℕ) (m : Message) → x ≡ y → Some m ≡ slice_get (link_to links x).messages 0 → at [] (messages links) y ≡ m ∷ drop 1 (link_to links x).messages
+pub first-is : (links : List (Link Message)) (x y : ℕ) (m : Message) → x ≡ y → Some m ≡ slice_get (link_to links x).messages 0
+    → at [] (messages links) y ≡ m ∷ drop 1 (link_to links x).messages
 first-is links x y m same is = ap (at [] (messages links)) (sym same) ∙ messages-at links x ∙ head-is (link_to links x).messages m is
 
 pub no-first : (links : List (Link Message)) (x y : ℕ) → x ≡ y → None ≡ slice_get (link_to links x).messages 0 → at [] (messages links) y ≡ []

@@ -1,12 +1,9 @@
 -- What is read of links after one of them changed.
-use Rattle.std.proofs.Common.{ℕ, zero, suc, ◌≡◌, ◌≢◌, ◌<◌, ◌≤◌, ◌+◌, Bool, true, false, ◌⊎◌, inl, inr, List, [], ◌∷◌, ◌++◌, length, map, set, replicate, refl, sym, ap, subst, ◌∙◌, arith}
-use Rattle.std.proofs.lemmas.List.{get_or-set_same, get_or-set_other}
-use Rattle.group_types.specs.Dimensions.{Dimensions}
+use Rattle.std.proofs.Common.{ℕ, zero, suc, ◌≡◌, ◌<◌, List, [], ◌∷◌, length, refl, ap, arith}
 use Rattle.group_types.specs.Lists.{at, put}
-use Rattle.group_types.proofs.Lists.{at-put, at-put-other}
 use Rattle.group_message.specs.declared.message.Message.{Message}
-use Rattle.link_core.specs.Outgoing.{Link, empty_link, link_to, with_link}
-use Rattle.group_node.specs.Rooms.{HasRoom, messages}
+use Rattle.link_core.specs.Outgoing.{Link, link_to, with_link}
+use Rattle.group_node.specs.Rooms.{messages}
 
 -- the messages of one link
 pub messages-at : (links : List (Link Message)) (x : ℕ) → at [] (messages links) x ≡ (link_to links x).messages
@@ -19,7 +16,8 @@ messages-long [] = refl
 messages-long (l ∷ ls) = ap suc (messages-long ls)
 
 -- the messages after one link got others
-pub messages-with : (links : List (Link Message)) (x : ℕ) (ms : List Message) (n : ℕ) → x < length links → messages (with_link links x ms n) ≡ put [] (messages links) x ms
+pub messages-with : (links : List (Link Message)) (x : ℕ) (ms : List Message) (n : ℕ) → x < length links
+    → messages (with_link links x ms n) ≡ put [] (messages links) x ms
 messages-with [] x ms n within = absurd (omega arith)
 messages-with (l ∷ ls) zero ms n within = refl
 messages-with (l ∷ ls) (suc x) ms n within = ap (λ (rest : List (List Message)). l.messages ∷ rest) (messages-with ls x ms n (omega arith))
@@ -30,7 +28,8 @@ many-with (l ∷ ls) zero ms n = refl
 many-with (l ∷ ls) (suc x) ms n = ap suc (many-with ls x ms n)
 
 -- links with the same messages, one by one
-pub messages-same : (old new : List (Link Message)) → length new ≡ length old → ((x : ℕ) → (link_to new x).messages ≡ (link_to old x).messages) → messages new ≡ messages old
+pub messages-same : (old new : List (Link Message)) → length new ≡ length old → ((x : ℕ) → (link_to new x).messages ≡ (link_to old x).messages)
+    → messages new ≡ messages old
 messages-same [] [] long same = refl
 messages-same [] (n ∷ ns) long same = absurd (omega (arith, long))
 messages-same (o ∷ os) [] long same = absurd (omega (arith, long))

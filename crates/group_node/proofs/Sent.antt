@@ -1,5 +1,5 @@
 -- One message that goes into its link, or into none.
-use Rattle.std.proofs.Common.{ℕ, suc, ◌≡◌, ◌≢◌, ◌<◌, ◌≤◌, ◌+◌, ◌-◌, Bool, true, false, ◌⊎◌, inl, inr, List, [], ◌∷◌, ◌++◌, length, replicate, refl, sym, ap, subst, ◌∙◌, arith}
+use Rattle.std.proofs.Common.{ℕ, suc, ◌≡◌, ◌≢◌, ◌<◌, ◌≤◌, ◌+◌, ◌-◌, Bool, true, false, List, [], ◌∷◌, ◌++◌, length, refl, sym, ap, subst, ◌∙◌, arith}
 use Rattle.std.proofs.lemmas.List.{append_assoc, get_or-set_same, get_or-set_other}
 use Rattle.group_types.specs.Dimensions.{Dimensions}
 use Rattle.group_types.specs.Lists.{at, put}
@@ -11,7 +11,7 @@ use Rattle.membership.specs.Members.{Membership, knows_dead}
 use Rattle.group_message.specs.declared.message.Message.{Message}
 use Rattle.group_bounds.specs.Steps.{FewForEach}
 use Rattle.group_run.specs.Applying.{Sent}
-use Rattle.group_run.specs.World.{front_if, grown, link_after, links_after, sent_to}
+use Rattle.group_run.specs.World.{front_if, link_after, links_after, sent_to}
 use Rattle.link_core.specs.Outgoing.{Link, empty_link, link_to, with_link}
 use Rattle.group_node.specs.Rooms.{HasRoom, HasRoomFor, IsLiving, messages}
 use Rattle.group_node.proofs.Links.{many-with, messages-at, messages-long, messages-with}
@@ -35,7 +35,8 @@ module _ (s : Dimensions) (known : Membership) (one : Sent) (rest : List Sent) w
 
   -- a message to none of the living
   pub none-sent : (links : List (List Message)) → ¬ (IsLiving s known one.to) → links_after s known rest links ≡ links_after s known (one ∷ rest) links
-  none-sent links other = range-below (λ x. after false (process_at s x) (at [] links x)) (λ x. after (same_process one.to (process_at s x)) (process_at s x) (at [] links x)) (s.k + s.m)
+  none-sent links other = range-below (λ x. after false (process_at s x) (at [] links x))
+      (λ x. after (same_process one.to (process_at s x)) (process_at s x) (at [] links x)) (s.k + s.m)
       (λ x below. by (process_at s x) (at [] links x) (process_at-in s x below) (same_process one.to (process_at s x)) refl) where
         dead : (q : ProcessId) → IsProcess s q → one.to ≡ q → (b : Bool) → knows_dead known q ≡ b → knows_dead known q ≡ true
         dead q qin same true is = is
@@ -46,12 +47,14 @@ module _ (s : Dimensions) (known : Membership) (one : Sent) (rest : List Sent) w
 
         by : (q : ProcessId) (link : List Message) → IsProcess s q → (b : Bool) → same_process one.to q ≡ b → after false q link ≡ after b q link
         by q link qin false e = refl
-        by q link qin true e = link-dead (knows_dead known q) link (sent_to q rest) (one.message ∷ sent_to q rest) (dead q qin (same-eq one.to q e) (knows_dead known q) refl)
+        by q link qin true e = link-dead (knows_dead known q) link (sent_to q rest) (one.message ∷ sent_to q rest)
+            (dead q qin (same-eq one.to q e) (knows_dead known q) refl)
 
   -- a message to one of the living
   pub one-sent : (links : List (List Message)) → IsLiving s known one.to
       → links_after s known rest (put [] links (index_of s one.to) (at [] links (index_of s one.to) ++ one.message ∷ [])) ≡ links_after s known (one ∷ rest) links
-  one-sent links lives = range-below (λ x. after false (process_at s x) (at [] more x)) (λ x. after (same_process one.to (process_at s x)) (process_at s x) (at [] links x)) (s.k + s.m)
+  one-sent links lives = range-below (λ x. after false (process_at s x) (at [] more x))
+      (λ x. after (same_process one.to (process_at s x)) (process_at s x) (at [] links x)) (s.k + s.m)
       (λ x below. by x (same_process one.to (process_at s x)) refl) where
         to : ℕ
         to = index_of s one.to
@@ -76,7 +79,8 @@ module _ (s : Dimensions) (known : Membership) (one : Sent) (rest : List Sent) w
   -- there is room for the rest
   pub none-room : (links : List (Link Message)) → HasRoomFor s (one ∷ rest) links → HasRoomFor s rest links
   none-room links room x below = by (same_process one.to (process_at s x)) (room x below) where
-    by : (b : Bool) → suc (length (front_if b one.message (sent_to (process_at s x) rest))) ≤ (link_to links x).spare → suc (length (sent_to (process_at s x) rest)) ≤ (link_to links x).spare
+    by : (b : Bool) → suc (length (front_if b one.message (sent_to (process_at s x) rest))) ≤ (link_to links x).spare
+        → suc (length (sent_to (process_at s x) rest)) ≤ (link_to links x).spare
     by true fits = omega (arith, fits)
     by false fits = fits
 
@@ -98,10 +102,12 @@ module _ (s : Dimensions) (known : Membership) (one : Sent) (rest : List Sent) w
       apart same = cc (e, same-refl one.to, ap (λ (q : ProcessId). same_process one.to q) (ap (process_at s) (same ∙ is) ∙ process_at-index s one.to named))
     by true e =
         let here : x ≡ to = sym (is ∙ ap (index_of s) (same-eq one.to (process_at s x) e) ∙ index-process_at s x) in
-        let much : suc (suc for_rest) ≤ (link_to links x).spare = subst (λ (b : Bool). suc (length (front_if b one.message (sent_to (process_at s x) rest))) ≤ (link_to links x).spare) e (room x within) in
+        let much : suc (suc for_rest) ≤ (link_to links x).spare = subst
+        (λ (b : Bool). suc (length (front_if b one.message (sent_to (process_at s x) rest))) ≤ (link_to links x).spare) e (room x within) in
         let all : suc (suc for_rest) ≤ (link_to links to).spare = subst (λ (y : ℕ). suc (suc for_rest) ≤ (link_to links y).spare) here much in
         subst (λ (y : ℕ). suc for_rest ≤ (link_to new y).spare) (sym here)
-        (subst (λ (l : Link Message). suc for_rest ≤ l.spare) (sym (get_or-set_same links to _ empty_link (subst (λ (y : ℕ). y < length links) here within))) (omega (arith, all)))
+        (subst (λ (l : Link Message). suc for_rest ≤ l.spare) (sym (get_or-set_same links to _ empty_link (subst (λ (y : ℕ). y < length links) here within)))
+        (omega (arith, all)))
 
 module _ (s : Dimensions) (known : Membership) where
   -- one message was sent to one of the living
@@ -126,15 +132,19 @@ module _ (s : Dimensions) (known : Membership) where
   pub sends-on : (one : Sent) (all rest : List Sent) (before old new : List (Link Message)) → IsSending all (one ∷ rest) before old → length new ≡ length old
       → ((left : List Sent) → links_after s known left (messages new) ≡ links_after s known (one ∷ left) (messages old))
       → ((left : List Sent) → HasRoomFor s (one ∷ left) old → HasRoomFor s left new) → IsSending all rest before new
-  sends-on one all rest before old new sends many behind room = record { many = many ∙ sends.many; messages_are = behind rest ∙ sends.messages_are; room = room rest sends.room }
+  sends-on one all rest before old new sends many behind room = record
+      { many = many ∙ sends.many; messages_are = behind rest ∙ sends.messages_are; room = room rest sends.room }
 
   pub nothing-behind : (links : List (List Message)) → length links ≡ s.k + s.m → links_after s known [] links ≡ links
-  nothing-behind links long = sym (entries-same [] (λ x. link_after (knows_dead known (process_at s x)) (at [] links x) []) links (s.k + s.m) long (λ x below. by (knows_dead known (process_at s x)) (at [] links x))) where
-    by : (b : Bool) (link : List Message) → link ≡ link_after b link []
-    by true link = refl
-    by false link = refl
+  nothing-behind links long = sym
+      (entries-same [] (λ x. link_after (knows_dead known (process_at s x)) (at [] links x) []) links (s.k + s.m) long
+      (λ x below. by (knows_dead known (process_at s x)) (at [] links x))) where
+        by : (b : Bool) (link : List Message) → link ≡ link_after b link []
+        by true link = refl
+        by false link = refl
 
-  pub all-sent : (all : List Sent) (before links : List (Link Message)) → length before ≡ s.k + s.m → IsSending all [] before links → messages links ≡ links_after s known all (messages before)
+  pub all-sent : (all : List Sent) (before links : List (Link Message)) → length before ≡ s.k + s.m → IsSending all [] before links
+      → messages links ≡ links_after s known all (messages before)
   all-sent all before links long sends = sym (nothing-behind (messages links) (messages-long links ∙ sends.many ∙ long)) ∙ sends.messages_are
 
 enough-for : (s : Dimensions) (sent : List Sent) (links : List (Link Message)) → FewForEach s sent → HasRoom (suc (suc s.k)) links → HasRoomFor s sent links
@@ -143,7 +153,8 @@ enough-for s sent links few room x below = let most = few (process_at s x) in le
 pub some-room : (s : Dimensions) (sent : List Sent) (links : List (Link Message)) → HasRoomFor s sent links → HasRoom 1 links
 some-room s sent links room x below = let most = room x below in omega (arith, most)
 
-pub starts-sending : (s : Dimensions) (known : Membership) (all : List Sent) (links : List (Link Message)) → FewForEach s all → HasRoom (suc (suc s.k)) links → IsSending s known all all links links
+pub starts-sending : (s : Dimensions) (known : Membership) (all : List Sent) (links : List (Link Message)) → FewForEach s all → HasRoom (suc (suc s.k)) links
+    → IsSending s known all all links links
 starts-sending s known all links few room = record { many = refl; messages_are = refl; room = enough-for s all links few room }
 
 pub none-left : {X : Type 0} (xs : List X) → length xs ≡ 0 → xs ≡ []

@@ -1,6 +1,5 @@
 -- A process of either role after a step.
-use Rattle.std.proofs.Common.{ℕ, ◌≡◌, List, Result, Ok, Err, IfOk, OnErr, refl, sym, ap, subst, ◌∙◌}
-use Rattle.std.specs.List.{range_with_len}
+use Rattle.std.proofs.Common.{ℕ, ◌≡◌, List, Result, Ok, Err, IfOk, OnErr, sym, ap, subst, ◌∙◌}
 use Rattle.std.specs.declared.alloc.AllocError.{AllocError}
 use Rattle.group_types.specs.Dimensions.{Dimensions}
 use Rattle.group_types.specs.declared.process.ProcessId.{ProcessId}

@@ -1,15 +1,14 @@
 -- What a node makes of a call, and of a message.
-use Rattle.std.proofs.Common.{ℕ, zero, suc, ◌≡◌, ◌+◌, Bool, true, false, List, [], ◌∷◌, length, map, replicate, refl, sym, ap, subst, ◌∙◌, arith}
+use Rattle.std.proofs.Common.{ℕ, zero, suc, ◌≡◌, ◌+◌, Bool, true, false, List, [], ◌∷◌, length, replicate, refl, sym, ap, subst, ◌∙◌}
 use Rattle.std.specs.List.{range_with_len}
 use Rattle.group_types.specs.Dimensions.{Dimensions}
-use Rattle.group_types.specs.Names.{IsProcess, index_of, process_at, same_process}
 use Rattle.group_types.specs.Shape.{IsShape}
 use Rattle.group_types.specs.declared.process.ProcessId.{ProcessId}
 use Rattle.memc_table.specs.Asked.{Asked}
 use Rattle.group_message.specs.declared.message.Message.{Message}
 use Rattle.group_calls.specs.Turns.{CallName}
 use Rattle.group_calls.specs.declared.event.Answer.{Answer}
-use Rattle.group_run.specs.Applying.{ProcessStep, Sent}
+use Rattle.group_run.specs.Applying.{ProcessStep}
 use Rattle.group_run.specs.Asking as machine
 use Rattle.group_run.specs.Asking.{ask_process, collect_from, only}
 use Rattle.group_run.specs.Fitting.{Fits}
@@ -23,7 +22,7 @@ use Rattle.process_service.specs.Standing as whole
 use Rattle.process_service.specs.Steps.{called, stepped}
 use Rattle.link_core.specs.Outgoing.{Link, empty_link}
 use Rattle.group_node.specs.Rooms.{messages}
-use Rattle.group_node.specs.Standing.{Standing, standing}
+use Rattle.group_node.specs.Standing.{standing}
 use Rattle.group_node.proofs.Sent.{nothing-behind}
 
 -- no step sends more than there is room for
@@ -44,7 +43,8 @@ up false true node step is lives = absurd (cc lives)
 up false false node step is lives = refl
 
 -- what is collected sends nothing
-pub collected : (s t : Dimensions) (caller call : ℕ) (node : Node) (answer : Answer) (new : Process) → node.down ≡ false → node.dead ≡ false → length node.links ≡ s.k + s.m → t ≡ s
+pub collected : (s t : Dimensions) (caller call : ℕ) (node : Node) (answer : Answer) (new : Process) → node.down ≡ false → node.dead ≡ false
+    → length node.links ≡ s.k + s.m → t ≡ s
     → collect_from caller call node.process (range_with_len 0 t.k) ≡ only answer new → collect_node s caller call node ≡ unchanged answer (record node { process = new })
 collected s t caller call node answer new is_up lives long same is =
     up node.down node.dead node (treated s node (collect_from caller call node.process (range_with_len 0 s.k))) is_up lives
@@ -56,7 +56,8 @@ no-messages zero = refl
 no-messages (suc n) = ap (λ (rest : List (List Message)). [] ∷ rest) (no-messages n)
 
 -- a node at the start
-pub starts : (s : Dimensions) (name : ProcessId) (p : whole.Standing) (old new : List (Link Message)) → p ≡ record { shape = s; process = opening_process s name; made = [] }
+pub starts : (s : Dimensions) (name : ProcessId) (p : whole.Standing) (old new : List (Link Message))
+    → p ≡ record { shape = s; process = opening_process s name; made = [] }
     → old ≡ replicate (s.k + s.m) empty_link → messages new ≡ messages old → standing s p new false false ≡ record { shape = s; node = opening_node s name }
 starts s name p old new process is same =
     let links = same ∙ ap messages is ∙ no-messages (s.k + s.m) in

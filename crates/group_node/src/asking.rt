@@ -1,6 +1,6 @@
-ghost use Rattle.std.specs.Prelude.{◌≡◌, ◌<◌, ◌^◌, false, [], All, IfOk, OnErr};
+ghost use Rattle.std.specs.Prelude.{◌≡◌, ◌<◌, ◌^◌, false, [], All, IfOk, IfSome, IfNone, OnErr};
 ghost use Rattle.group_run.specs.Replica.{callers, last_of};
-ghost use Rattle.group_run.specs.World.{ask_node, collect_node, flush_node, trace_node, unchanged};
+ghost use Rattle.group_run.specs.World.{NodeStep, ask_node, collect_node, flush_node, if_up, trace_node, unchanged};
 ghost use Rattle.head_service.specs.Acting.{name_of};
 ghost use Rattle.group_node.specs.Steps.{made};
 
@@ -23,11 +23,8 @@ impl Node {
         ensures step { IfOk result (λ out. ask_node self.old.shape (name_of call) op.now self.old.node ≡ made self.new.node out) }
         ensures err { OnErr result (self.new ≡ self.old) }
     {
-        if self.down {
-            return Ok(NodeOut::only(self.alloc, Answer::Down));
-        }
-        if self.dead {
-            return Ok(NodeOut::only(self.alloc, Answer::Lost));
+        if let Some(answer) = self.refusal() {
+            return Ok(NodeOut::only(self.alloc, answer));
         }
         make_room(self.shape, &mut self.links)?;
         let step = self.process.ask(call, op)?;
@@ -44,11 +41,8 @@ impl Node {
         ensures shape { self.new.shape ≡ self.old.shape }
         ensures step { collect_node self.old.shape caller call self.old.node ≡ unchanged result self.new.node }
     {
-        if self.down {
-            return Answer::Down;
-        }
-        if self.dead {
-            return Answer::Lost;
+        if let Some(answer) = self.refusal() {
+            return answer;
         }
         self.process.collect(caller, call)
     }
@@ -59,11 +53,8 @@ impl Node {
         ensures step { IfOk result (λ out. flush_node self.old.shape self.old.node ≡ made self.new.node out) }
         ensures err { OnErr result (self.new ≡ self.old) }
     {
-        if self.down {
-            return Ok(NodeOut::only(self.alloc, Answer::Down));
-        }
-        if self.dead {
-            return Ok(NodeOut::only(self.alloc, Answer::Lost));
+        if let Some(answer) = self.refusal() {
+            return Ok(NodeOut::only(self.alloc, answer));
         }
         make_room(self.shape, &mut self.links)?;
         let sent = self.process.flush()?;
@@ -78,12 +69,23 @@ impl Node {
         requires partition { partition.0 < self.now.shape.k }
         ensures { trace_node self.now.shape caller call partition.0 self.now.node ≡ unchanged result self.now.node }
     {
-        if self.down {
-            return Answer::Down;
-        }
-        if self.dead {
-            return Answer::Lost;
+        if let Some(answer) = self.refusal() {
+            return answer;
         }
         self.process.fate(caller, call, partition)
+    }
+
+    // The answer to what isn't treated: the group is down, or else the process is dead.
+    fn refusal(&self) -> Option<Answer>
+        ensures some { IfSome result (λ answer. (step : NodeStep) → if_up self.now.node.down self.now.node.dead self.now.node step ≡ unchanged answer self.now.node) }
+        ensures none { IfNone result ((self.now.node.down ≡ false) × (self.now.node.dead ≡ false)) }
+    {
+        if self.down {
+            return Some(Answer::Down);
+        }
+        if self.dead {
+            return Some(Answer::Lost);
+        }
+        None
     }
 }

@@ -167,7 +167,8 @@ fn is_idle(sender: &mut Node, receiver: &mut Node, answer: &str) -> Result<bool,
 fn hears(dead: &mut Node, other: &mut Node) -> Result<bool, AllocError>
     requires dead_shape { dead.old.shape ≡ record { k = 2; m = 1; blocks = 2; block = 16 } }
     requires other_shape { other.old.shape ≡ record { k = 2; m = 1; blocks = 2; block = 16 } }
-    requires dead { dead.old.node ≡ node_failed (record { k = 2; m = 1; blocks = 2; block = 16 }) (DataNode 0) 0 (opening_node (record { k = 2; m = 1; blocks = 2; block = 16 }) (DataNode 0)) }
+    requires dead { dead.old.node ≡ node_failed (record { k = 2; m = 1; blocks = 2; block = 16 }) (DataNode 0) 0
+        (opening_node (record { k = 2; m = 1; blocks = 2; block = 16 }) (DataNode 0)) }
     requires other { other.old.node ≡ opening_node (record { k = 2; m = 1; blocks = 2; block = 16 }) (DataNode 1) }
     ensures { dead.new.shape ≡ dead.old.shape }
 {

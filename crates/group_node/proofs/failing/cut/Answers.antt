@@ -1,4 +1,4 @@
-use Rattle.std.proofs.Common.{ℕ, ◌<◌, arith, length}
+use Rattle.std.proofs.Common.{◌<◌, arith, length}
 use Rattle.group_node.proofs.Cut.{all-cut, cuts-on, has-place, has-room, none-cut}
 use Rattle.group_node.proofs.failing.cut.Goals as goal
 

@@ -13,6 +13,7 @@ returns-in-None-clause-messages c rest =
 
 pub returns-in-Some-clause-messages : goal.returns-in-Some-clause-messages
 returns-in-Some-clause-messages c rest =
-    subst (λ (one : Sent). links_after c.args.shape c.args.known rest (messages c.send.new.self) ≡ links_after c.args.shape c.args.known (one ∷ rest) (messages c.args.links.now)) c.one.view_is
+    subst (λ (one : Sent). links_after c.args.shape c.args.known rest (messages c.send.new.self) ≡ links_after c.args.shape c.args.known (one ∷ rest)
+    (messages c.args.links.now)) c.one.view_is
     (one-behind c.args.shape c.args.known (record { to = c.one.inside.to; message = c.one.inside.message }) c.args.links.now c.send.new.self c.in-Some.to
     c.requires.many c.in-Some.ensures.some.0 c.in-Some.ensures.some.1 c.send.ensures rest)

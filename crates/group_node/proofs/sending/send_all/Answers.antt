@@ -1,5 +1,5 @@
-use Rattle.std.proofs.Common.{◌≡◌, List, ap, subst, sym, refl, ◌∙◌, arith, length}
-use Rattle.std.specs.Vec.Iter.{into_iter_items, into_iter_len}
+use Rattle.std.proofs.Common.{List, ap, subst, sym, ◌∙◌, arith, length}
+use Rattle.std.specs.Vec.Iter.{into_iter_items}
 use Rattle.group_node.proofs.Sent.{IsSending, all-sent, none-left, sends-on, some-room, starts-sending}
 use Rattle.group_run.specs.Applying.{Sent}
 use Rattle.group_node.proofs.sending.send_all.Goals as goal
@@ -10,7 +10,8 @@ messages-init c =
     record {
       sends = subst (λ (rest : List Sent). IsSending c.args.shape c.args.known c.args.sent.items rest c.args.links.now c.args.links.now) (sym all)
           (starts-sending c.args.shape c.args.known c.args.sent.items c.args.links.now c.requires.few c.requires.room);
-      long = let same = ap length all in let long = c.args.sent.ok in let as_long = c.into_iter-one-iterator.ensures.into_iter_gives.1 in omega (arith, same, long, as_long);
+      long = let same = ap length all in let long = c.args.sent.ok in let as_long = c.into_iter-one-iterator.ensures.into_iter_gives.1 in omega
+          (arith, same, long, as_long);
     }
 
 pub send-requires-clause-many : goal.send-requires-clause-many

@@ -23,16 +23,21 @@ returns-clause-step c = elim c.match-message.branch [
       let out : NodeOut = record { answer = says.Done; settled = c.in_ok-step.step.settled } in
       let fits = subst (λ (v : Standing). Fits v.shape c.args.from c.args.message.now v.node.process) (sym c.self.view_is) c.requires.comes.fits in
       subst (λ (v : Standing). receive_node v.shape c.args.from c.args.message.now v.node ≡ made c.match-message.self.node out) c.self.view_is
-      (hears n.shape n.process.shape c.args.from c.args.message.now (standing n.shape n.process n.links n.dead n.down).node c.in_ok-step.step c.receive.new.self.process c.known.result
-      n.links c.make_room.new.links c.send_all.new.links c.self.invariant.shape c.in_ok-step.ensures.step refl c.make_room.ensures.messages c.known.ensures c.send_all.ensures.messages
-      w.in-Notice.dead w.cut.new.self w.index_of.result _ w.in-Notice.is fits (c.send_all.ensures.many ∙ c.make_room.ensures.many ∙ c.self.invariant.many) w.index_of.ensures w.cut.ensures
+      (hears n.shape n.process.shape c.args.from c.args.message.now
+      (standing n.shape n.process n.links n.dead n.down).node c.in_ok-step.step c.receive.new.self.process c.known.result
+      n.links c.make_room.new.links c.send_all.new.links c.self.invariant.shape c.in_ok-step.ensures.step refl c.make_room.ensures.messages c.known.ensures
+      c.send_all.ensures.messages
+      w.in-Notice.dead w.cut.new.self w.index_of.result _ w.in-Notice.is fits
+      (c.send_all.ensures.many ∙ c.make_room.ensures.many ∙ c.self.invariant.many) w.index_of.ensures w.cut.ensures
       ∙ ap (λ (v : Standing). made v.node out) (sym w.self-is))
   | in_default w ↦
       let n = c.self.inside in
       let out : NodeOut = record { answer = says.Done; settled = c.in_ok-step.step.settled } in
       subst (λ (v : Standing). receive_node v.shape c.args.from c.args.message.now v.node ≡ made c.match-message.self.node out) c.self.view_is
-      (takes n.shape n.process.shape c.args.from c.args.message.now (standing n.shape n.process n.links n.dead n.down).node c.in_ok-step.step c.receive.new.self.process c.known.result
-      n.links c.make_room.new.links c.send_all.new.links c.self.invariant.shape c.in_ok-step.ensures.step refl c.make_room.ensures.messages c.known.ensures c.send_all.ensures.messages
+      (takes n.shape n.process.shape c.args.from c.args.message.now
+      (standing n.shape n.process n.links n.dead n.down).node c.in_ok-step.step c.receive.new.self.process c.known.result
+      n.links c.make_room.new.links c.send_all.new.links c.self.invariant.shape c.in_ok-step.ensures.step refl c.make_room.ensures.messages c.known.ensures
+      c.send_all.ensures.messages
       w.in_default.not-Notice
       ∙ ap (λ (v : Standing). made v.node out) (sym w.self-is))
 ]

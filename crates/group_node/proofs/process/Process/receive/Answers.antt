@@ -7,20 +7,27 @@ pub invariant_of-self : goal.invariant_of-self
 invariant_of-self c = elim c.match-self.branch [
   | in-Data w ↦
       data-named c.match-self.self-inside.role c.self.inside.role w.receive.new.self w.in-Data.process (ap (λ (p : _). p.role) w.self-inside-is) w.in-Data.is
-      (received-name w.in-Data.process.shape c.args.from c.args.message.now w.in-Data.process.process w.receive.new.self.process w.receive.result w.receive.ensures.step w.receive.ensures.err)
+      (received-name w.in-Data.process.shape c.args.from c.args.message.now w.in-Data.process.process w.receive.new.self.process w.receive.result w.receive.ensures.step
+      w.receive.ensures.err)
       c.self.invariant
   | in-Parity w ↦
-      parity-named c.match-self.self-inside.role c.self.inside.role w.receive-in-Parity.new.self w.in-Parity.process (ap (λ (p : _). p.role) w.self-inside-is) w.in-Parity.is
-      (received-name w.in-Parity.process.shape c.args.from c.args.message.now w.in-Parity.process.process w.receive-in-Parity.new.self.process w.receive-in-Parity.result w.receive-in-Parity.ensures.step w.receive-in-Parity.ensures.err)
+      parity-named c.match-self.self-inside.role c.self.inside.role w.receive-in-Parity.new.self w.in-Parity.process
+      (ap (λ (p : _). p.role) w.self-inside-is) w.in-Parity.is
+      (received-name w.in-Parity.process.shape c.args.from c.args.message.now w.in-Parity.process.process w.receive-in-Parity.new.self.process
+      w.receive-in-Parity.result w.receive-in-Parity.ensures.step w.receive-in-Parity.ensures.err)
       c.self.invariant
 ]
 
 pub returns-clause-name : goal.returns-clause-name
 returns-clause-name c = elim c.match-self.branch [
   | in-Data w ↦
-      data-name c.match-self.self-inside.role c.self.inside.role w.receive.new.self w.in-Data.process c.args.self.now (ap (λ (p : _). p.role) w.self-inside-is) w.in-Data.is c.self.view_is
-      (received-name w.in-Data.process.shape c.args.from c.args.message.now w.in-Data.process.process w.receive.new.self.process w.receive.result w.receive.ensures.step w.receive.ensures.err)
+      data-name c.match-self.self-inside.role c.self.inside.role w.receive.new.self w.in-Data.process c.args.self.now
+      (ap (λ (p : _). p.role) w.self-inside-is) w.in-Data.is c.self.view_is
+      (received-name w.in-Data.process.shape c.args.from c.args.message.now w.in-Data.process.process w.receive.new.self.process w.receive.result w.receive.ensures.step
+      w.receive.ensures.err)
   | in-Parity w ↦
-      parity-name c.match-self.self-inside.role c.self.inside.role w.receive-in-Parity.new.self w.in-Parity.process c.args.self.now (ap (λ (p : _). p.role) w.self-inside-is) w.in-Parity.is c.self.view_is
-      (received-name w.in-Parity.process.shape c.args.from c.args.message.now w.in-Parity.process.process w.receive-in-Parity.new.self.process w.receive-in-Parity.result w.receive-in-Parity.ensures.step w.receive-in-Parity.ensures.err)
+      parity-name c.match-self.self-inside.role c.self.inside.role w.receive-in-Parity.new.self w.in-Parity.process c.args.self.now
+      (ap (λ (p : _). p.role) w.self-inside-is) w.in-Parity.is c.self.view_is
+      (received-name w.in-Parity.process.shape c.args.from c.args.message.now w.in-Parity.process.process w.receive-in-Parity.new.self.process
+      w.receive-in-Parity.result w.receive-in-Parity.ensures.step w.receive-in-Parity.ensures.err)
 ]
