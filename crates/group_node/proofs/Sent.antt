@@ -1,6 +1,6 @@
 -- One message that goes into its link, or into none.
-use Rattle.std.proofs.Common.{ℕ, suc, ◌≡◌, ◌≢◌, ◌<◌, ◌≤◌, ◌+◌, ◌-◌, Bool, true, false, List, [], ◌∷◌, ◌++◌, length, refl, sym, ap, subst, ◌∙◌, arith}
-use Rattle.std.proofs.lemmas.List.{append_assoc, get_or-set_same, get_or-set_other}
+use Rattle.std.proofs.Common.{ℕ, suc, ◌≡◌, ◌≢◌, ◌<◌, ◌+◌, ◌-◌, Bool, true, false, List, [], ◌∷◌, ◌++◌, length, refl, sym, ap, subst, ◌∙◌, arith}
+use Rattle.std.proofs.lemmas.List.{append_assoc}
 use Rattle.group_types.specs.Dimensions.{Dimensions}
 use Rattle.group_types.specs.Lists.{at, put}
 use Rattle.group_types.specs.Names.{IsProcess, index_of, process_at, same_process}
@@ -12,9 +12,9 @@ use Rattle.group_message.specs.declared.message.Message.{Message}
 use Rattle.group_bounds.specs.Steps.{FewForEach}
 use Rattle.group_run.specs.Applying.{Sent}
 use Rattle.group_run.specs.World.{front_if, link_after, links_after, sent_to}
-use Rattle.link_core.specs.Outgoing.{Link, empty_link, link_to, with_link}
+use Rattle.link_core.specs.Outgoing.{Link, link_to, with_link}
 use Rattle.group_node.specs.Rooms.{HasRoom, HasRoomFor, IsLiving, messages}
-use Rattle.group_node.proofs.Links.{many-with, messages-at, messages-long, messages-with}
+use Rattle.group_node.proofs.Links.{messages-at, messages-long, messages-with}
 use Rattle.group_node.proofs.Ranges.{entries-same, range-below}
 
 -- what goes to a dead process is none
@@ -75,39 +75,6 @@ module _ (s : Dimensions) (known : Membership) (one : Sent) (rest : List Sent) w
             ∙ ap (after false q) (at-put [] [] links to (at [] links to ++ one.message ∷ []))
             ∙ ap (λ (y : ℕ). after false q (at [] links y ++ one.message ∷ [])) here
             ∙ link-more (knows_dead known q) (at [] links x) one.message (sent_to q rest) living
-
-  -- there is room for the rest
-  pub none-room : (links : List (Link Message)) → HasRoomFor s (one ∷ rest) links → HasRoomFor s rest links
-  none-room links room x below = by (same_process one.to (process_at s x)) (room x below) where
-    by : (b : Bool) → suc (length (front_if b one.message (sent_to (process_at s x) rest))) ≤ (link_to links x).spare
-        → suc (length (sent_to (process_at s x) rest)) ≤ (link_to links x).spare
-    by true fits = omega (arith, fits)
-    by false fits = fits
-
-  pub one-room : (links : List (Link Message)) (to : ℕ) (ms : List Message) → IsProcess s one.to → to ≡ index_of s one.to
-      → HasRoomFor s (one ∷ rest) links → HasRoomFor s rest (with_link links to ms ((link_to links to).spare - 1))
-  one-room links to ms named is room x below = by (same_process one.to (process_at s x)) refl where
-    new : List (Link Message)
-    new = with_link links to ms ((link_to links to).spare - 1)
-
-    within : x < length links
-    within = let long = many-with links to ms ((link_to links to).spare - 1) in omega (arith, long, below)
-
-    for_rest : ℕ
-    for_rest = length (sent_to (process_at s x) rest)
-
-    by : (b : Bool) → same_process one.to (process_at s x) ≡ b → suc for_rest ≤ (link_to new x).spare
-    by false e = subst (λ (l : Link Message). suc for_rest ≤ l.spare) (sym (get_or-set_other links to x _ empty_link apart)) (none-room links room x within) where
-      apart : x ≢ to
-      apart same = cc (e, same-refl one.to, ap (λ (q : ProcessId). same_process one.to q) (ap (process_at s) (same ∙ is) ∙ process_at-index s one.to named))
-    by true e =
-        let here : x ≡ to = sym (is ∙ ap (index_of s) (same-eq one.to (process_at s x) e) ∙ index-process_at s x) in
-        let much : suc (suc for_rest) ≤ (link_to links x).spare = subst
-        (λ (b : Bool). suc (length (front_if b one.message (sent_to (process_at s x) rest))) ≤ (link_to links x).spare) e (room x within) in
-        let all : suc (suc for_rest) ≤ (link_to links to).spare = subst (λ (y : ℕ). suc (suc for_rest) ≤ (link_to links y).spare) here much in
-        subst (λ (y : ℕ). suc for_rest ≤ (link_to new y).spare) (sym here)
-        (subst (λ (l : Link Message). suc for_rest ≤ l.spare) (sym (get_or-set_same links to _ empty_link (subst (λ (y : ℕ). y < length links) here within)))
-        (omega (arith, all)))
 
 module _ (s : Dimensions) (known : Membership) where
   -- one message was sent to one of the living
