@@ -4,4 +4,6 @@
 //! event makes of the nodes is left to others.
 #![tactic(auto)]
 
+mod room;
+mod settling;
 mod tickets;
