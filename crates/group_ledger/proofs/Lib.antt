@@ -1,3 +1,4 @@
 pub mod Calls
+pub mod Partitions
 pub mod Settled
 pub mod Taken

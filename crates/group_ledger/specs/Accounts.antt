@@ -15,6 +15,9 @@ pub record Accounts : Type 0 where
   pub places : List (List (Option Run))
   pub tickets : List Ticket
 
+abbrev pub accounts_of : List Entry → List (List (Option Run)) → List Ticket → Accounts
+accounts_of log places tickets = record { log = log; places = places; tickets = tickets }
+
 -- the updates of partition d that aren't logged yet, where the first `count` are
 abbrev pub news_of : ℕ → ℕ → List Settlement → List Update
 news_of d count settled = new_ones count (settled_in d settled)

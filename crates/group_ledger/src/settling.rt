@@ -1,7 +1,8 @@
-ghost use Rattle.std.specs.Prelude.{◌≡◌, ◌<◌, ◌≤◌, ◌+◌, ◌++◌, [], ◌∷◌, length, vec_len, vec_capacity, map, ◌==◌, ◌&&◌, nat_lt};
+ghost use Rattle.std.specs.Prelude.{◌≡◌, ◌<◌, ◌≤◌, ◌+◌, ◌++◌, [], ◌∷◌, length, vec_len, vec_capacity, map, ◌==◌, ◌&&◌, nat_lt, All};
+ghost use Rattle.std.specs.List.{range_with_len};
 ghost use Rattle.group_run.specs.Replica.{run_of};
 ghost use Rattle.group_run.specs.World.{entry_then, op_in, settled_in, update_name};
-ghost use Rattle.group_ledger.specs.Accounts.{news_of, runs_of};
+ghost use Rattle.group_ledger.specs.Accounts.{accounts_after, accounts_of, news_of, runs_of};
 ghost use Rattle.group_ledger.specs.Taking.{Differ, entries_taken, op_taken, ops_taken};
 
 use crate::room::add;
@@ -13,8 +14,27 @@ use head_service::Settlement;
 use head_service::held::reply;
 use memc_table::Op;
 
-/// Logs the updates of a partition that aren't logged yet. It takes no memory.
-pub(crate) fn settle_partition(
+/// Logs what is settled and isn't logged yet, partition by partition. It takes no memory.
+pub(crate) fn settle_all(
+    settled: &[Settlement],
+    places: &mut [Vec<Option<Run>>],
+    log: &mut Vec<Entry>,
+    tickets: &mut [Ticket],
+)
+    requires differ { Differ tickets.old }
+    requires log_room { vec_len log.old + length settled.now ≤ vec_capacity log.old }
+    requires places_room { All (λ p. vec_len p + length settled.now ≤ vec_capacity p) places.old }
+    ensures accounts { accounts_of log.new.items (map (λ p. p.items) places.new) tickets.new
+        ≡ accounts_after settled.now (range_with_len 0 (length places.old)) (accounts_of log.old.items (map (λ p. p.items) places.old) tickets.old) }
+    ensures many { length places.new ≡ length places.old }
+{
+    'partitions: for d in 0..places.len() {
+        settle_partition(d, settled, &mut places[d], log, tickets);
+    }
+}
+
+// The same of one partition.
+fn settle_partition(
     partition: usize,
     settled: &[Settlement],
     places: &mut Vec<Option<Run>>,
