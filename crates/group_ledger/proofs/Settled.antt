@@ -66,12 +66,15 @@ name-kept name t = by (same_call name t.name) where
   by true = refl
   by false = refl
 
-pub differ-taken : (name : CallName) (ts : List Ticket) → Differ ts → Differ (map (op_taken name) ts)
-differ-taken name ts differ i j d before below same =
-    let long = length-map ts (op_taken name) in
-    let at : (k : ℕ) → k < length ts → (get_or (map (op_taken name) ts) k d).name ≡ (get_or ts k d).name
-    = λ k within. ap (λ (t : Ticket). t.name) (get_or-map (op_taken name) ts k d d within) ∙ name-kept name (get_or ts k d) in
+pub differ-map : (f : Ticket → Ticket) → ((t : Ticket) → (f t).name ≡ t.name) → (ts : List Ticket) → Differ ts → Differ (map f ts)
+differ-map f kept ts differ i j d before below same =
+    let long = length-map ts f in
+    let at : (k : ℕ) → k < length ts → (get_or (map f ts) k d).name ≡ (get_or ts k d).name
+    = λ k within. ap (λ (t : Ticket). t.name) (get_or-map f ts k d d within) ∙ kept (get_or ts k d) in
     differ i j d before (omega (arith, below, long)) (sym (at i (omega (arith, before, below, long))) ∙ same ∙ at j (omega (arith, below, long)))
+
+differ-taken : (name : CallName) (ts : List Ticket) → Differ ts → Differ (map (op_taken name) ts)
+differ-taken name ts differ = differ-map (op_taken name) (name-kept name) ts differ
 
 entry-behind : (u : Update) (op : Option Asked) (log entries : List Entry) → (log ++ entry_then u op []) ++ entries ≡ log ++ entry_then u op entries
 entry-behind u None log entries = append_assoc log [] entries

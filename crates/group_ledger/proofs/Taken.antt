@@ -17,10 +17,10 @@ module _ (name : CallName) where
   abbrev rest-none : (t : Ticket) (ts : List Ticket) → NoneFrom (t ∷ ts) 0 → NoneFrom ts 0
   rest-none t ts none k d from below = none (suc k) d (omega arith) (omega (arith, below))
 
-  other-kept : (t : Ticket) → same_call t.name name ≡ false → op_taken name t ≡ t
+  pub other-kept : (t : Ticket) → same_call t.name name ≡ false → op_taken name t ≡ t
   other-kept t other = ap (λ (b : Bool). if b then record t { op = None } else t) (same-flip name t.name ∙ other)
 
-  own-taken : (t : Ticket) → same_call t.name name ≡ true → op_taken name t ≡ record t { op = None }
+  pub own-taken : (t : Ticket) → same_call t.name name ≡ true → op_taken name t ≡ record t { op = None }
   own-taken t own = ap (λ (b : Bool). if b then record t { op = None } else t) (same-flip name t.name ∙ own)
 
   -- where there is none, nothing is taken
@@ -37,7 +37,7 @@ module _ (name : CallName) where
       ∙ none-in ts (rest-none t ts none)
 
   -- all behind the one that is of this call aren't
-  none-behind : (t : Ticket) (ts : List Ticket) → Differ (t ∷ ts) → same_call t.name name ≡ true → NoneFrom ts 0
+  pub none-behind : (t : Ticket) (ts : List Ticket) → Differ (t ∷ ts) → same_call t.name name ≡ true → NoneFrom ts 0
   none-behind t ts differ own k d from below =
       same-not (get_or ts k d).name name
           (λ same. differ 0 (suc k) d (omega arith) (omega (arith, below)) (same-is t.name name own ∙ sym same))

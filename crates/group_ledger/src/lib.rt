@@ -4,6 +4,7 @@
 //! event makes of the nodes is left to others.
 #![tactic(auto)]
 
+pub mod entering;
 mod room;
 mod settling;
 mod tickets;
