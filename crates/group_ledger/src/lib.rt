@@ -5,6 +5,11 @@
 #![tactic(auto)]
 
 pub mod entering;
+pub mod ledger;
+mod places;
 mod room;
 mod settling;
 mod tickets;
+
+pub use entering::NewCall;
+pub use ledger::Ledger;
