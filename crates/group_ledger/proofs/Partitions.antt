@@ -1,11 +1,12 @@
 -- What is settled, partition by partition.
-use Rattle.std.proofs.Common.{ℕ, zero, suc, ◌≡◌, ◌<◌, ◌≤◌, ◌+◌, ◌-◌, ◌==◌, nat_le, Bool, true, false, List, [], ◌∷◌, ◌++◌, Option, length, map, filter, drop, get_or, set, Vec, Global, refl, sym, ap, subst, ◌∙◌, arith, if◌then◌else◌}
-use Rattle.std.proofs.lemmas.Grind.{common_steps}
-use Rattle.std.proofs.lemmas.List.{drop-drop, drop-set-lt, get_or-drop, length-map, map-set}
+use Rattle.std.proofs.Common.{ℕ, zero, suc, ◌≡◌, ◌<◌, ◌≤◌, ◌+◌, ◌-◌, ◌==◌, nat_le, Bool, true, false, List, [], ◌∷◌, ◌++◌, Option, length, map, filter, drop, get_or, set, Vec, Global, ◌⊎◌, inl, inr, refl, sym, ap, subst, ◌∙◌, arith, if◌then◌else◌}
+use Rattle.std.proofs.lemmas.Grind.{common_steps, get_or-set_at}
+use Rattle.std.proofs.lemmas.Bool.{cases_lt}
+use Rattle.std.proofs.lemmas.List.{drop-drop, drop-set-lt, get_or-drop, get_or-set_other, length-map, map-set}
 use Rattle.std.specs.List.{range_with_len}
 use Rattle.group_types.specs.Lists.{at, put}
 use Rattle.group_types.specs.declared.run.Run.{Run}
-use Rattle.group_types.proofs.Lists.{at-map, at_index, set_put}
+use Rattle.group_types.proofs.Lists.{at-map, at_index, put-at, set_put}
 use Rattle.group_message.specs.declared.update.Update.{Update}
 use Rattle.group_calls.specs.declared.entry.Entry.{Entry}
 use Rattle.group_run.specs.Applying.{Settlement}
@@ -101,3 +102,18 @@ pub alike-behind : {X : Type 0} (xs ys : List X) (d : ℕ) (p : X) → drop d xs
 alike-behind xs ys d p same =
     let below : d < d + 1 = omega arith in
     drop-set-lt (d + 1) xs d p below ∙ sym (drop-drop 1 d xs) ∙ ap (drop 1) same ∙ drop-drop 1 d ys
+
+-- where the places of a partition are what they were
+pub items-kept : (places : Places) (d : ℕ) (p q : Vec (Option Run) Global) → d < length places → q.items ≡ (get_or places d p).items
+    → items_of (set places d q) ≡ items_of places
+items-kept places d p q within same =
+    let long = length-map places (λ (p : Vec (Option Run) Global). p.items) in
+    set-placed places d q within ∙ ap (put [] (items_of places) d) (same ∙ place-at places d p within) ∙ put-at [] [] (items_of places) d (omega (arith, long, within))
+
+-- what holds of the entries below a place, and of the one that is set there
+pub below-set : {X : Type 0} (P : X → Type 0) (xs : List X) (d : ℕ) (q : X) → d < length xs → ((k : ℕ) (p : X) → k < d → P (get_or xs k p)) → P q
+    → (k : ℕ) (p : X) → k < d + 1 → P (get_or (set xs d q) k p)
+below-set P xs d q within all here k p below = by (cases_lt k d) where
+  by : (k < d) ⊎ (d ≤ k) → P (get_or (set xs d q) k p)
+  by (inl low) = subst P (sym (get_or-set_other xs d k q p (λ same. omega (arith, low, same)))) (all k p low)
+  by (inr high) = let same : k ≡ d = omega (arith, high, below) in subst P (sym (get_or-set_at xs d k q p same within)) here
