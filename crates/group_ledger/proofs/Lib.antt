@@ -2,5 +2,6 @@ pub mod Calls
 pub mod Entered
 pub mod Moved
 pub mod Partitions
+pub mod Recorded
 pub mod Settled
 pub mod Taken

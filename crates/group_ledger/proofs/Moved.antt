@@ -185,7 +185,7 @@ module _ (ts : List Ticket) (differ : Differ ts) where
   abbrev pub standing : List Entry → Ledger → Accounts
   standing before l = accounts_of (before ++ l.logged) l.places (moved l.logged ts)
 
-  grown-is : {X : Type 0} (xs ys : List X) → grown xs ys ≡ xs ++ ys
+  pub grown-is : {X : Type 0} (xs ys : List X) → grown xs ys ≡ xs ++ ys
   grown-is xs [] = sym (append-nil xs)
   grown-is xs (y ∷ ys) = refl
 
