@@ -1,4 +1,5 @@
 pub mod Calls
+pub mod Counts
 pub mod Entered
 pub mod Moved
 pub mod Partitions

@@ -143,6 +143,10 @@ fresh-behind (x ∷ xs) e rest once =
     = λ same. once 0 (suc (length xs)) x (omega arith) (omega (arith, long)) (same ∙ ap name_of (sym (behind-at xs e rest x))) in
     ap (λ (v : Bool). v || is_among (name_of e) xs) (same-not (name_of x) (name_of e) other) ∙ fresh-behind xs e rest (once-rest x (xs ++ e ∷ rest) once)
 
+pub grown-is : {X : Type 0} (xs ys : List X) → grown xs ys ≡ xs ++ ys
+grown-is xs [] = sym (append-nil xs)
+grown-is xs (y ∷ ys) = refl
+
 -- settled updates, one after the other, after these entries: the machine's entries, and its tickets
 record Moves (ts : List Ticket) (us : List Update) (es : List Entry) : Type 0 where
   entries : entries_taken (moved es ts) us ≡ entries_for ts us
@@ -184,10 +188,6 @@ module _ (ts : List Ticket) (differ : Differ ts) where
   -- the accounts of the machine's ledger, behind what the log had
   abbrev pub standing : List Entry → Ledger → Accounts
   standing before l = accounts_of (before ++ l.logged) l.places (moved l.logged ts)
-
-  pub grown-is : {X : Type 0} (xs ys : List X) → grown xs ys ≡ xs ++ ys
-  grown-is xs [] = sym (append-nil xs)
-  grown-is xs (y ∷ ys) = refl
 
   -- entries only come behind
   ledger-more : (settled : List Settlement) (ds : List ℕ) (l : Ledger) → (rest : List Entry) × ((ledger_after ts settled ds l).logged ≡ l.logged ++ rest)

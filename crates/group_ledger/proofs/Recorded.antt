@@ -25,11 +25,11 @@ Fresh (Some c) ts = All (λ t. t.name ≢ c.name) ts
 
 pub fresh-call : (asked : List ℕ) (o : Option NewCall) (ts : List Ticket) → All (λ t. t.name.call < at 0 asked t.name.caller) ts → Fresh (call_in asked o) ts
 fresh-call asked None ts all = tt
-fresh-call asked (Some c) ts all k d below same =
+fresh-call asked (Some c) ts all = λ k d below same.
     let caller = ap (λ (n : CallName). at 0 asked n.caller) same in
     let call = ap (λ (n : CallName). n.call) same in
     let low = all k d below in
-    absurd (omega (arith, caller, call, low))
+    omega (arith, caller, call, low)
 
 -- an entry of a call without a ticket moves no op
 moved-fresh : (e : Entry) (ts : List Ticket) → All (λ t. t.name ≢ name_of e) ts → moved (e ∷ []) ts ≡ ts
@@ -86,5 +86,53 @@ accounts-are b o answer settled fresh can =
     let ds : List ℕ = range_with_len 0 b.shape.k in
     ap (λ (xs : List Ticket). accounts_after settled ds (accounts_of (b.log ++ logged_at_once o answer) b.places xs)) (sym (at-once-moves (length b.log) o answer b.tickets fresh))
     ∙ settles ts differ settled b.log ds (record { logged = logged_at_once o answer; places = b.places }) can.once
-    ∙ ap (λ (es : List Entry). accounts_of es end.places (moved end.logged ts)) (sym (grown-is ts differ b.log end.logged))
+    ∙ ap (λ (es : List Entry). accounts_of es end.places (moved end.logged ts)) (sym (grown-is b.log end.logged))
     ∙ ap (λ (xs : List Ticket). accounts_of (grown b.log end.logged) end.places xs) (moved-at-once end.logged ts)
+
+-- the same in steps: what a call made of them, and then what is settled
+pub record IsRecorded (b : Books) (o : Option Call) (answer : Answer) (settled : List Settlement) (asked : List ℕ) (a : Accounts) : Type 0 where
+  pub asked_is : asked ≡ asked_after b.asked o
+  pub accounts_are : a ≡ accounts_in (recorded o answer settled b)
+
+-- what the books have, as it is read from a struct
+pub record IsRead (b : Books) (asked : List ℕ) (log : List Entry) (places : List (List (Option Run))) (tickets : List Ticket) : Type 0 where
+  pub asked_is : asked ≡ b.asked
+  pub log_is : log ≡ b.log
+  pub places_are : places ≡ b.places
+  pub tickets_are : tickets ≡ b.tickets
+
+module _ (b : Books) (c : Option NewCall) (answer : Answer) (settled : List Settlement) (can : CanRecord (call_in b.asked c) answer settled b)
+    (asked : List ℕ) (log : List Entry) (places : List (List (Option Run))) (tickets : List Ticket) (is : IsRead b asked log places tickets) where
+  abbrev pub o : Option Call
+  o = call_in b.asked c
+
+  same : call_in asked c ≡ o
+  same = ap (λ (xs : List ℕ). call_in xs c) is.asked_is
+
+  tickets-then : (tickets2 : List Ticket) → tickets2 ≡ tickets_after (length log) (call_in asked c) answer tickets → tickets2 ≡ tickets_after (length b.log) o answer b.tickets
+  tickets-then tickets2 e = e ∙ ap (λ (es : List Entry). tickets_after (length es) (call_in asked c) answer tickets) is.log_is
+      ∙ ap (λ (x : Option Call). tickets_after (length b.log) x answer tickets) same ∙ ap (tickets_after (length b.log) o answer) is.tickets_are
+
+  fresh : Fresh o b.tickets
+  fresh = fresh-call b.asked c b.tickets can.asked
+
+  pub tickets-differ : (tickets2 : List Ticket) → tickets2 ≡ tickets_after (length log) (call_in asked c) answer tickets → Differ tickets2
+  tickets-differ tickets2 e = subst Differ (sym (tickets-then tickets2 e)) (still-differ (length b.log) o answer b.tickets can.differ fresh)
+
+  pub in-steps : (asked2 : List ℕ) → asked2 ≡ asked_after asked (call_in asked c)
+      → (log2 : List Entry) → log2 ≡ log ++ logged_at_once (call_in asked c) answer
+      → (tickets2 : List Ticket) → tickets2 ≡ tickets_after (length log) (call_in asked c) answer tickets
+      → (k : ℕ) → k ≡ b.shape.k → (a : Accounts) → a ≡ accounts_after settled (range_with_len 0 k) (accounts_of log2 places tickets2)
+      → IsRecorded b o answer settled asked2 a
+  in-steps asked2 counted log2 log-is tickets2 tickets-are k wide a a-is =
+      let log-now : log2 ≡ b.log ++ logged_at_once o answer
+      = log-is ∙ ap (λ (x : Option Call). log ++ logged_at_once x answer) same ∙ ap (λ (es : List Entry). es ++ logged_at_once o answer) is.log_is in
+      let ds : ℕ → List ℕ = λ n. range_with_len 0 n in
+      record {
+        asked_is = counted ∙ ap (λ (x : Option Call). asked_after asked x) same ∙ ap (λ (xs : List ℕ). asked_after xs o) is.asked_is;
+        accounts_are = a-is ∙ ap (λ (n : ℕ). accounts_after settled (ds n) (accounts_of log2 places tickets2)) wide
+            ∙ ap (λ (es : List Entry). accounts_after settled (ds b.shape.k) (accounts_of es places tickets2)) log-now
+            ∙ ap (λ (rs : List (List (Option Run))). accounts_after settled (ds b.shape.k) (accounts_of (b.log ++ logged_at_once o answer) rs tickets2)) is.places_are
+            ∙ ap (λ (ts : List Ticket). accounts_after settled (ds b.shape.k) (accounts_of (b.log ++ logged_at_once o answer) b.places ts)) (tickets-then tickets2 tickets-are)
+            ∙ accounts-are b o answer settled fresh can;
+      }
