@@ -5,4 +5,5 @@ pub mod Moved
 pub mod Partitions
 pub mod Recorded
 pub mod Settled
+pub mod Steps
 pub mod Taken

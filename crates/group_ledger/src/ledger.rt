@@ -132,6 +132,7 @@ impl Ledger {
         requires can { CanRecord (call_in self.old.books.asked call) answer.now settled.now self.old.books }
         ensures books { self.new.books ≡ recorded (call_in self.old.books.asked call) answer.now settled.now self.old.books }
         ensures logged { result ≡ length (settled_by (call_in self.old.books.asked call) answer.now settled.now self.old.books).logged }
+        ensures room { self.new.room ≡ 0 }
     {
         let before = self.log.len();
         self.events += 1;
