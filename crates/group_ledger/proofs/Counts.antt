@@ -5,7 +5,7 @@ use Rattle.group_types.specs.Lists.{at, put}
 use Rattle.group_types.proofs.Lists.{length-put, set_put}
 use Rattle.group_run.specs.Replica.{callers}
 use Rattle.group_run.specs.World.{asked_after}
-use Rattle.group_ledger.specs.Books.{IsWhole, call_in}
+use Rattle.group_ledger.specs.Books.{call_in}
 use Rattle.group_ledger.specs.declared.entering.NewCall.{NewCall}
 
 count-low : (asked : List ℕ) (events i : ℕ) → All (λ n. n ≤ events) asked → at 0 asked i ≤ events
@@ -18,25 +18,17 @@ pub counts-low : (o : Option NewCall) (asked : List ℕ) (events : ℕ) → All 
 counts-low None asked events all few = tt
 counts-low (Some c) asked events all few = let low = count-low asked events c.caller all in omega (arith, low, few)
 
-pub whole-after : (o : Option NewCall) (k events : ℕ) (asked : List ℕ) (places : ℕ) → IfSome o (λ c. c.caller < callers)
-    → IsWhole k events asked places → IsWhole k (events + 1) (asked_after asked (call_in asked o)) places
-whole-after None k events asked places within whole = record {
-  callers_all = whole.callers_all;
-  calls_low = All-weaker (λ n. n ≤ events) (λ n. n ≤ events + 1) (λ n low. omega (arith, low)) asked whole.calls_low;
-  partitions_all = whole.partitions_all;
-}
-whole-after (Some c) k events asked places within whole =
-    let low = count-low asked events c.caller whole.calls_low in
-    let here : c.caller < length asked = omega (arith, within, whole.callers_all) in
+-- the counts once a call is counted
+pub counts-after : (o : Option NewCall) (events : ℕ) (asked : List ℕ) → IfSome o (λ c. c.caller < callers) → length asked ≡ callers → All (λ n. n ≤ events) asked
+    → (length (asked_after asked (call_in asked o)) ≡ callers) × All (λ n. n ≤ events + 1) (asked_after asked (call_in asked o))
+counts-after None events asked within long low = (long, All-weaker (λ n. n ≤ events) (λ n. n ≤ events + 1) (λ n low. omega (arith, low)) asked low)
+counts-after (Some c) events asked within long low =
+    let few = count-low asked events c.caller low in
+    let here : c.caller < length asked = omega (arith, within, long) in
     let next : ℕ = suc (at 0 asked c.caller) in
-    record {
-      callers_all = length-put 0 asked c.caller next here ∙ whole.callers_all;
-      calls_low = subst (All (λ n. n ≤ events + 1)) (set_put 0 asked c.caller next here)
-          (All-set (λ n. n ≤ events + 1) asked c.caller next (omega (arith, low))
-          (All-weaker (λ n. n ≤ events) (λ n. n ≤ events + 1) (λ n low. omega (arith, low)) asked whole.calls_low));
-      partitions_all = whole.partitions_all;
-    }
-
-pub whole-so : (k events : ℕ) (asked asked2 : List ℕ) (places places2 : ℕ) → asked2 ≡ asked → places2 ≡ places → IsWhole k events asked places → IsWhole k events asked2 places2
-whole-so k events asked asked2 places places2 asked-is places-are whole =
-    subst (λ (n : ℕ). IsWhole k events asked2 n) (sym places-are) (subst (λ (xs : List ℕ). IsWhole k events xs places) (sym asked-is) whole)
+    (
+      length-put 0 asked c.caller next here ∙ long,
+      subst (All (λ n. n ≤ events + 1)) (set_put 0 asked c.caller next here)
+        (All-set (λ n. n ≤ events + 1) asked c.caller next (omega (arith, few))
+        (All-weaker (λ n. n ≤ events) (λ n. n ≤ events + 1) (λ n low. omega (arith, low)) asked low)),
+    )

@@ -13,14 +13,11 @@ use Rattle.group_run.specs.Applying.{Settlement}
 use Rattle.group_run.specs.Asking.{reply_from}
 use Rattle.group_run.specs.World.{Ledger, Ticket, entries_for, entry_then, grown, ledger_after, ledger_with, op_in, op_moved, ops_moved, same_call, update_name}
 use Rattle.group_ledger.specs.Accounts.{Accounts, accounts_after, accounts_of, news_of, runs_of, with_news}
+use Rattle.group_ledger.specs.Books.{Once}
 use Rattle.group_ledger.specs.Taking.{Differ, entries_taken, op_taken, ops_taken}
 use Rattle.group_ledger.proofs.Calls.{same-flip, same-is, same-not, same-refl}
 use Rattle.group_ledger.proofs.Taken.{differ-rest, none-behind, none-taken, other-kept, own-taken}
 use Rattle.group_ledger.proofs.Settled.{differ-map}
-
--- no two entries are of one call
-abbrev pub Once : List Entry → Type 0
-Once entries = AllPairs (λ a b. name_of a ≢ name_of b) entries
 
 -- whether an entry is of a call
 abbrev pub is_among : CallName → List Entry → Bool
@@ -72,7 +69,7 @@ moved-more es e [] = refl
 moved-more es e (t ∷ ts) = ap (λ (x : Ticket). x ∷ map (op_taken (name_of e)) (moved es ts)) (one-more es e t) ∙ ap (λ (xs : List Ticket). op_moved (es ++ e ∷ []) t ∷ xs) (moved-more es e ts)
 
 -- tickets keep their names
-name-kept : (es : List Entry) (t : Ticket) → (op_moved es t).name ≡ t.name
+pub name-kept : (es : List Entry) (t : Ticket) → (op_moved es t).name ≡ t.name
 name-kept es t = by (is_among t.name es) where
   by : (b : Bool) → (if b then record t { op = None } else t).name ≡ t.name
   by true = refl

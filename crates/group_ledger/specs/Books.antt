@@ -50,12 +50,9 @@ recorded call answer settled b =
       tickets = ops_moved ledger.logged (tickets_after (length b.log) call answer b.tickets);
     }
 
--- what is known along every run: tickets are of calls that were asked, each of another, and so are the
--- entries that an event logs
-pub record CanRecord (call : Option Call) (answer : Answer) (settled : List Settlement) (b : Books) : Type 0 where
-  pub asked : All (λ t. t.name.call < at 0 b.asked t.name.caller) b.tickets
-  pub differ : Differ b.tickets
-  pub once : AllPairs (λ x y. name_of x ≢ name_of y) (settled_by call answer settled b).logged
+-- no two entries are of one call
+abbrev pub Once : List Entry → Type 0
+Once entries = AllPairs (λ a b. name_of a ≢ name_of b) entries
 
 -- the call that a caller asks next
 abbrev pub call_in : List ℕ → Option NewCall → Option Call
@@ -76,8 +73,14 @@ pub record Kept : Type 0 where
   pub books : Books
   pub room : ℕ
 
+-- each ticket is of a call that was asked, and no two are of one call
+pub record Stand (asked : List ℕ) (tickets : List Ticket) : Type 0 where
+  pub asked_all : All (λ t. t.name.call < at 0 asked t.name.caller) tickets
+  pub differ : Differ tickets
+
 -- there are counts of all callers, none above that of the events, and places of all partitions
-pub record IsWhole (k events : ℕ) (asked : List ℕ) (places : ℕ) : Type 0 where
+pub record IsWhole (k events : ℕ) (asked : List ℕ) (places : ℕ) (tickets : List Ticket) : Type 0 where
   pub callers_all : length asked ≡ callers
   pub calls_low : All (λ n. n ≤ events) asked
   pub partitions_all : places ≡ k
+  pub tickets_stand : Stand asked tickets

@@ -2,7 +2,7 @@ ghost use Rattle.std.specs.Prelude.{◌≡◌, ◌<◌, ◌^◌, [], suc, length
 ghost use Rattle.group_types.specs.Lists.{at};
 ghost use Rattle.group_run.specs.Replica.{callers};
 ghost use Rattle.group_run.specs.World.{opening};
-ghost use Rattle.group_ledger.specs.Books.{CanRecord, books_of, call_in, recorded, refusal_in, settled_by};
+ghost use Rattle.group_ledger.specs.Books.{Once, books_of, call_in, recorded, refusal_in, settled_by};
 
 use crate::entering::{NewCall, enter};
 use crate::places::{no_places, reserve_each};
@@ -44,7 +44,7 @@ impl Model for Ledger {
       room = l.room;
     } };
 
-    ghost invariant = { λ l. IsWhole l.shape.k l.events l.asked.items (length l.places.items)
+    ghost invariant = { λ l. IsWhole l.shape.k l.events l.asked.items (length l.places.items) l.tickets.items
       × (vec_len l.log + l.room ≤ vec_capacity l.log)
       × All (λ p. vec_len p + l.room ≤ vec_capacity p) l.places.items
       × (0 < l.room → vec_len l.tickets < vec_capacity l.tickets) };
@@ -129,7 +129,7 @@ impl Ledger {
         requires events { self.old.books.events < 2 ^ 62 }
         requires caller { IfSome call (λ c. c.caller < callers) }
         requires refusal { IfSome call (λ c. c.refusal ≡ refusal_in answer.now) }
-        requires can { CanRecord (call_in self.old.books.asked call) answer.now settled.now self.old.books }
+        requires once { Once (settled_by (call_in self.old.books.asked call) answer.now settled.now self.old.books).logged }
         ensures books { self.new.books ≡ recorded (call_in self.old.books.asked call) answer.now settled.now self.old.books }
         ensures logged { result ≡ length (settled_by (call_in self.old.books.asked call) answer.now settled.now self.old.books).logged }
         ensures room { self.new.room ≡ 0 }

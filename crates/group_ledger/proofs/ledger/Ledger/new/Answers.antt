@@ -7,6 +7,7 @@ use Rattle.group_calls.specs.declared.entry.Entry.{Entry}
 use Rattle.group_run.specs.World.{Ticket}
 use Rattle.group_ledger.specs.Books.{Books, Kept}
 use Rattle.group_ledger.proofs.Partitions.{items_of}
+use Rattle.group_ledger.proofs.Recorded.{stand-none}
 use Rattle.group_ledger.proofs.ledger.Ledger.new.Goals as goal
 
 pub invariant_of-result : goal.invariant_of-result
@@ -20,6 +21,7 @@ invariant_of-result c =
       callers_all = ap length counts ∙ length-replicate {A = ℕ} 256 0;
       calls_low = subst (All (λ n. n ≤ 0)) (sym counts) (All-replicate (λ n. n ≤ 0) 256 0 (omega arith));
       partitions_all = omega (arith, long, many, all, c.k.ensures.value);
+      tickets_stand = stand-none _ _ c.new-2.ensures.items;
     }, grind (arith, common_steps), (λ k d below. grind (arith, common_steps)), (λ none. absurd (omega (arith, none))))
 
 pub returns : goal.returns
