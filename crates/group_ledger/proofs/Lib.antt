@@ -1,6 +1,7 @@
 pub mod Calls
 pub mod Counts
 pub mod Entered
+pub mod Few
 pub mod Moved
 pub mod Partitions
 pub mod Recorded

@@ -153,3 +153,6 @@ impl Ledger {
         (self.log.len() - before) as u64
     }
 }
+
+#[cfg(test)]
+mod tests;
