@@ -1,19 +1,22 @@
 -- Where an event settles few updates, what it logs is of different calls.
-use Rattle.std.proofs.Common.{ℕ, zero, suc, ◌≡◌, ◌≢◌, ◌<◌, ◌≤◌, ◌+◌, ◌==◌, nat_lt, Bool, true, false, List, [], ◌∷◌, ◌++◌, Option, Some, None, ◌⊎◌, inl, inr, length, filter, refl, sym, ap, subst, ◌∙◌, arith, if◌then◌else◌}
+use Rattle.std.proofs.Common.{ℕ, zero, suc, ◌≡◌, ◌≢◌, ◌<◌, ◌≤◌, ◌+◌, ◌==◌, nat_lt, Bool, true, false, List, [], ◌∷◌, ◌++◌, Option, Some, None, is_some, IfSome, ◌⊎◌, inl, inr, length, filter, refl, sym, ap, subst, ◌∙◌, arith, if◌then◌else◌}
 use Rattle.std.proofs.lemmas.Grind.{common_steps}
 use Rattle.std.proofs.lemmas.List.{length-append}
 use Rattle.std.specs.List.{range_with_len}
 use Rattle.group_types.specs.Lists.{at}
 use Rattle.memc_table.specs.Asked.{Asked}
+use Rattle.memc_table.specs.declared.reply.Reply.{Reply}
 use Rattle.group_message.specs.declared.update.Update.{Update}
-use Rattle.group_calls.specs.Turns.{name_of}
+use Rattle.group_calls.specs.Turns.{accepts, name_of}
 use Rattle.group_calls.specs.declared.entry.Entry.{Entry}
 use Rattle.group_calls.specs.declared.event.Answer.{Answer}
 use Rattle.group_calls.specs.declared.event.Answer.TheVariants as says
 use Rattle.group_run.specs.Applying.{Settlement}
-use Rattle.group_run.specs.World.{Call, Ledger, Ticket, entries_for, entry_then, front_if, grown, ledger_after, ledger_with, logged_at_once, new_ones, op_in, settled_in, tickets_after, update_name}
+use Rattle.group_run.specs.World.{Call, Ledger, Ticket, refusal_logged, entries_for, entry_then, front_if, grown, ledger_after, ledger_with, logged_at_once, new_ones, op_in, settled_in, tickets_after, update_name}
 use Rattle.group_ledger.specs.Accounts.{news_of}
-use Rattle.group_ledger.specs.Books.{Books, Once, settled_by}
+use Rattle.group_ledger.specs.Books.{Books, Once, call_in, refusal_if, refusal_in, settled_by}
+use Rattle.group_ledger.specs.declared.entering.NewCall.{NewCall}
+use Rattle.group_ledger.proofs.Entered.{refused}
 use Rattle.group_ledger.proofs.Moved.{grown-is}
 use Rattle.group_ledger.proofs.Partitions.{still, still-few, still-some}
 
@@ -86,9 +89,9 @@ two-entries ts a b u v other = by (one-entry ts a u) (one-entry ts b v) where
 -- one update of each of two partitions
 pub two-partitions : (b : Books) (x y : Settlement) → b.shape.k ≡ 2 → x.partition ≡ 1 → y.partition ≡ 0 → update_name x.update ≢ update_name y.update
     → Once (settled_by None says.Done (x ∷ y ∷ []) b).logged
-two-partitions b x y wide one zero other =
-    let first : settled_in 0 (x ∷ y ∷ []) ≡ y.update ∷ [] = ap (λ (p : ℕ). front_if (p == 0) x.update (front_if (y.partition == 0) y.update [])) one ∙ ap (λ (p : ℕ). front_if (p == 0) y.update []) zero in
-    let second : settled_in 1 (x ∷ y ∷ []) ≡ x.update ∷ [] = ap (λ (p : ℕ). front_if (p == 1) x.update (front_if (y.partition == 1) y.update [])) one ∙ ap (λ (p : ℕ). x.update ∷ front_if (p == 1) y.update []) zero in
+two-partitions b x y wide one none other =
+    let first : settled_in 0 (x ∷ y ∷ []) ≡ y.update ∷ [] = ap (λ (p : ℕ). front_if (p == 0) x.update (front_if (y.partition == 0) y.update [])) one ∙ ap (λ (p : ℕ). front_if (p == 0) y.update []) none in
+    let second : settled_in 1 (x ∷ y ∷ []) ≡ x.update ∷ [] = ap (λ (p : ℕ). front_if (p == 1) x.update (front_if (y.partition == 1) y.update [])) one ∙ ap (λ (p : ℕ). x.update ∷ front_if (p == 1) y.update []) none in
     let l : Ledger = record { logged = []; places = b.places } in
     let a : ℕ = length (at [] b.places 0) in
     let next : List Update → Ledger = λ us. ledger_with b.tickets 0 (new_ones a us) l in
@@ -102,3 +105,35 @@ two-partitions b x y wide one zero other =
         ∙ ap (λ (vs : List Update). made (y.update ∷ []) vs) second
         ∙ grown-is (grown [] es) fs ∙ ap (λ (xs : List Entry). xs ++ fs) (grown-is [] es)))
     (two-entries b.tickets a c y.update x.update (λ same. other (sym same)))
+
+-- what a call logs at once is one entry where it is refused, and else none
+at-once-some : (c : Call) (answer : Answer) (reply : Reply) → Some reply ≡ refusal_in answer → length (logged_at_once (Some c) answer) ≡ 1
+at-once-some c answer reply is = sym (ap length (refused c answer reply is))
+
+at-once-none : (c : Call) (answer : Answer) → None ≡ refusal_in answer → length (logged_at_once (Some c) answer) ≡ 0
+at-once-none c (says.Reply r) is = by (accepts r) is where
+  by : (b : Bool) → None ≡ refusal_if b r → length (refusal_logged b c r) ≡ 0
+  by true is = refl
+  by false is = absurd (cc is)
+at-once-none c (says.Ticket _) is = refl
+at-once-none c says.NotYet is = refl
+at-once-none c says.NoSpace is = refl
+at-once-none c (says.Retry _) is = refl
+at-once-none c says.Moved is = refl
+at-once-none c says.Lost is = refl
+at-once-none c says.Down is = refl
+at-once-none c says.Idle is = refl
+at-once-none c says.Stranger is = refl
+at-once-none c says.Done is = refl
+at-once-none c says.AlreadyDead is = refl
+at-once-none c says.Gone is = refl
+at-once-none c (says.Stale _) is = refl
+
+pub at-once-few : (o : Option NewCall) (answer : Answer) (asked : List ℕ) (most : ℕ) → IfSome o (λ c. c.refusal ≡ refusal_in answer)
+    → IfSome o (λ c. most ≡ (if is_some c.refusal then 1 else 0)) → length (logged_at_once (call_in asked o) answer) ≤ most
+at-once-few None answer asked most is few = omega arith
+at-once-few (Some c) answer asked most is few = by c.refusal is few where
+  by : (r : Option Reply) → r ≡ refusal_in answer → most ≡ (if is_some r then 1 else 0)
+      → length (logged_at_once (Some (record { name = record { caller = c.caller; call = at 0 asked c.caller }; op = c.op })) answer) ≤ most
+  by None is few = let long = at-once-none (record { name = record { caller = c.caller; call = at 0 asked c.caller }; op = c.op }) answer is in omega (arith, long, few)
+  by (Some reply) is few = let long = at-once-some (record { name = record { caller = c.caller; call = at 0 asked c.caller }; op = c.op }) answer reply is in omega (arith, long, few)

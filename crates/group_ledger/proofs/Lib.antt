@@ -1,10 +1,10 @@
-pub mod Calls
-pub mod Counts
-pub mod Entered
-pub mod Few
-pub mod Moved
-pub mod Partitions
-pub mod Recorded
-pub mod Settled
+mod Calls
+mod Counts
+mod Entered
+mod Few
+mod Moved
+mod Partitions
+mod Recorded
+mod Settled
 pub mod Steps
-pub mod Taken
+mod Taken

@@ -1,8 +1,6 @@
-ghost use Rattle.std.specs.Prelude.{◌≡◌, ◌<◌, ℕ, List, length, IfOk, IfSome, is_some};
-ghost use Rattle.group_calls.specs.declared.event.Answer as event;
+ghost use Rattle.std.specs.Prelude.{◌≡◌, ◌<◌, ◌≤◌, if◌then◌else◌, IfOk, IfSome, is_some};
 ghost use Rattle.group_run.specs.Replica.{callers};
-ghost use Rattle.group_run.specs.World.{logged_at_once};
-ghost use Rattle.group_ledger.specs.Books.{call_in, refusal_in};
+ghost use Rattle.group_ledger.specs.Books.{refusal_in};
 
 use super::Ledger;
 use crate::entering::{NewCall, refusal};
@@ -125,7 +123,7 @@ fn records(
     requires caller { IfSome call (λ c. c.caller < callers) }
     requires refusal { IfSome call (λ c. c.refusal ≡ refusal_in answer.now) }
 {
-    let most = settled.len() + usize::from(is_refused(&call));
+    let most = settled.len() + at_once(&call);
     if 1 < most || 1000 <= ledger.events() {
         return Ok(None);
     }
@@ -133,11 +131,21 @@ fn records(
     Ok(Some(ledger.record(call, answer, settled)))
 }
 
-fn is_refused(call: &Option<NewCall>) -> bool {
+// How many entries a call logs at once.
+fn at_once(call: &Option<NewCall>) -> usize
+    ensures few { result ≤ 1 }
+    ensures one { IfSome call.now (λ c. result ≡ (if is_some c.refusal then 1 else 0)) }
+{
     match call {
-        None => false,
-        Some(call) => call.refusal.is_some(),
+        None => 0,
+        Some(call) => one_if(call.refusal.is_some()),
     }
+}
+
+fn one_if(refused: bool) -> usize
+    ensures { result ≡ (if refused then 1 else 0) }
+{
+    if refused { 1 } else { 0 }
 }
 
 // Records an event that settles an update of the second partition and one of the first.
