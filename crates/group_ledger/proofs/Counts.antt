@@ -1,7 +1,7 @@
 -- Counts of calls stay low.
-use Rattle.std.proofs.Common.{ℕ, zero, suc, ◌≡◌, ◌<◌, ◌≤◌, ◌+◌, List, [], ◌∷◌, Option, Some, None, IfSome, All, length, set, refl, sym, ap, subst, ◌∙◌, arith}
+use Rattle.std.proofs.Common.{ℕ, zero, suc, ◌≡◌, ◌<◌, ◌≤◌, ◌+◌, List, [], ◌∷◌, Option, Some, None, IfSome, All, length, subst, ◌∙◌, arith}
 use Rattle.std.proofs.lemmas.List.Elements.{All-set, All-weaker}
-use Rattle.group_types.specs.Lists.{at, put}
+use Rattle.group_types.specs.Lists.{at}
 use Rattle.group_types.proofs.Lists.{length-put, set_put}
 use Rattle.group_run.specs.Replica.{callers}
 use Rattle.group_run.specs.World.{asked_after}
@@ -25,10 +25,9 @@ counts-after None events asked within long low = (long, All-weaker (λ n. n ≤ 
 counts-after (Some c) events asked within long low =
     let few = count-low asked events c.caller low in
     let here : c.caller < length asked = omega (arith, within, long) in
-    let next : ℕ = suc (at 0 asked c.caller) in
-    (
+    let next : ℕ = suc (at 0 asked c.caller) in (
       length-put 0 asked c.caller next here ∙ long,
       subst (All (λ n. n ≤ events + 1)) (set_put 0 asked c.caller next here)
-        (All-set (λ n. n ≤ events + 1) asked c.caller next (omega (arith, few))
-        (All-weaker (λ n. n ≤ events) (λ n. n ≤ events + 1) (λ n low. omega (arith, low)) asked low)),
+          (All-set (λ n. n ≤ events + 1) asked c.caller next (omega (arith, few))
+          (All-weaker (λ n. n ≤ events) (λ n. n ≤ events + 1) (λ n low. omega (arith, low)) asked low)),
     )

@@ -1,6 +1,5 @@
 -- Where an event settles few updates, what it logs is of different calls.
-use Rattle.std.proofs.Common.{ℕ, zero, suc, ◌≡◌, ◌≢◌, ◌<◌, ◌≤◌, ◌+◌, ◌==◌, nat_lt, Bool, true, false, List, [], ◌∷◌, ◌++◌, Option, Some, None, is_some, IfSome, ◌⊎◌, inl, inr, length, filter, refl, sym, ap, subst, ◌∙◌, arith, if◌then◌else◌}
-use Rattle.std.proofs.lemmas.Grind.{common_steps}
+use Rattle.std.proofs.Common.{ℕ, zero, suc, ◌≡◌, ◌≢◌, ◌≤◌, ◌+◌, ◌==◌, nat_lt, Bool, true, false, List, [], ◌∷◌, ◌++◌, Option, Some, None, is_some, IfSome, ◌⊎◌, inl, inr, length, refl, sym, ap, subst, ◌∙◌, arith, if◌then◌else◌}
 use Rattle.std.proofs.lemmas.List.{length-append}
 use Rattle.std.specs.List.{range_with_len}
 use Rattle.group_types.specs.Lists.{at}
@@ -100,10 +99,10 @@ two-partitions b x y wide one none other =
     let es : List Entry = entries_for b.tickets (new_ones a (y.update ∷ [])) in
     let fs : List Entry = entries_for b.tickets (new_ones c (x.update ∷ [])) in
     subst Once (sym (
-        ap (λ (k : ℕ). (ledger_after b.tickets (x ∷ y ∷ []) (range_with_len 0 k) l).logged) wide
-        ∙ ap (λ (us : List Update). made us (settled_in 1 (x ∷ y ∷ []))) first
-        ∙ ap (λ (vs : List Update). made (y.update ∷ []) vs) second
-        ∙ grown-is (grown [] es) fs ∙ ap (λ (xs : List Entry). xs ++ fs) (grown-is [] es)))
+    ap (λ (k : ℕ). (ledger_after b.tickets (x ∷ y ∷ []) (range_with_len 0 k) l).logged) wide
+    ∙ ap (λ (us : List Update). made us (settled_in 1 (x ∷ y ∷ []))) first
+    ∙ ap (λ (vs : List Update). made (y.update ∷ []) vs) second
+    ∙ grown-is (grown [] es) fs ∙ ap (λ (xs : List Entry). xs ++ fs) (grown-is [] es)))
     (two-entries b.tickets a c y.update x.update (λ same. other (sym same)))
 
 -- what a call logs at once is one entry where it is refused, and else none

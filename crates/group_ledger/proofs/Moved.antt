@@ -1,8 +1,8 @@
 -- Ops that move out of their tickets one after another are those that the machine moves at once.
-use Rattle.std.proofs.Common.{ℕ, zero, suc, ◌≡◌, ◌≢◌, ◌<◌, ◌≤◌, ◌+◌, ◌||◌, Bool, true, false, List, [], ◌∷◌, ◌++◌, Option, Some, None, AllPairs, length, map, get_or, refl, sym, ap, subst, ◌∙◌, arith, if◌then◌else◌}
+use Rattle.std.proofs.Common.{ℕ, suc, ◌≡◌, ◌≢◌, ◌||◌, Bool, true, false, List, [], ◌∷◌, ◌++◌, Option, Some, None, length, map, get_or, refl, sym, ap, subst, ◌∙◌, arith, if◌then◌else◌}
 use Rattle.std.proofs.lemmas.List.{append-nil, append_assoc, get_or_append_left, length-append}
 use Rattle.std.proofs.lemmas.List.Folds.{list_any-append}
-use Rattle.std.specs.List.{list_any, range_with_len}
+use Rattle.std.specs.List.{list_any}
 use Rattle.group_types.specs.Lists.{at, put}
 use Rattle.group_types.specs.declared.run.Run.{Run}
 use Rattle.memc_table.specs.Asked.{Asked}
@@ -15,7 +15,7 @@ use Rattle.group_run.specs.World.{Ledger, Ticket, entries_for, entry_then, grown
 use Rattle.group_ledger.specs.Accounts.{Accounts, accounts_after, accounts_of, news_of, runs_of, with_news}
 use Rattle.group_ledger.specs.Books.{Once}
 use Rattle.group_ledger.specs.Taking.{Differ, entries_taken, op_taken, ops_taken}
-use Rattle.group_ledger.proofs.Calls.{same-flip, same-is, same-not, same-refl}
+use Rattle.group_ledger.proofs.Calls.{same-is, same-not}
 use Rattle.group_ledger.proofs.Taken.{differ-rest, none-behind, none-taken, other-kept, own-taken}
 use Rattle.group_ledger.proofs.Settled.{differ-map}
 
@@ -89,7 +89,7 @@ op-kept name es fresh (t ∷ ts) = op-first name es t ts ∙ by (same_call t.nam
   by true own rest =
       ap (λ (v : Bool). if same_call t.name name then (if v then record t { op = None } else t).op else op_in name (moved es ts)) (ap (λ (n : CallName). is_among n es) (same-is t.name name own) ∙ fresh)
       ∙ ap (λ (o : Option Asked). if same_call t.name name then t.op else o) rest
-  by false other rest = 
+  by false other rest =
       ap (λ (v : Bool). if v then (op_moved es t).op else op_in name (moved es ts)) other ∙ rest ∙ sym (ap (λ (v : Bool). if v then t.op else op_in name ts) other)
 
 -- a call without an op has none later
@@ -191,9 +191,10 @@ module _ (ts : List Ticket) (differ : Differ ts) where
   ledger-more settled [] l = ([], sym (append-nil l.logged))
   ledger-more settled (d ∷ ds) l =
       let news : List Update = news_of d (length (at [] l.places d)) settled in
-      let more = ledger-more settled ds (ledger_with ts d news l) in
-      (entries_for ts news ++ more.0,
-        more.1 ∙ ap (λ (es : List Entry). es ++ more.0) (grown-is l.logged (entries_for ts news)) ∙ append_assoc l.logged (entries_for ts news) more.0)
+      let more = ledger-more settled ds (ledger_with ts d news l) in (
+        entries_for ts news ++ more.0,
+        more.1 ∙ ap (λ (es : List Entry). es ++ more.0) (grown-is l.logged (entries_for ts news)) ∙ append_assoc l.logged (entries_for ts news) more.0,
+      )
 
   once-front : (xs ys : List Entry) → Once (xs ++ ys) → Once xs
   once-front xs ys once i j d before below same =

@@ -1,5 +1,5 @@
 -- What is recorded of an event is the machine's.
-use Rattle.std.proofs.Common.{ℕ, suc, ◌≡◌, ◌≢◌, ◌<◌, ◌+◌, ◌≤◌, ◌⊎◌, inl, inr, Bool, true, false, List, [], ◌∷◌, ◌++◌, Option, Some, None, All, AllPairs, length, get_or, refl, sym, ap, subst, ◌∙◌, arith, if◌then◌else◌, ◌||◌}
+use Rattle.std.proofs.Common.{ℕ, suc, ◌≡◌, ◌≢◌, ◌<◌, ◌≤◌, ◌⊎◌, inl, inr, Bool, true, false, List, [], ◌∷◌, ◌++◌, Option, Some, None, All, length, refl, sym, ap, subst, ◌∙◌, arith, if◌then◌else◌, ◌||◌}
 use Rattle.std.proofs.lemmas.Bool.{cases_eq}
 use Rattle.std.proofs.lemmas.List.Elements.{All-map, All-push, All-weaker}
 use Rattle.std.proofs.lemmas.List.Quantifiers.{all_pairs_push}
@@ -13,7 +13,7 @@ use Rattle.group_calls.specs.declared.entry.Entry.{Entry}
 use Rattle.group_calls.specs.declared.event.Answer.{Answer}
 use Rattle.group_calls.specs.declared.event.Answer.TheVariants as says
 use Rattle.group_run.specs.Applying.{Settlement}
-use Rattle.group_run.specs.World.{Call, Ledger, Ticket, asked_after, grown, is_issued, logged_at_once, op_moved, ops_moved, refusal_logged, same_call, ticket_if, tickets_after}
+use Rattle.group_run.specs.World.{Call, Ledger, Ticket, asked_after, grown, is_issued, logged_at_once, op_moved, refusal_logged, same_call, ticket_if, tickets_after}
 use Rattle.group_ledger.specs.Accounts.{Accounts, accounts_after, accounts_of}
 use Rattle.group_ledger.specs.Books.{Books, Once, Stand, call_in, recorded, settled_by}
 use Rattle.group_ledger.specs.Taking.{Differ}

@@ -1,7 +1,6 @@
 -- What is settled of a partition, one update after the other.
-use Rattle.std.proofs.Common.{ℕ, zero, suc, ◌≡◌, ◌≢◌, ◌<◌, ◌≤◌, ◌+◌, ◌==◌, ◌&&◌, nat_lt, Bool, true, false, List, [], ◌∷◌, ◌++◌, Option, Some, None, length, map, filter, drop, get_or, refl, sym, ap, subst, ◌∙◌, arith, if◌then◌else◌}
-use Rattle.std.proofs.lemmas.Grind.{common_steps}
-use Rattle.std.proofs.lemmas.List.{append-nil, append_assoc, get_or-map, length-append, length-map}
+use Rattle.std.proofs.Common.{ℕ, suc, ◌≡◌, ◌<◌, ◌≤◌, ◌+◌, ◌==◌, ◌&&◌, nat_lt, Bool, true, false, List, [], ◌∷◌, ◌++◌, Option, Some, None, length, map, drop, get_or, refl, sym, ap, subst, ◌∙◌, arith, if◌then◌else◌}
+use Rattle.std.proofs.lemmas.List.{append_assoc, get_or-map, length-append, length-map}
 use Rattle.std.proofs.Math.Seq.{drop-cons}
 use Rattle.group_types.specs.declared.run.Run.{Run}
 use Rattle.memc_table.specs.Asked.{Asked}
@@ -40,16 +39,6 @@ new-counts d count x rest new = by (x.partition == d) refl new where
 pub entry-few : (u : Update) (op : Option Asked) (log : List Entry) → length (log ++ entry_then u op []) ≤ length log + 1
 entry-few u None log = let is = length-append log [] in omega (arith, is)
 entry-few u (Some op) log = let is = length-append log (entry_then u (Some op) []) in omega (arith, is)
-
-pub old-skipped : (d count : ℕ) (x : Settlement) (rest : List Settlement) → is_new d count x ≡ false → news_of d count (x ∷ rest) ≡ news_of d count rest
-old-skipped d count x rest old = by (x.partition == d) (nat_lt count x.update.number) refl refl old where
-  at : (b : Bool) → (x.partition == d) ≡ b → news_of d count (x ∷ rest) ≡ new_ones count (front_if b x.update (settled_in d rest))
-  at b e = ap (λ (b : Bool). new_ones count (front_if b x.update (settled_in d rest))) e
-
-  by : (here high : Bool) → (x.partition == d) ≡ here → nat_lt count x.update.number ≡ high → (here && high) ≡ false → news_of d count (x ∷ rest) ≡ news_of d count rest
-  by true true here high old = absurd (cc old)
-  by true false here low old = at true here ∙ new-in count x.update (settled_in d rest) false low
-  by false high here e old = at false here
 
 pub new-first : (d count : ℕ) (x : Settlement) (rest : List Settlement) → is_new d count x ≡ true → news_of d count (x ∷ rest) ≡ x.update ∷ news_of d count rest
 new-first d count x rest new = by (x.partition == d) (nat_lt count x.update.number) refl refl new where
@@ -99,19 +88,6 @@ left-settled d count from rest x log log2 log_then places places2 places_then ti
           ∙ sym (ap (λ (xs : List Update). places ++ runs_of xs) news) ∙ left.places_are;
       tickets_are = ap (ops_taken us) tickets-are ∙ sym (ap (λ (xs : List Update). ops_taken xs tickets) news) ∙ left.tickets_are;
       differ = subst Differ (sym tickets-are) (differ-taken (update_name u) tickets left.differ);
-    }
-
--- one that isn't new is skipped
-pub left-skipped : (d count : ℕ) (from rest : List Settlement) (x : Settlement) (log log_then : List Entry) (places places_then : List (Option Run))
-    (tickets tickets_then : List Ticket) → from ≡ x ∷ rest → is_new d count x ≡ false
-    → IsLeft d count from log places tickets log_then places_then tickets_then → IsLeft d count rest log places tickets log_then places_then tickets_then
-left-skipped d count from rest x log log_then places places_then tickets tickets_then front old left =
-    let news : news_of d count rest ≡ news_of d count from = sym (ap (news_of d count) front ∙ old-skipped d count x rest old) in
-    record {
-      log_is = ap (λ (xs : List Update). log ++ entries_taken tickets xs) news ∙ left.log_is;
-      places_are = ap (λ (xs : List Update). places ++ runs_of xs) news ∙ left.places_are;
-      tickets_are = ap (λ (xs : List Update). ops_taken xs tickets) news ∙ left.tickets_are;
-      differ = left.differ;
     }
 
 -- what is left from a place on, the one at the place in front

@@ -1,10 +1,10 @@
 -- The op of a call, among tickets of different calls.
-use Rattle.std.proofs.Common.{ℕ, zero, suc, ◌≡◌, ◌≢◌, ◌<◌, ◌≤◌, Bool, true, false, List, [], ◌∷◌, Option, None, length, map, All, AllPairs, get_or, set, refl, sym, ap, ◌∙◌, arith, if◌then◌else◌}
+use Rattle.std.proofs.Common.{ℕ, zero, suc, ◌≡◌, ◌<◌, ◌≤◌, Bool, true, false, List, [], ◌∷◌, None, length, map, get_or, set, refl, sym, ap, ◌∙◌, arith, if◌then◌else◌}
 use Rattle.std.proofs.lemmas.List.{get_or_default}
 use Rattle.group_calls.specs.Turns.{CallName}
 use Rattle.group_run.specs.World.{Ticket, op_in, same_call}
 use Rattle.group_ledger.specs.Taking.{Differ, op_taken}
-use Rattle.group_ledger.proofs.Calls.{same-flip, same-is, same-not, same-refl}
+use Rattle.group_ledger.proofs.Calls.{same-flip, same-is, same-not}
 
 pub differ-rest : (t : Ticket) (ts : List Ticket) → Differ (t ∷ ts) → Differ ts
 differ-rest t ts all i j d before below = all (suc i) (suc j) d (omega (arith, before)) (omega (arith, below))
@@ -40,7 +40,7 @@ module _ (name : CallName) where
   pub none-behind : (t : Ticket) (ts : List Ticket) → Differ (t ∷ ts) → same_call t.name name ≡ true → NoneFrom ts 0
   none-behind t ts differ own k d from below =
       same-not (get_or ts k d).name name
-          (λ same. differ 0 (suc k) d (omega arith) (omega (arith, below)) (same-is t.name name own ∙ sym same))
+      (λ same. differ 0 (suc k) d (omega arith) (omega (arith, below)) (same-is t.name name own ∙ sym same))
 
   -- the one at a place is
   abbrev pub IsAt : List Ticket → ℕ → Type 0

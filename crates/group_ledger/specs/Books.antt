@@ -1,5 +1,5 @@
 -- What a group keeps beside its nodes, and what the machine makes of it with an event's answer.
-use Rattle.std.specs.Prelude.{ℕ, suc, ◌≡◌, ◌≢◌, ◌<◌, ◌≤◌, Bool, true, false, List, [], Option, Some, None, length, All, AllPairs}
+use Rattle.std.specs.Prelude.{ℕ, suc, ◌≡◌, ◌≢◌, ◌<◌, ◌≤◌, Bool, true, false, List, Option, Some, None, length, All, AllPairs}
 use Rattle.std.specs.List.{range_with_len}
 use Rattle.group_types.specs.Dimensions.{Dimensions}
 use Rattle.group_types.specs.Lists.{at}

@@ -45,9 +45,9 @@ impl Model for Ledger {
     } };
 
     ghost invariant = { λ l. IsWhole l.shape.k l.events l.asked.items (length l.places.items) l.tickets.items
-      × (vec_len l.log + l.room ≤ vec_capacity l.log)
-      × All (λ p. vec_len p + l.room ≤ vec_capacity p) l.places.items
-      × (0 < l.room → vec_len l.tickets < vec_capacity l.tickets) };
+        × (vec_len l.log + l.room ≤ vec_capacity l.log)
+        × All (λ p. vec_len p + l.room ≤ vec_capacity p) l.places.items
+        × (0 < l.room → vec_len l.tickets < vec_capacity l.tickets) };
 }
 
 impl Ledger {
@@ -119,12 +119,7 @@ impl Ledger {
 
     /// Records an event: the call that it asked, if it asked one, its answer, and what it settled. It
     /// takes no memory, and hands out how many entries were logged.
-    pub fn record(
-        &mut self,
-        call: Option<NewCall>,
-        answer: &Answer,
-        settled: &[Settlement],
-    ) -> u64
+    pub fn record(&mut self, call: Option<NewCall>, answer: &Answer, settled: &[Settlement]) -> u64
         requires room { length settled.now < self.old.room }
         requires events { self.old.books.events < 2 ^ 62 }
         requires caller { IfSome call (λ c. c.caller < callers) }
@@ -143,12 +138,7 @@ impl Ledger {
             &mut self.log,
             &mut self.tickets,
         );
-        settle_all(
-            settled,
-            &mut self.places,
-            &mut self.log,
-            &mut self.tickets,
-        );
+        settle_all(settled, &mut self.places, &mut self.log, &mut self.tickets);
         self.room = 0;
         (self.log.len() - before) as u64
     }

@@ -1,4 +1,4 @@
-use Rattle.std.proofs.Common.{ℕ, ◌≡◌, ◌≤◌, ◌<◌, ◌+◌, length, map, take, vec_len, vec_capacity, All, get_or}
+use Rattle.std.proofs.Common.{ℕ, ◌≡◌, ◌≤◌, ◌<◌, ◌+◌, length, map, vec_len, vec_capacity, get_or}
 use Rattle.group_ledger.proofs.places.reserve_each.Given as goal
 
 abbrev pub invariant-partitions : goal.invariant-partitions

@@ -1,12 +1,10 @@
-use Rattle.std.proofs.Common.{◌≡◌, ◌≤◌, ◌<◌, ℕ, ◌+◌, ◌-◌, List, Option, Vec, Global, length, drop, get_or, set, vec_len, vec_capacity, refl, sym, ap, subst, ◌∙◌, arith}
+use Rattle.std.proofs.Common.{◌≡◌, ◌≤◌, ◌<◌, ℕ, ◌+◌, ◌-◌, Option, Vec, Global, length, get_or, vec_len, vec_capacity, refl, sym, ap, subst, ◌∙◌, arith}
 use Rattle.std.proofs.lemmas.Grind.{common_steps}
 use Rattle.std.proofs.lemmas.List.{length-set}
 use Rattle.std.specs.List.{range_with_len}
 use Rattle.group_types.specs.declared.run.Run.{Run}
-use Rattle.group_run.specs.Applying.{Settlement}
-use Rattle.group_run.specs.World.{settled_in}
 use Rattle.group_ledger.specs.Accounts.{accounts_after, accounts_of}
-use Rattle.group_ledger.proofs.Partitions.{alike-at, alike-behind, items_of, left-partition, still, still-few, still-some}
+use Rattle.group_ledger.proofs.Partitions.{alike-at, alike-behind, items_of, left-partition, still-few, still-some}
 use Rattle.group_ledger.proofs.settling.settle_all.Goals as goal
 
 pub partitions-init : goal.partitions-init

@@ -1,4 +1,4 @@
-use Rattle.std.proofs.Common.{◌≡◌, ◌≤◌, ◌<◌, ◌&&◌, ◌==◌, ◌++◌, [], nat_lt, Bool, true, ℕ, ◌+◌, suc, List, ◌∷◌, length, drop, get_or, map, vec_len, vec_capacity, refl, sym, ap, subst, ◌∙◌, arith}
+use Rattle.std.proofs.Common.{◌≡◌, ◌≤◌, ◌<◌, ◌++◌, [], true, ℕ, ◌+◌, suc, List, ◌∷◌, length, drop, map, refl, sym, ap, subst, ◌∙◌, arith}
 use Rattle.std.proofs.lemmas.Grind.{common_steps}
 use Rattle.std.proofs.lemmas.List.{length-append}
 use Rattle.group_calls.specs.declared.entry.Entry.{Entry}
@@ -7,7 +7,7 @@ use Rattle.group_run.specs.Applying.{Settlement}
 use Rattle.group_run.specs.Replica.{run_of}
 use Rattle.group_run.specs.World.{entry_then, op_in, settled_in, update_name}
 use Rattle.group_ledger.specs.Taking.{op_taken}
-use Rattle.group_ledger.proofs.Settled.{IsLeft, drop-front, entry-few, is_new, left-settled, new-counts}
+use Rattle.group_ledger.proofs.Settled.{drop-front, entry-few, is_new, left-settled, new-counts}
 use Rattle.group_ledger.proofs.settling.settle_partition.Goals as goal
 
 pub settled-preserved : goal.settled-preserved

@@ -1,4 +1,4 @@
-use Rattle.std.proofs.Common.{◌≡◌, ◌<◌, ℕ, ◌-◌, List, None, true, length, map, get_or, set, sym, ap, subst, ◌∙◌, arith}
+use Rattle.std.proofs.Common.{◌≡◌, ℕ, ◌-◌, true, map, get_or, set, sym, ap, subst, ◌∙◌, arith}
 use Rattle.std.proofs.lemmas.Grind.{common_steps}
 use Rattle.group_calls.specs.Turns.{CallName}
 use Rattle.group_run.specs.World.{op_in, same_call}
@@ -13,7 +13,7 @@ returns-then-is_of-clause-op c =
     let own : same_call (get_or c.tickets.tickets place c.index-tickets-place.result).name name ≡ true = sym c.is_of.ensures ∙ c.if-is_of.true in
     c.take_op.ensures.op
     ∙ op-found name c.tickets.tickets place c.index-tickets-place-then-is_of.result c.index-tickets-place.result
-        (subst Differ (sym c.tickets.invariant.kept) c.requires.differ) (grind (arith, common_steps)) own
+    (subst Differ (sym c.tickets.invariant.kept) c.requires.differ) (grind (arith, common_steps)) own
     ∙ ap (op_in name) c.tickets.invariant.kept
 
 pub returns-then-is_of-clause-tickets : goal.returns-then-is_of-clause-tickets
@@ -23,7 +23,7 @@ returns-then-is_of-clause-tickets c =
     let own : same_call (get_or c.tickets.tickets place c.index-tickets-place.result).name name ≡ true = sym c.is_of.ensures ∙ c.if-is_of.true in
     ap (set c.tickets.tickets place) c.take_op.ensures.ticket
     ∙ taken-found name c.tickets.tickets place c.index-tickets-place-then-is_of.result c.index-tickets-place.result
-        (subst Differ (sym c.tickets.invariant.kept) c.requires.differ) (grind (arith, common_steps)) own
+    (subst Differ (sym c.tickets.invariant.kept) c.requires.differ) (grind (arith, common_steps)) own
     ∙ ap (map (op_taken name)) c.tickets.invariant.kept
 
 pub returns-clause-op : goal.returns-clause-op

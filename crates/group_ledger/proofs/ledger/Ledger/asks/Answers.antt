@@ -1,4 +1,4 @@
-use Rattle.std.proofs.Common.{◌≡◌, ◌<◌, length, sym, ap, ◌∙◌, arith}
+use Rattle.std.proofs.Common.{◌<◌, length, sym, ap, ◌∙◌, arith}
 use Rattle.group_types.specs.Lists.{at}
 use Rattle.group_types.proofs.Lists.{at_index}
 use Rattle.group_ledger.specs.Books.{Kept}

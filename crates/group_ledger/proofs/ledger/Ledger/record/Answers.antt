@@ -1,32 +1,30 @@
-use Rattle.std.proofs.Common.{ℕ, suc, ◌≡◌, ◌≤◌, ◌<◌, ◌+◌, ◌-◌, ◌++◌, [], List, Vec, Global, Option, All, length, map, vec_len, vec_capacity, get_or, refl, sym, ap, subst, ◌∙◌, arith}
+use Rattle.std.proofs.Common.{ℕ, suc, ◌≡◌, ◌≤◌, ◌+◌, ◌++◌, List, All, length, sym, ap, subst, ◌∙◌, arith}
 use Rattle.std.proofs.lemmas.Grind.{common_steps}
-use Rattle.std.proofs.lemmas.List.{length-append, length-map, with_items_is}
+use Rattle.std.proofs.lemmas.List.{length-append, with_items_is}
 use Rattle.std.specs.Vec.{with_items}
-use Rattle.group_types.specs.declared.run.Run.{Run}
-use Rattle.group_calls.specs.declared.entry.Entry.{Entry}
-use Rattle.group_run.specs.World.{Call, Ledger, Ticket, asked_after}
+use Rattle.group_run.specs.World.{Ticket, asked_after}
 use Rattle.group_ledger.specs.Accounts.{Accounts, accounts_of}
 use Rattle.group_ledger.specs.Books.{Books, Kept, Stand, call_in, recorded, settled_by}
 use Rattle.group_ledger.proofs.Counts.{counts-after, counts-low}
 use Rattle.group_ledger.proofs.Moved.{grown-is}
 use Rattle.group_ledger.proofs.Partitions.{items_of}
-use Rattle.group_ledger.proofs.Recorded.{IsRead, IsRecorded, in-steps, stand-so, still-stand, tickets-differ}
+use Rattle.group_ledger.proofs.Recorded.{IsRecorded, in-steps, stand-so, still-stand, tickets-differ}
 use Rattle.group_ledger.proofs.ledger.Ledger.record.Goals as goal
 
 pub enter-requires-clause-count : goal.enter-requires-clause-count
 enter-requires-clause-count c =
     let few = ap (λ (v : Kept). v.books.events) c.self.view_is in
     counts-low c.args.call c.deref_mut.result.now c.self.inside.events
-        (subst (All (λ n. n ≤ c.self.inside.events)) (sym c.deref_mut.ensures.value) c.self.invariant.0.calls_low)
-        (omega (arith, few, c.requires.events))
+    (subst (All (λ n. n ≤ c.self.inside.events)) (sym c.deref_mut.ensures.value) c.self.invariant.0.calls_low)
+    (omega (arith, few, c.requires.events))
 
 pub settle_all-requires-clause-differ : goal.settle_all-requires-clause-differ
 settle_all-requires-clause-differ c =
     let inside : List Ticket = c.self.inside.tickets.items in
     tickets-differ c.args.self.now.books c.args.call c.args.answer.now c.args.settled.now
-        (subst (λ (v : Kept). Stand v.books.asked v.books.tickets) c.self.view_is c.self.invariant.0.tickets_stand)
-        c.deref_mut.result.now c.self.inside.log.items (items_of c.self.inside.places.items) inside
-        (record {
+    (subst (λ (v : Kept). Stand v.books.asked v.books.tickets) c.self.view_is c.self.invariant.0.tickets_stand)
+    c.deref_mut.result.now c.self.inside.log.items (items_of c.self.inside.places.items) inside
+    (record {
       asked_is = c.deref_mut.ensures.value ∙ ap (λ (v : Kept). v.books.asked) c.self.view_is;
       log_is = ap (λ (v : Kept). v.books.log) c.self.view_is;
       places_are = ap (λ (v : Kept). v.books.places) c.self.view_is;
@@ -41,15 +39,15 @@ books-now c =
     let wide : length c.deref_mut-2.result.now ≡ c.args.self.now.books.shape.k
     = long ∙ c.self.invariant.0.partitions_all ∙ ap (λ (v : Kept). v.books.shape.k) c.self.view_is in
     in-steps c.args.self.now.books c.args.call c.args.answer.now c.args.settled.now
-        (subst (λ (v : Kept). Stand v.books.asked v.books.tickets) c.self.view_is c.self.invariant.0.tickets_stand)
-        c.deref_mut.result.now c.self.inside.log.items (items_of c.deref_mut-2.result.now) c.self.inside.tickets.items
-        (record {
+    (subst (λ (v : Kept). Stand v.books.asked v.books.tickets) c.self.view_is c.self.invariant.0.tickets_stand)
+    c.deref_mut.result.now c.self.inside.log.items (items_of c.deref_mut-2.result.now) c.self.inside.tickets.items
+    (record {
       asked_is = c.deref_mut.ensures.value ∙ ap (λ (v : Kept). v.books.asked) c.self.view_is;
       log_is = ap (λ (v : Kept). v.books.log) c.self.view_is;
       places_are = ap items_of c.deref_mut-2.ensures.value ∙ ap (λ (v : Kept). v.books.places) c.self.view_is;
       tickets_are = ap (λ (v : Kept). v.books.tickets) c.self.view_is;
     }) c.requires.once c.enter.new.asked c.enter.ensures.asked c.enter.new.log.items c.enter.ensures.log c.deref_mut-3.result.now (c.deref_mut-3.ensures.value ∙ c.enter.ensures.tickets)
-        (length c.deref_mut-2.result.now) wide _ c.settle_all.ensures.accounts
+    (length c.deref_mut-2.result.now) wide _ c.settle_all.ensures.accounts
 
 log-now : (c : goal.After-len) → c.settle_all.new.log.items ≡ c.args.self.now.books.log
     ++ (settled_by (call_in c.args.self.now.books.asked c.args.call) c.args.answer.now c.args.settled.now c.args.self.now.books).logged
@@ -82,13 +80,17 @@ invariant_of-self c =
     ∙ ap (λ (xs : List ℕ). asked_after xs (call_in xs c.args.call)) c.deref_mut.ensures.value in
     let many = ap length (with_items_is c.self.inside.places c.settle_all.new.places (grind (arith, common_steps))) ∙ c.settle_all.ensures.many ∙ ap length c.deref_mut-2.ensures.value in
     let after = counts-after c.args.call c.self.inside.events c.self.inside.asked.items c.requires.caller c.self.invariant.0.callers_all c.self.invariant.0.calls_low in
-    let stand : Stand b.asked b.tickets = subst (λ (v : Kept). Stand v.books.asked v.books.tickets) c.self.view_is c.self.invariant.0.tickets_stand in
-    (record {
-      callers_all = ap length counts ∙ after.0;
-      calls_low = subst (All (λ n. n ≤ c.self.inside.events + 1)) (sym counts) after.1;
-      partitions_all = many ∙ c.self.invariant.0.partitions_all;
-      tickets_stand = stand-so _ _ _ _ (asked-now c) (tickets-now c) (still-stand b c.args.call c.args.answer.now c.args.settled.now stand);
-    }, grind (arith, common_steps), (λ k d below. grind (arith, common_steps)), (λ none. absurd (omega (arith, none))))
+    let stand : Stand b.asked b.tickets = subst (λ (v : Kept). Stand v.books.asked v.books.tickets) c.self.view_is c.self.invariant.0.tickets_stand in (
+      record {
+        callers_all = ap length counts ∙ after.0;
+        calls_low = subst (All (λ n. n ≤ c.self.inside.events + 1)) (sym counts) after.1;
+        partitions_all = many ∙ c.self.invariant.0.partitions_all;
+        tickets_stand = stand-so _ _ _ _ (asked-now c) (tickets-now c) (still-stand b c.args.call c.args.answer.now c.args.settled.now stand);
+      },
+      grind (arith, common_steps),
+      (λ k d below. grind (arith, common_steps)),
+      (λ none. absurd (omega (arith, none))),
+    )
 
 pub returns-clause-books : goal.returns-clause-books
 returns-clause-books c =
