@@ -19,7 +19,8 @@ counted asked caller within =
     let more : get_or asked caller 0 + 1 ≡ suc (at 0 asked caller) = omega (arith, here) in
     set_put 0 asked caller (get_or asked caller 0 + 1) within ∙ ap (put 0 asked caller) more
 
-pub ticketed : (b : Bool) (since : ℕ) (c : Call) (ts : List Ticket) → ts ++ (if b then record { name = c.name; since = since; op = Some c.op } ∷ [] else []) ≡ ticket_if b since c ts
+pub ticketed : (b : Bool) (since : ℕ) (c : Call) (ts : List Ticket)
+    → ts ++ (if b then record { name = c.name; since = since; op = Some c.op } ∷ [] else []) ≡ ticket_if b since c ts
 ticketed true since c ts = refl
 ticketed false since c ts = append-nil ts
 

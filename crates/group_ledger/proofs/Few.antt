@@ -50,7 +50,8 @@ module _ (ts : List Ticket) where
       omega (arith, rest, long, few, new, some)
 
   -- the entry of one update, if there is one
-  one-entry : (count : ℕ) (u : Update) → (entries_for ts (new_ones count (u ∷ [])) ≡ []) ⊎ ((e : Entry) × (entries_for ts (new_ones count (u ∷ [])) ≡ e ∷ []) × (name_of e ≡ update_name u))
+  one-entry : (count : ℕ) (u : Update) → (entries_for ts (new_ones count (u ∷ [])) ≡ [])
+      ⊎ ((e : Entry) × (entries_for ts (new_ones count (u ∷ [])) ≡ e ∷ []) × (name_of e ≡ update_name u))
   one-entry count u = by (nat_lt count u.number) (op_in (update_name u) ts) refl where
     by : (b : Bool) (o : Option Asked) → op_in (update_name u) ts ≡ o → (entries_for ts (if b then u ∷ [] else []) ≡ [])
         ⊎ ((e : Entry) × (entries_for ts (if b then u ∷ [] else []) ≡ e ∷ []) × (name_of e ≡ update_name u))
@@ -74,14 +75,16 @@ two-once e f other zero (suc (suc j)) d before below = absurd (omega (arith, bel
 two-once e f other (suc i) j d before below = absurd (omega (arith, before, below))
 
 -- the entries of two updates, if there are any
-two-entries : (ts : List Ticket) (a b : ℕ) (u v : Update) → update_name u ≢ update_name v → Once (entries_for ts (new_ones a (u ∷ [])) ++ entries_for ts (new_ones b (v ∷ [])))
+two-entries : (ts : List Ticket) (a b : ℕ) (u v : Update) → update_name u ≢ update_name v
+    → Once (entries_for ts (new_ones a (u ∷ [])) ++ entries_for ts (new_ones b (v ∷ [])))
 two-entries ts a b u v other = by (one-entry ts a u) (one-entry ts b v) where
   by : (entries_for ts (new_ones a (u ∷ [])) ≡ []) ⊎ ((e : Entry) × (entries_for ts (new_ones a (u ∷ [])) ≡ e ∷ []) × (name_of e ≡ update_name u))
       → (entries_for ts (new_ones b (v ∷ [])) ≡ []) ⊎ ((e : Entry) × (entries_for ts (new_ones b (v ∷ [])) ≡ e ∷ []) × (name_of e ≡ update_name v))
       → Once (entries_for ts (new_ones a (u ∷ [])) ++ entries_for ts (new_ones b (v ∷ [])))
   by (inl x) (inl y) = subst Once (sym (ap (λ (es : List Entry). es ++ entries_for ts (new_ones b (v ∷ []))) x ∙ y)) (one-once [] (omega arith))
   by (inl x) (inr (f, y, n)) = subst Once (sym (ap (λ (es : List Entry). es ++ entries_for ts (new_ones b (v ∷ []))) x ∙ y)) (one-once (f ∷ []) (omega arith))
-  by (inr (e, x, m)) (inl y) = subst Once (sym (ap (λ (es : List Entry). es ++ entries_for ts (new_ones b (v ∷ []))) x ∙ ap (λ (es : List Entry). e ∷ es) y)) (one-once (e ∷ []) (omega arith))
+  by (inr (e, x, m)) (inl y) = subst Once (sym (ap (λ (es : List Entry). es ++ entries_for ts (new_ones b (v ∷ []))) x ∙ ap (λ (es : List Entry). e ∷ es) y))
+      (one-once (e ∷ []) (omega arith))
   by (inr (e, x, m)) (inr (f, y, n)) = subst Once (sym (ap (λ (es : List Entry). es ++ entries_for ts (new_ones b (v ∷ []))) x ∙ ap (λ (es : List Entry). e ∷ es) y))
       (two-once e f (λ same. other (sym m ∙ same ∙ n)))
 
@@ -89,12 +92,15 @@ two-entries ts a b u v other = by (one-entry ts a u) (one-entry ts b v) where
 pub two-partitions : (b : Books) (x y : Settlement) → b.shape.k ≡ 2 → x.partition ≡ 1 → y.partition ≡ 0 → update_name x.update ≢ update_name y.update
     → Once (settled_by None says.Done (x ∷ y ∷ []) b).logged
 two-partitions b x y wide one none other =
-    let first : settled_in 0 (x ∷ y ∷ []) ≡ y.update ∷ [] = ap (λ (p : ℕ). front_if (p == 0) x.update (front_if (y.partition == 0) y.update [])) one ∙ ap (λ (p : ℕ). front_if (p == 0) y.update []) none in
-    let second : settled_in 1 (x ∷ y ∷ []) ≡ x.update ∷ [] = ap (λ (p : ℕ). front_if (p == 1) x.update (front_if (y.partition == 1) y.update [])) one ∙ ap (λ (p : ℕ). x.update ∷ front_if (p == 1) y.update []) none in
+    let first : settled_in 0 (x ∷ y ∷ []) ≡ y.update ∷ [] = ap (λ (p : ℕ). front_if (p == 0) x.update (front_if (y.partition == 0) y.update [])) one
+    ∙ ap (λ (p : ℕ). front_if (p == 0) y.update []) none in
+    let second : settled_in 1 (x ∷ y ∷ []) ≡ x.update ∷ [] = ap (λ (p : ℕ). front_if (p == 1) x.update (front_if (y.partition == 1) y.update [])) one
+    ∙ ap (λ (p : ℕ). x.update ∷ front_if (p == 1) y.update []) none in
     let l : Ledger = record { logged = []; places = b.places } in
     let a : ℕ = length (at [] b.places 0) in
     let next : List Update → Ledger = λ us. ledger_with b.tickets 0 (new_ones a us) l in
-    let made : List Update → List Update → List Entry = λ us vs. grown (grown [] (entries_for b.tickets (new_ones a us))) (entries_for b.tickets (new_ones (length (at [] (next us).places 1)) vs)) in
+    let made : List Update → List Update → List Entry
+    = λ us vs. grown (grown [] (entries_for b.tickets (new_ones a us))) (entries_for b.tickets (new_ones (length (at [] (next us).places 1)) vs)) in
     let c : ℕ = length (at [] (next (y.update ∷ [])).places 1) in
     let es : List Entry = entries_for b.tickets (new_ones a (y.update ∷ [])) in
     let fs : List Entry = entries_for b.tickets (new_ones c (x.update ∷ [])) in
@@ -128,11 +134,13 @@ at-once-none c says.AlreadyDead is = refl
 at-once-none c says.Gone is = refl
 at-once-none c (says.Stale _) is = refl
 
+at-once-of : (c : Call) (answer : Answer) (most : ℕ) (r : Option Reply) → r ≡ refusal_in answer → most ≡ (if is_some r then 1 else 0)
+    → length (logged_at_once (Some c) answer) ≤ most
+at-once-of c answer most None is few = let long = at-once-none c answer is in omega (arith, long, few)
+at-once-of c answer most (Some reply) is few = let long = at-once-some c answer reply is in omega (arith, long, few)
+
 pub at-once-few : (o : Option NewCall) (answer : Answer) (asked : List ℕ) (most : ℕ) → IfSome o (λ c. c.refusal ≡ refusal_in answer)
     → IfSome o (λ c. most ≡ (if is_some c.refusal then 1 else 0)) → length (logged_at_once (call_in asked o) answer) ≤ most
 at-once-few None answer asked most is few = omega arith
-at-once-few (Some c) answer asked most is few = by c.refusal is few where
-  by : (r : Option Reply) → r ≡ refusal_in answer → most ≡ (if is_some r then 1 else 0)
-      → length (logged_at_once (Some (record { name = record { caller = c.caller; call = at 0 asked c.caller }; op = c.op })) answer) ≤ most
-  by None is few = let long = at-once-none (record { name = record { caller = c.caller; call = at 0 asked c.caller }; op = c.op }) answer is in omega (arith, long, few)
-  by (Some reply) is few = let long = at-once-some (record { name = record { caller = c.caller; call = at 0 asked c.caller }; op = c.op }) answer reply is in omega (arith, long, few)
+at-once-few (Some c) answer asked most is few =
+    at-once-of (record { name = record { caller = c.caller; call = at 0 asked c.caller }; op = c.op }) answer most c.refusal is few

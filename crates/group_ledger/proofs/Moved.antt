@@ -66,7 +66,8 @@ one-more es e t = by (is_among t.name es) (same_call (name_of e) t.name) refl re
 
 pub moved-more : (es : List Entry) (e : Entry) (ts : List Ticket) → map (op_taken (name_of e)) (moved es ts) ≡ moved (es ++ e ∷ []) ts
 moved-more es e [] = refl
-moved-more es e (t ∷ ts) = ap (λ (x : Ticket). x ∷ map (op_taken (name_of e)) (moved es ts)) (one-more es e t) ∙ ap (λ (xs : List Ticket). op_moved (es ++ e ∷ []) t ∷ xs) (moved-more es e ts)
+moved-more es e (t ∷ ts) = ap (λ (x : Ticket). x ∷ map (op_taken (name_of e)) (moved es ts)) (one-more es e t)
+    ∙ ap (λ (xs : List Ticket). op_moved (es ++ e ∷ []) t ∷ xs) (moved-more es e ts)
 
 -- tickets keep their names
 pub name-kept : (es : List Entry) (t : Ticket) → (op_moved es t).name ≡ t.name
@@ -87,7 +88,8 @@ op-kept name es fresh (t ∷ ts) = op-first name es t ts ∙ by (same_call t.nam
   by : (b : Bool) → same_call t.name name ≡ b → op_in name (moved es ts) ≡ op_in name ts
       → (if same_call t.name name then (op_moved es t).op else op_in name (moved es ts)) ≡ (if same_call t.name name then t.op else op_in name ts)
   by true own rest =
-      ap (λ (v : Bool). if same_call t.name name then (if v then record t { op = None } else t).op else op_in name (moved es ts)) (ap (λ (n : CallName). is_among n es) (same-is t.name name own) ∙ fresh)
+      ap (λ (v : Bool). if same_call t.name name then (if v then record t { op = None } else t).op else op_in name (moved es ts))
+      (ap (λ (n : CallName). is_among n es) (same-is t.name name own) ∙ fresh)
       ∙ ap (λ (o : Option Asked). if same_call t.name name then t.op else o) rest
   by false other rest =
       ap (λ (v : Bool). if v then (op_moved es t).op else op_in name (moved es ts)) other ∙ rest ∙ sym (ap (λ (v : Bool). if v then t.op else op_in name ts) other)
@@ -199,7 +201,8 @@ module _ (ts : List Ticket) (differ : Differ ts) where
   once-front : (xs ys : List Entry) → Once (xs ++ ys) → Once xs
   once-front xs ys once i j d before below same =
       let long = length-append xs ys in
-      once i j d before (omega (arith, below, long)) (ap name_of (get_or_append_left xs ys d i (omega (arith, before, below))) ∙ same ∙ sym (ap name_of (get_or_append_left xs ys d j below)))
+      once i j d before (omega (arith, below, long)) (ap name_of (get_or_append_left xs ys d i (omega (arith, before, below))) ∙ same
+      ∙ sym (ap name_of (get_or_append_left xs ys d j below)))
 
   settles-one : (d : ℕ) (before : List Entry) (l : Ledger) (us : List Update) → Once (l.logged ++ entries_for ts us)
       → with_news d us (standing before l) ≡ standing before (ledger_with ts d us l)
@@ -208,11 +211,13 @@ module _ (ts : List Ticket) (differ : Differ ts) where
       let es : List Entry = entries_for ts us in
       let logged : grown l.logged es ≡ l.logged ++ es = grown-is l.logged es in
       let log-is : (before ++ l.logged) ++ entries_taken (moved l.logged ts) us ≡ before ++ grown l.logged es
-      = append_assoc before l.logged (entries_taken (moved l.logged ts) us) ∙ ap (λ (fs : List Entry). before ++ (l.logged ++ fs)) made.entries ∙ sym (ap (λ (fs : List Entry). before ++ fs) logged) in
+      = append_assoc before l.logged (entries_taken (moved l.logged ts) us) ∙ ap (λ (fs : List Entry). before ++ (l.logged ++ fs)) made.entries
+      ∙ sym (ap (λ (fs : List Entry). before ++ fs) logged) in
       let tickets-are : ops_taken us (moved l.logged ts) ≡ moved (grown l.logged es) ts = made.tickets ∙ sym (ap (λ (fs : List Entry). moved fs ts) logged) in
       let here : List (Option Run) = at [] l.places d in
       ap (λ (fs : List Entry). accounts_of fs (put [] l.places d (here ++ runs_of us)) (ops_taken us (moved l.logged ts))) log-is
-      ∙ ap (λ (rs : List (Option Run)). accounts_of (before ++ grown l.logged es) (put [] l.places d rs) (ops_taken us (moved l.logged ts))) (sym (grown-is here (runs_of us)))
+      ∙ ap (λ (rs : List (Option Run)). accounts_of (before ++ grown l.logged es) (put [] l.places d rs) (ops_taken us (moved l.logged ts)))
+      (sym (grown-is here (runs_of us)))
       ∙ ap (λ (xs : List Ticket). accounts_of (before ++ grown l.logged es) (put [] l.places d (grown here (runs_of us))) xs) tickets-are
 
   pub settles : (settled : List Settlement) (before : List Entry) (ds : List ℕ) (l : Ledger) → Once (ledger_after ts settled ds l).logged

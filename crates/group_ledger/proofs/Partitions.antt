@@ -22,7 +22,8 @@ still d (x ∷ xs) = if nat_le d x.partition then suc (still d xs) else still d 
 still-at : (d : ℕ) (x : Settlement) (xs : List Settlement) (b : Bool) → nat_le d x.partition ≡ b → still d (x ∷ xs) ≡ (if b then suc (still d xs) else still d xs)
 still-at d x xs b e = ap (λ (b : Bool). if b then suc (still d xs) else still d xs) e
 
-settled-at : (d : ℕ) (x : Settlement) (xs : List Settlement) (b : Bool) → (x.partition == d) ≡ b → length (settled_in d (x ∷ xs)) ≡ length (front_if b x.update (settled_in d xs))
+settled-at : (d : ℕ) (x : Settlement) (xs : List Settlement) (b : Bool) → (x.partition == d) ≡ b
+    → length (settled_in d (x ∷ xs)) ≡ length (front_if b x.update (settled_in d xs))
 settled-at d x xs b e = ap (λ (b : Bool). length (front_if b x.update (settled_in d xs))) e
 
 -- one more in front, which is below d, of d, or above
@@ -72,7 +73,8 @@ place-at places d p within =
     ap (λ (q : Vec (Option Run) Global). q.items) (sym (at_index p p places d within)) ∙ sym (at-map p [] (λ (p : Vec (Option Run) Global). p.items) places d within)
 
 -- a partition is settled, and the others are left
-pub left-partition : (settled : List Settlement) (d k count : ℕ) (places : Places) (log log2 : List Entry) (tickets tickets2 : List Ticket) (p q : Vec (Option Run) Global)
+pub left-partition : (settled : List Settlement) (d k count : ℕ) (places : Places) (log log2 : List Entry) (tickets tickets2 : List Ticket)
+    (p q : Vec (Option Run) Global)
     → d < k → d < length places → count ≡ length (get_or places d p).items
     → log2 ≡ log ++ entries_taken tickets (news_of d count settled)
     → q.items ≡ (get_or places d p).items ++ runs_of (news_of d count settled)
@@ -88,7 +90,8 @@ left-partition settled d k count places log log2 tickets tickets2 p q below with
     = set-placed places d q within ∙ ap (put [] (items_of places) d) (q-is ∙ ap (λ (xs : List (Option Run)). xs ++ runs_of (news count)) here) in
     ap (λ (xs : List Entry). rest (accounts_of xs (items_of (set places d q)) tickets2)) log-is
     ∙ ap (λ (xs : List (List (Option Run))). rest (accounts_of (log ++ entries_taken tickets (news count)) xs tickets2)) places-are
-    ∙ ap (λ (xs : List Ticket). rest (accounts_of (log ++ entries_taken tickets (news count)) (put [] (items_of places) d (at [] (items_of places) d ++ runs_of (news count))) xs)) tickets-are
+    ∙ ap (λ (xs : List Ticket). rest (accounts_of (log ++ entries_taken tickets (news count))
+    (put [] (items_of places) d (at [] (items_of places) d ++ runs_of (news count))) xs)) tickets-are
     ∙ ap (λ (n : ℕ). rest (with_news d (news n) (accounts_of log (items_of places) tickets))) n-is
     ∙ sym (ap (λ (ds : List ℕ). accounts_after settled ds (accounts_of log (items_of places) tickets)) (range-front d k below))
 

@@ -80,7 +80,8 @@ still-differ since (Some c) answer ts differ fresh = ticket-differs (is_issued a
 abbrev pub accounts_in : Books → Accounts
 accounts_in b = accounts_of b.log b.places b.tickets
 
-pub accounts-are : (b : Books) (o : Option Call) (answer : Answer) (settled : List Settlement) → Fresh o b.tickets → Differ b.tickets → Once (settled_by o answer settled b).logged
+pub accounts-are : (b : Books) (o : Option Call) (answer : Answer) (settled : List Settlement) → Fresh o b.tickets → Differ b.tickets
+    → Once (settled_by o answer settled b).logged
     → accounts_after settled (range_with_len 0 b.shape.k) (accounts_of (b.log ++ logged_at_once o answer) b.places (tickets_after (length b.log) o answer b.tickets))
     ≡ accounts_in (recorded o answer settled b)
 accounts-are b o answer settled fresh differs once =
@@ -88,7 +89,8 @@ accounts-are b o answer settled fresh differs once =
     let differ : Differ ts = still-differ (length b.log) o answer b.tickets differs fresh in
     let end : Ledger = settled_by o answer settled b in
     let ds : List ℕ = range_with_len 0 b.shape.k in
-    ap (λ (xs : List Ticket). accounts_after settled ds (accounts_of (b.log ++ logged_at_once o answer) b.places xs)) (sym (at-once-moves (length b.log) o answer b.tickets fresh))
+    ap (λ (xs : List Ticket). accounts_after settled ds (accounts_of (b.log ++ logged_at_once o answer) b.places xs))
+    (sym (at-once-moves (length b.log) o answer b.tickets fresh))
     ∙ settles ts differ settled b.log ds (record { logged = logged_at_once o answer; places = b.places }) once
     ∙ ap (λ (es : List Entry). accounts_of es end.places (moved end.logged ts)) (sym (grown-is b.log end.logged))
     ∙ ap (λ (xs : List Ticket). accounts_of (grown b.log end.logged) end.places xs) (moved-at-once end.logged ts)
@@ -113,7 +115,8 @@ module _ (b : Books) (c : Option NewCall) (answer : Answer) (settled : List Sett
   same : call_in asked c ≡ o
   same = ap (λ (xs : List ℕ). call_in xs c) is.asked_is
 
-  tickets-then : (tickets2 : List Ticket) → tickets2 ≡ tickets_after (length log) (call_in asked c) answer tickets → tickets2 ≡ tickets_after (length b.log) o answer b.tickets
+  tickets-then : (tickets2 : List Ticket) → tickets2 ≡ tickets_after (length log) (call_in asked c) answer tickets
+      → tickets2 ≡ tickets_after (length b.log) o answer b.tickets
   tickets-then tickets2 e = e ∙ ap (λ (es : List Entry). tickets_after (length es) (call_in asked c) answer tickets) is.log_is
       ∙ ap (λ (x : Option Call). tickets_after (length b.log) x answer tickets) same ∙ ap (tickets_after (length b.log) o answer) is.tickets_are
 
@@ -137,7 +140,8 @@ module _ (b : Books) (c : Option NewCall) (answer : Answer) (settled : List Sett
         accounts_are = a-is ∙ ap (λ (n : ℕ). accounts_after settled (ds n) (accounts_of log2 places tickets2)) wide
             ∙ ap (λ (es : List Entry). accounts_after settled (ds b.shape.k) (accounts_of es places tickets2)) log-now
             ∙ ap (λ (rs : List (List (Option Run))). accounts_after settled (ds b.shape.k) (accounts_of (b.log ++ logged_at_once o answer) rs tickets2)) is.places_are
-            ∙ ap (λ (ts : List Ticket). accounts_after settled (ds b.shape.k) (accounts_of (b.log ++ logged_at_once o answer) b.places ts)) (tickets-then tickets2 tickets-are)
+            ∙ ap (λ (ts : List Ticket). accounts_after settled (ds b.shape.k) (accounts_of (b.log ++ logged_at_once o answer) b.places ts))
+            (tickets-then tickets2 tickets-are)
             ∙ accounts-are b o answer settled fresh stand.differ once;
       }
 
@@ -158,7 +162,8 @@ abbrev IsAsked : List ℕ → Ticket → Type 0
 IsAsked asked t = t.name.call < at 0 asked t.name.caller
 
 ticket-asked : (b : Bool) (since : ℕ) (asked : List ℕ) (c : NewCall) (ts : List Ticket) → All (IsAsked asked) ts
-    → All (IsAsked (asked_after asked (call_in asked (Some c)))) (ticket_if b since (record { name = record { caller = c.caller; call = at 0 asked c.caller }; op = c.op }) ts)
+    → All (IsAsked (asked_after asked (call_in asked (Some c))))
+    (ticket_if b since (record { name = record { caller = c.caller; call = at 0 asked c.caller }; op = c.op }) ts)
 ticket-asked b since asked c ts all = by b where
   old : All (IsAsked (asked_after asked (call_in asked (Some c)))) ts
   old = All-weaker (IsAsked asked) (IsAsked (asked_after asked (call_in asked (Some c))))
@@ -166,7 +171,8 @@ ticket-asked b since asked c ts all = by b where
 
   by : (b : Bool) → All (IsAsked (asked_after asked (call_in asked (Some c))))
       (ticket_if b since (record { name = record { caller = c.caller; call = at 0 asked c.caller }; op = c.op }) ts)
-  by true = All-push (IsAsked (asked_after asked (call_in asked (Some c)))) ts _ old (let now = at-put 0 0 asked c.caller (suc (at 0 asked c.caller)) in omega (arith, now))
+  by true = All-push (IsAsked (asked_after asked (call_in asked (Some c)))) ts _ old
+      (let now = at-put 0 0 asked c.caller (suc (at 0 asked c.caller)) in omega (arith, now))
   by false = old
 
 tickets-asked : (o : Option NewCall) (since : ℕ) (answer : Answer) (asked : List ℕ) (ts : List Ticket) → All (IsAsked asked) ts
@@ -176,7 +182,8 @@ tickets-asked (Some c) since answer asked ts all = ticket-asked (is_issued answe
 
 moved-asked : (asked : List ℕ) (es : List Entry) (ts : List Ticket) → All (IsAsked asked) ts → All (IsAsked asked) (moved es ts)
 moved-asked asked es ts all = All-map (IsAsked asked) (op_moved es) ts
-    (All-weaker (IsAsked asked) (λ t. IsAsked asked (op_moved es t)) (λ t low. subst (λ (n : CallName). n.call < at 0 asked n.caller) (sym (name-kept es t)) low) ts all)
+    (All-weaker (IsAsked asked) (λ t. IsAsked asked (op_moved es t))
+    (λ t low. subst (λ (n : CallName). n.call < at 0 asked n.caller) (sym (name-kept es t)) low) ts all)
 
 pub still-stand : (b : Books) (c : Option NewCall) (answer : Answer) (settled : List Settlement) → Stand b.asked b.tickets
     → Stand (recorded (call_in b.asked c) answer settled b).asked (recorded (call_in b.asked c) answer settled b).tickets

@@ -42,7 +42,8 @@ entry-few u (Some op) log = let is = length-append log (entry_then u (Some op) [
 
 pub new-first : (d count : ℕ) (x : Settlement) (rest : List Settlement) → is_new d count x ≡ true → news_of d count (x ∷ rest) ≡ x.update ∷ news_of d count rest
 new-first d count x rest new = by (x.partition == d) (nat_lt count x.update.number) refl refl new where
-  by : (here high : Bool) → (x.partition == d) ≡ here → nat_lt count x.update.number ≡ high → (here && high) ≡ true → news_of d count (x ∷ rest) ≡ x.update ∷ news_of d count rest
+  by : (here high : Bool) → (x.partition == d) ≡ here → nat_lt count x.update.number ≡ high → (here && high) ≡ true
+      → news_of d count (x ∷ rest) ≡ x.update ∷ news_of d count rest
   by true true here high new =
       ap (λ (b : Bool). new_ones count (front_if b x.update (settled_in d rest))) here ∙ new-in count x.update (settled_in d rest) true high
   by true false here low new = absurd (cc new)

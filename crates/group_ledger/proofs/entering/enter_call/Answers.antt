@@ -22,7 +22,8 @@ returns-in-None-clause-tickets c =
     = λ call since. c.args.tickets.now.items
     ++ (if is_issued c.args.answer.now then record { name = record { caller = caller; call = call }; since = since; op = Some c.args.call.op } ∷ [] else []) in
     c.keep_ticket.ensures ∙ ap (λ (n : ℕ). kept n c.len.result) here ∙ ap (kept (at 0 c.args.asked.now caller)) long
-    ∙ ticketed (is_issued c.args.answer.now) (length c.args.log.now.items) (record { name = record { caller = caller; call = at 0 c.args.asked.now caller }; op = c.args.call.op })
+    ∙ ticketed (is_issued c.args.answer.now) (length c.args.log.now.items)
+    (record { name = record { caller = caller; call = at 0 c.args.asked.now caller }; op = c.args.call.op })
     c.args.tickets.now.items
 
 pub returns-in-Some-clause-asked : goal.returns-in-Some-clause-asked

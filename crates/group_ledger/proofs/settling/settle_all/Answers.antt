@@ -11,7 +11,14 @@ pub partitions-init : goal.partitions-init
 partitions-init c =
     let few = still-few 0 c.args.settled.now in
     let whole : length c.args.places.now - 0 ≡ length c.args.places.now = omega arith in
-    record { left = ap (λ (n : ℕ). accounts_after c.args.settled.now (range_with_len 0 n) (accounts_of c.args.log.now.items (items_of c.args.places.now) c.args.tickets.now)) whole; many = refl; differ = c.requires.differ; log_room = omega (arith, few, c.requires.log_room); ahead = refl }
+    record {
+      left = ap (λ (n : ℕ). accounts_after c.args.settled.now (range_with_len 0 n)
+          (accounts_of c.args.log.now.items (items_of c.args.places.now) c.args.tickets.now)) whole;
+      many = refl;
+      differ = c.requires.differ;
+      log_room = omega (arith, few, c.requires.log_room);
+      ahead = refl;
+    }
 
 pub settle_partition-requires-clause-log_room : goal.settle_partition-requires-clause-log_room
 settle_partition-requires-clause-log_room c =
@@ -33,7 +40,8 @@ partitions-preserved c =
     let within : d < length c.partitions.places = grind (arith, common_steps) in
     record {
       left = left-partition c.args.settled.now d (length c.args.places.now) _ c.partitions.places c.partitions.log.items c.settle_partition.new.log.items
-          c.partitions.tickets c.settle_partition.new.tickets c.index-places-d.result c.settle_partition.new.places c.partitions-test.true within (grind (arith, common_steps))
+          c.partitions.tickets c.settle_partition.new.tickets c.index-places-d.result c.settle_partition.new.places
+          c.partitions-test.true within (grind (arith, common_steps))
           c.settle_partition.ensures.log c.settle_partition.ensures.places c.settle_partition.ensures.tickets ∙ c.partitions.invariant.left;
       many = length-set c.partitions.places d c.settle_partition.new.places ∙ c.partitions.invariant.many;
       differ = c.settle_partition.ensures.differ;

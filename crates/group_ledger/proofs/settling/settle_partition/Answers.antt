@@ -28,8 +28,10 @@ settled-preserved c =
     let places-are = c.settle.ensures.places ∙ ap (λ (u : Update). c.settled.places.items ++ run_of u.body ∷ []) same in
     let tickets-are = c.settle.ensures.tickets ∙ ap (λ (u : Update). map (op_taken (update_name u)) c.settled.tickets) same in
     let few : length c.settle.new.log.items ≤ length c.settled.log.items + 1
-    = subst (λ (es : List Entry). length es ≤ length c.settled.log.items + 1) (sym log-is) (entry-few x.update (op_in (update_name x.update) c.settled.tickets) c.settled.log.items) in
-    let longer : length c.settle.new.places.items ≡ length c.settled.places.items + 1 = ap length places-are ∙ length-append c.settled.places.items (run_of x.update.body ∷ []) in
+    = subst (λ (es : List Entry). length es ≤ length c.settled.log.items + 1) (sym log-is)
+    (entry-few x.update (op_in (update_name x.update) c.settled.tickets) c.settled.log.items) in
+    let longer : length c.settle.new.places.items ≡ length c.settled.places.items + 1 = ap length places-are
+    ∙ length-append c.settled.places.items (run_of x.update.body ∷ []) in
     record {
       left = left-settled d c.len-count.result (drop i all) rest x c.settled.log.items c.settle.new.log.items _ c.settled.places.items c.settle.new.places.items _
           c.settled.tickets c.settle.new.tickets _ front new log-is places-are tickets-are c.settled.invariant.left;

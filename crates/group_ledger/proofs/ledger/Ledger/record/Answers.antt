@@ -46,7 +46,8 @@ books-now c =
       log_is = ap (λ (v : Kept). v.books.log) c.self.view_is;
       places_are = ap items_of c.deref_mut-2.ensures.value ∙ ap (λ (v : Kept). v.books.places) c.self.view_is;
       tickets_are = ap (λ (v : Kept). v.books.tickets) c.self.view_is;
-    }) c.requires.once c.enter.new.asked c.enter.ensures.asked c.enter.new.log.items c.enter.ensures.log c.deref_mut-3.result.now (c.deref_mut-3.ensures.value ∙ c.enter.ensures.tickets)
+    }) c.requires.once c.enter.new.asked c.enter.ensures.asked c.enter.new.log.items c.enter.ensures.log
+    c.deref_mut-3.result.now (c.deref_mut-3.ensures.value ∙ c.enter.ensures.tickets)
     (length c.deref_mut-2.result.now) wide _ c.settle_all.ensures.accounts
 
 log-now : (c : goal.After-len) → c.settle_all.new.log.items ≡ c.args.self.now.books.log
@@ -66,7 +67,8 @@ grows c =
 pub overflow_sub-result : goal.overflow_sub-result
 overflow_sub-result c = let more = grows c in omega (arith, more)
 
-asked-now : (c : goal.After-len) → (with_items c.self.inside.asked c.enter.new.asked).items ≡ asked_after c.args.self.now.books.asked (call_in c.args.self.now.books.asked c.args.call)
+asked-now : (c : goal.After-len) → (with_items c.self.inside.asked c.enter.new.asked).items
+    ≡ asked_after c.args.self.now.books.asked (call_in c.args.self.now.books.asked c.args.call)
 asked-now c = with_items_is c.self.inside.asked c.enter.new.asked (grind (arith, common_steps)) ∙ (books-now c).asked_is
 
 tickets-now : (c : goal.After-len) → (with_items c.enter.new.tickets c.settle_all.new.tickets).items
@@ -78,7 +80,8 @@ invariant_of-self c =
     let b : Books = c.args.self.now.books in
     let counts = with_items_is c.self.inside.asked c.enter.new.asked (grind (arith, common_steps)) ∙ c.enter.ensures.asked
     ∙ ap (λ (xs : List ℕ). asked_after xs (call_in xs c.args.call)) c.deref_mut.ensures.value in
-    let many = ap length (with_items_is c.self.inside.places c.settle_all.new.places (grind (arith, common_steps))) ∙ c.settle_all.ensures.many ∙ ap length c.deref_mut-2.ensures.value in
+    let many = ap length (with_items_is c.self.inside.places c.settle_all.new.places (grind (arith, common_steps))) ∙ c.settle_all.ensures.many
+    ∙ ap length c.deref_mut-2.ensures.value in
     let after = counts-after c.args.call c.self.inside.events c.self.inside.asked.items c.requires.caller c.self.invariant.0.callers_all c.self.invariant.0.calls_low in
     let stand : Stand b.asked b.tickets = subst (λ (v : Kept). Stand v.books.asked v.books.tickets) c.self.view_is c.self.invariant.0.tickets_stand in (
       record {
@@ -96,7 +99,8 @@ pub returns-clause-books : goal.returns-clause-books
 returns-clause-books c =
     let made = books-now c in
     let asked-is = asked-now c in
-    let places-are = ap items_of (with_items_is c.self.inside.places c.settle_all.new.places (grind (arith, common_steps))) ∙ ap (λ (a : Accounts). a.places) made.accounts_are in
+    let places-are = ap items_of (with_items_is c.self.inside.places c.settle_all.new.places (grind (arith, common_steps)))
+    ∙ ap (λ (a : Accounts). a.places) made.accounts_are in
     let tickets-are = tickets-now c in
     let log-is = ap (λ (a : Accounts). a.log) made.accounts_are in
     let events-are : c.self.inside.events + 1 ≡ suc c.args.self.now.books.events = let same = ap (λ (v : Kept). v.books.events) c.self.view_is in omega (arith, same) in
