@@ -167,3 +167,6 @@ impl ParityProcess {
         self.bytes.bytes(run)
     }
 }
+
+#[cfg(test)]
+mod tests;
