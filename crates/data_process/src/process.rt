@@ -13,6 +13,7 @@ ghost use Rattle.group_run.specs.Receiving.{notice_comes, read_comes, receive};
 ghost use Rattle.group_run.specs.Replica.{callers, last_of};
 ghost use Rattle.group_run.specs.World.{flush_process};
 ghost use Rattle.head_service.specs.Acting.{name_of};
+ghost use Rattle.process_service.specs.Noticing.{waiting};
 ghost use Rattle.process_service.specs.Steps.{called, stepped};
 ghost use Rattle.data_process.specs.Steps.{ComesToData};
 
@@ -134,6 +135,13 @@ impl DataProcess {
         ensures { result ≡ self.now.process.known }
     {
         self.service.known()
+    }
+
+    /// How many updates wait in its logs.
+    pub fn waiting(&self) -> Result<usize, AllocError>
+        ensures { IfOk result (λ n. n ≡ waiting self.now.process.replicas) }
+    {
+        self.service.waiting()
     }
 
     /// Whether no partition has nearly used up its numbers, which is a condition of `ask`.

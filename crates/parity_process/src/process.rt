@@ -11,6 +11,7 @@ ghost use Rattle.group_run.specs.Receiving as machine;
 ghost use Rattle.group_run.specs.Replica.{callers, last_of};
 ghost use Rattle.group_run.specs.World.{flush_process};
 ghost use Rattle.head_service.specs.Acting.{name_of};
+ghost use Rattle.process_service.specs.Noticing.{waiting};
 ghost use Rattle.process_service.specs.Steps.{called, stepped};
 ghost use Rattle.leader_role.specs.Sound.{IsOfGroup};
 
@@ -130,6 +131,13 @@ impl ParityProcess {
         ensures { result ≡ self.now.process.known }
     {
         self.service.known()
+    }
+
+    /// How many updates wait in its logs.
+    pub fn waiting(&self) -> Result<usize, AllocError>
+        ensures { IfOk result (λ n. n ≡ waiting self.now.process.replicas) }
+    {
+        self.service.waiting()
     }
 
     /// Whether neither a partition nor the process's sessions have nearly used up their numbers, which is a

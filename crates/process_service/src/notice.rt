@@ -82,8 +82,8 @@ impl Service {
 }
 
 impl Service {
-    // How many updates wait in all logs.
-    fn waiting(&self) -> Result<usize, AllocError>
+    /// How many updates wait in all logs.
+    pub fn waiting(&self) -> Result<usize, AllocError>
         ensures { IfOk result (λ n. n ≡ waiting self.now.replicas) }
     {
         let mut all = 0usize;
