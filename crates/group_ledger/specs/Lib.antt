@@ -1,3 +1,4 @@
 pub mod Accounts
 pub mod Books
+pub mod Laws
 pub mod Taking

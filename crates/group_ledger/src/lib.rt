@@ -5,6 +5,7 @@
 #![tactic(auto)]
 
 pub mod entering;
+pub mod laws;
 pub mod ledger;
 mod places;
 mod room;
