@@ -1,6 +1,7 @@
 pub mod Names
 pub mod Ranges
 pub mod Links
+pub mod Refused
 pub mod Sent
 pub mod Standing
 pub mod Cut

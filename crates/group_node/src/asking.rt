@@ -2,7 +2,7 @@ ghost use Rattle.std.specs.Prelude.{◌≡◌, ◌<◌, ◌^◌, false, [], All,
 ghost use Rattle.group_run.specs.Replica.{callers, last_of};
 ghost use Rattle.group_run.specs.World.{NodeStep, ask_node, collect_node, flush_node, if_up, trace_node, unchanged};
 ghost use Rattle.head_service.specs.Acting.{name_of};
-ghost use Rattle.group_node.specs.Steps.{made};
+ghost use Rattle.group_node.specs.Steps.{IsRefusal, made};
 
 use crate::node::{Node, NodeOut};
 use crate::sending::{make_room, send_all};
@@ -17,10 +17,11 @@ impl Node {
     /// A call is asked. After want of memory nothing but room has changed.
     pub fn ask(&mut self, call: Call, op: &Op) -> Result<NodeOut, AllocError>
         requires caller { call.caller < callers }
-        requires numbers { All (λ r. last_of r < 2 ^ 62) self.old.node.process.replicas }
-        requires sessions { self.old.node.process.as_leader.last_session < 2 ^ 62 }
+        requires numbers { self.old.node.down ≡ false → self.old.node.dead ≡ false → All (λ r. last_of r < 2 ^ 62) self.old.node.process.replicas }
+        requires sessions { self.old.node.down ≡ false → self.old.node.dead ≡ false → self.old.node.process.as_leader.last_session < 2 ^ 62 }
         ensures shape { self.new.shape ≡ self.old.shape }
         ensures step { IfOk result (λ out. ask_node self.old.shape (name_of call) op.now self.old.node ≡ made self.new.node out) }
+        ensures refusal { IfOk result (λ out. IsRefusal out.answer → self.new ≡ self.old) }
         ensures err { OnErr result (self.new ≡ self.old) }
     {
         if let Some(answer) = self.refusal() {

@@ -14,3 +14,4 @@ mod tests;
 
 pub use delivery::deliver_between;
 pub use node::{Node, NodeOut};
+pub use sending::index_of;

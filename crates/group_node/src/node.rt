@@ -3,6 +3,7 @@ ghost use Rattle.group_types.specs.Lists.{at};
 ghost use Rattle.group_types.specs.Names as names;
 ghost use Rattle.group_types.specs.Names.{IsProcess};
 ghost use Rattle.group_run.specs.World.{opening_node, with_down};
+ghost use Rattle.process_service.specs.Noticing.{waiting};
 
 use crate::process::Process;
 use crate::sending::{index_of, make_room};
@@ -109,6 +110,13 @@ impl Node {
         ensures { result ≡ (length (at [] self.now.node.links (names.index_of self.now.shape to)) == 0) }
     {
         self.links.is_empty(index_of(self.shape, to))
+    }
+
+    /// How many updates wait in its logs.
+    pub fn waiting(&self) -> Result<usize, AllocError>
+        ensures { IfOk result (λ n. n ≡ waiting self.now.node.process.replicas) }
+    {
+        self.process.waiting()
     }
 
     /// The node is told whether the group is down. It takes no memory.

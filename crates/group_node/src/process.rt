@@ -8,6 +8,7 @@ ghost use Rattle.group_run.specs.Receiving as machine;
 ghost use Rattle.group_run.specs.Replica.{callers, last_of};
 ghost use Rattle.group_run.specs.World.{flush_process};
 ghost use Rattle.head_service.specs.Acting.{name_of};
+ghost use Rattle.process_service.specs.Noticing.{waiting};
 ghost use Rattle.process_service.specs.Steps.{called, stepped};
 ghost use Rattle.group_node.specs.Delivering.{Comes};
 
@@ -141,6 +142,16 @@ impl Process {
         match &self.role {
             Role::Data(process) => process.known(),
             Role::Parity(process) => process.known(),
+        }
+    }
+
+    /// How many updates wait in its logs.
+    pub fn waiting(&self) -> Result<usize, AllocError>
+        ensures { IfOk result (λ n. n ≡ waiting self.now.process.replicas) }
+    {
+        match &self.role {
+            Role::Data(process) => process.waiting(),
+            Role::Parity(process) => process.waiting(),
         }
     }
 }
