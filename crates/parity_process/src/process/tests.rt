@@ -10,6 +10,7 @@ ghost use Rattle.group_run.specs.Receiving.{update_taken};
 ghost use Rattle.group_run.specs.Replica.{empty_replica, last_of};
 ghost use Rattle.leader_role.specs.Sound.{IsOfGroup};
 
+mod heads;
 mod rows;
 mod updates;
 
@@ -215,6 +216,8 @@ impl Desk {
 fn word(answer: &Answer) -> &str {
     match answer {
         Answer::Moved => "moved",
+        Answer::NotYet => "not yet",
+        Answer::Gone => "gone",
         Answer::Retry(Cause::Block { block: 0 }) => "retry",
         Answer::Reply(Reply::Stored) => "stored",
         Answer::Reply(Reply::Value(item)) if item.value.bytes() == VALUE.as_slice() => "value",
