@@ -22,7 +22,7 @@ use head_service::{Call, Sent};
 use memc_table::Reply;
 use std::alloc::{AllocError, Global};
 use std::test::Fail;
-use updates::{get, put, touch, touches};
+use updates::{touch, touches};
 
 const DATA: ProcessId = ProcessId::DataNode(0);
 
@@ -32,7 +32,7 @@ const SECOND: ProcessId = ProcessId::ParityNode(1);
 
 const VALUE: [u8; 4] = [2, 4, 6, 8];
 
-// The coefficient of parity process 0 for partition 0 is the inverse of 2.
+// The code of the value: the coefficient of parity process 0 for partition 0 is the inverse of 2.
 const CODE: [u8; 4] = [1, 2, 3, 4];
 
 // What is sent: its kind, to whom, and its rank and number.
@@ -59,19 +59,6 @@ fn a_desk(alloc: Global, number: u32) -> Result<Desk, Fail>
         alloc,
         process: ParityProcess::new(alloc, shape, number)?,
     })
-}
-
-#[test]
-fn takes_the_partition_of_a_dead_data_process_over(rt: HostRuntime) -> Result<(), Fail> {
-    let mut desk = a_desk(rt.alloc(), 0)?;
-    let update = put(rt.alloc())?;
-    assert!(rt; desk.begins(update)?);
-    assert!(rt; desk.settles(DATA, 0)? && desk.holds(&CODE)?);
-    assert!(rt; desk.is_told("moved"));
-    assert!(rt; desk.takes_over()?);
-    assert!(rt; desk.is_told("stored") && desk.flushes()?);
-    assert!(rt; desk.gets("retry")? && desk.gets("value")?);
-    Ok(())
 }
 
 #[test]
@@ -156,16 +143,6 @@ impl Desk {
         self.takes(DATA, &message, &[])
     }
 
-    // Whether the process takes the partition over where its data process dies.
-    fn takes_over(&mut self) -> Result<bool, AllocError> {
-        let known = self.process.known();
-        if known.is_dead(DATA) || self.process.name() == DATA || 2 <= known.lost() {
-            return Ok(false);
-        }
-        let message = Message::Notice { dead: DATA };
-        self.takes(DATA, &message, &[("adopt", SECOND, 1, 1)])
-    }
-
     // Whether the process makes these messages of one that comes.
     fn takes(
         &mut self,
@@ -185,20 +162,6 @@ impl Desk {
     fn is_told(&self, answer: &str) -> bool {
         let fate = self.process.fate(CALL.caller, CALL.number, Partition(0));
         word(&fate) == answer
-    }
-
-    fn gets(&mut self, answer: &str) -> Result<bool, Fail> {
-        if !self.process.has_numbers() {
-            return Ok(false);
-        }
-        let op = get(self.alloc)?;
-        let step = self.process.ask(CALL, &op)?;
-        Ok(word(&step.answer) == answer && step.sent.is_empty())
-    }
-
-    fn flushes(&self) -> Result<bool, AllocError> {
-        let sent = self.process.flush()?;
-        Ok(are(&sent, &[("stable", SECOND, 1, 1)]))
     }
 
     // Whether these are the first four bytes of the code, which one page has, at the first update.

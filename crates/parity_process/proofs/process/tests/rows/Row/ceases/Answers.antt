@@ -1,6 +1,6 @@
 use Rattle.std.proofs.Common.{◌≡◌, ℕ, max, nat_lt, ◌==◌, not, ◌&&◌, Bool, true, false, refl, ap, arith, ◌∙◌}
 use Rattle.std.proofs.lemmas.Grind.{common_steps}
-use Rattle.group_types.specs.Lists.{at, put}
+use Rattle.group_types.specs.Lists.{at}
 use Rattle.group_types.specs.declared.process.ProcessId.TheVariants.{ParityNode}
 use Rattle.group_types.proofs.Lists.{at-put}
 use Rattle.membership.specs.Members.{knows_dead}
