@@ -1,0 +1,74 @@
+-- What is delivered in a group that a run led to.
+use Rattle.std.proofs.Common.{ℕ, ◌≡◌, ◌≢◌, ◌<◌, ◌≤◌, true, false, nat_lt, List, ◌∷◌, refl, sym, ap, subst, ◌∙◌, arith}
+use Rattle.std.proofs.lemmas.List.Elements.{All-weaker}
+use Rattle.std.proofs.lemmas.Grind.{common_steps}
+use Rattle.group_types.specs.Dimensions.{Dimensions}
+use Rattle.group_types.specs.Names.{IsProcess}
+use Rattle.group_types.specs.declared.process.ProcessId.{ProcessId}
+use Rattle.group_message.specs.declared.message.Message.{Message}
+use Rattle.group_message.specs.declared.message.Message.TheVariants as tells
+use Rattle.group_run.specs.Fitting.{Fits}
+use Rattle.group_run.specs.Keeping.{NodesKnowDown}
+use Rattle.group_run.specs.Meaning.{IsDown, Lives, is_dead, link, process_of}
+use Rattle.group_run.specs.World.{World, after, dead_nodes, node_of}
+use Rattle.group_run.specs.Replica.{last_of}
+use Rattle.group_run.specs.Rows.{parity_number}
+use Rattle.group_frame.proofs.Downs.{words_always}
+use Rattle.group_headline.proofs.Headlines.{fits_always}
+use Rattle.group_bounds.specs.Deliveries.{FirstsAreFor, IsFor, KnowsFewDead, OwnMarksStarted}
+use Rattle.group_bounds.proofs.Addressing.{kinds_always}
+use Rattle.group_bounds.proofs.Deaths.{few_dead_always}
+use Rattle.group_bounds.proofs.OwnMarks.{own_marks_always}
+use Rattle.group_node.specs.Delivering.{Comes}
+use Rattle.leader_role.specs.Sound.{IsOfGroup}
+use Rattle.group_core.specs.Runs.{HasRun}
+use Rattle.group_core.specs.Seats.{IsKnownLow}
+use Rattle.group_core.proofs.Runs.{numbers-low}
+
+module _ (w : World) (has : HasRun w) where
+  up : (p : ProcessId) → IsProcess w.shape p → (node_of w p).down ≡ false → ¬ (IsDown w)
+  up p pin is down =
+      let word : (node_of w p).down ≡ nat_lt w.shape.m (dead_nodes w.nodes) = (subst NodesKnowDown (sym has.is) (words_always w.shape has.events has.run)) p pin in
+      let above : w.shape.m < dead_nodes w.nodes = down in
+      let is_up : nat_lt w.shape.m (dead_nodes w.nodes) ≡ false = sym word ∙ is in
+      grind (arith, common_steps)
+
+  -- the first message of each link into a living process fits it
+  abbrev FirstsFit : Dimensions → World → Type 0
+  FirstsFit s v = (from to : ProcessId) (m : Message) (rest : List Message) → IsProcess s from → IsProcess s to → from ≢ to → Lives v to
+      → link v from to ≡ m ∷ rest → Fits s from m (process_of v to)
+
+  fit : FirstsFit w.shape w
+  fit = subst (FirstsFit w.shape) (sym has.is) (fits_always w.shape has.events has.run)
+
+  module _ (from to : ProcessId) (m : Message) (rest : List Message) (fin : IsProcess w.shape from) (tin : IsProcess w.shape to) (apart : from ≢ to)
+      (named : (process_of w to).name ≡ to) (is_up : (node_of w to).down ≡ false) (lives : (node_of w to).dead ≡ false) (first : link w from to ≡ m ∷ rest) where
+    of-group : (x : Message) → m ≡ x → IsOfGroup w.shape x (process_of w to)
+    of-group (tells.Notice dead) is =
+        (subst (λ (v : World). ¬ (IsDown v) → KnowsFewDead w.shape v) (sym has.is) (few_dead_always w.shape has.events has.run))
+        (up to tin is_up) from to dead rest fin tin apart (tin, lives) (subst (λ (x : Message). link w from to ≡ x ∷ rest) is first)
+    of-group (tells.Mark session r block d n) is = λ own.
+        (subst (OwnMarksStarted w.shape) (sym has.is) (own_marks_always w.shape has.events has.run))
+        from to session r block d n rest fin tin apart (tin, lives) (subst (λ (x : Message). link w from to ≡ x ∷ rest) is first) (own ∙ ap parity_number named)
+    of-group (tells.Update r d u stable) is = tt
+    of-group (tells.Ack r d n) is = tt
+    of-group (tells.Stable r d n) is = tt
+    of-group (tells.Adopt r d base list) is = tt
+    of-group (tells.ReadBlock session block rows) is = tt
+    of-group (tells.Block session bytes n) is = tt
+    of-group (tells.Row session bytes stamp) is = tt
+    of-group (tells.Cease upto) is = tt
+
+    pub first-comes : Comes w.shape from m (process_of w to)
+    first-comes = record {
+      fits = fit from to m rest fin tin apart (tin, lives) first;
+      kind = subst (λ (p : ProcessId). IsFor p m) (sym named)
+          ((subst (FirstsAreFor w.shape) (sym has.is) (kinds_always w.shape has.events has.run)) from to m rest fin tin apart (tin, lives) first);
+      group = of-group m refl;
+    }
+
+  pub known-low : w.events < 4611686018427387904 → (p : ProcessId) → IsProcess w.shape p → (node_of w p).dead ≡ false → IsKnownLow (node_of w p).process
+  known-low few p pin lives = record {
+    updates = All-weaker (λ r. last_of r ≤ w.events) (λ r. last_of r < 4611686018427387904) (λ r low. omega (arith, low, few)) (process_of w p).replicas ((numbers-low w has).updates p (pin, lives));
+    sessions = let low = (numbers-low w has).sessions p (pin, lives) in omega (arith, low, few);
+  }

@@ -1,0 +1,10 @@
+pub mod Changed
+pub mod Exchanges
+pub mod Halves
+pub mod Killed
+pub mod Known
+pub mod Paired
+pub mod Runs
+pub mod Settles
+pub mod Stepped
+pub mod Told

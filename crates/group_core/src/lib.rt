@@ -1,0 +1,13 @@
+//! A group: its nodes, and what it keeps beside them, as one value that a run of events led to. The contract
+//! of a step is one equation with the machine's, and after want of memory nothing but room has changed; so
+//! what is proved of every run holds of every group. Which events come is left to the caller.
+#![tactic(auto)]
+
+mod asking;
+mod delivering;
+mod failing;
+mod nodes;
+mod turning;
+mod world;
+
+pub use world::World;

@@ -1,0 +1,89 @@
+ghost use Rattle.std.specs.Prelude.{◌≡◌, ◌+◌, ◌<◌, ◌≤◌, IfOk, length, map};
+ghost use Rattle.std.specs.List.{range_with_len};
+ghost use Rattle.group_types.specs.Names as names;
+ghost use Rattle.group_types.specs.Names.{IsProcess};
+ghost use Rattle.group_types.specs.Shape.{IsShape};
+ghost use Rattle.group_run.specs.World.{opening, opening_node};
+ghost use Rattle.group_core.specs.Seats.{AreOf, nodes_of, seat};
+
+use group_node::{Node, index_of};
+use group_types::{ProcessId, Shape};
+use std::alloc::{AllocError, Global};
+use std::marker::Model;
+
+/// The nodes of a group, in the order of processes.
+#[derive(Drop)]
+pub(crate) struct Nodes {
+    pub(crate) alloc: Global,
+    pub(crate) shape: Shape,
+    pub(crate) nodes: Vec<Node>,
+}
+
+impl Model for Nodes {
+    ghost use Rattle.group_core.specs.Seats.{AreSeated, Seats, seats_of};
+
+    ghost Value = { Seats };
+
+    ghost view = { λ n. seats_of n.shape n.nodes.items };
+
+    ghost invariant = { λ n. AreSeated n.shape n.nodes.items };
+}
+
+impl Nodes {
+    /// The nodes at the start.
+    pub(crate) fn new(alloc: Global, shape: Shape) -> Result<Nodes, AllocError>
+        ensures nodes { IfOk result (λ nodes. nodes ≡ record { shape = shape; nodes = (opening shape).nodes }) }
+        ensures limits { IfOk result (λ _. IsShape shape) }
+    {
+        let nodes = nodes_at_start(alloc, shape, shape.k() + shape.m())?;
+        Ok(Nodes {
+            alloc,
+            shape,
+            nodes,
+        })
+    }
+
+    /// The shape of the group.
+    pub(crate) fn shape(&self) -> Shape
+        ensures { result ≡ self.now.shape }
+    {
+        self.shape
+    }
+
+    /// The node of a process.
+    pub(crate) fn node(&self, at: ProcessId) -> &Node
+        requires { IsProcess self.now.shape at }
+        ensures shape { result.now.shape ≡ self.now.shape }
+        ensures node { result.now.node ≡ seat self.now at }
+    {
+        let at = index_of(self.shape, at) as usize;
+        &self.nodes[at]
+    }
+}
+
+fn nodes_at_start(alloc: Global, shape: Shape, count: u32) -> Result<Vec<Node>, AllocError>
+    requires { count ≤ shape.k + shape.m }
+    ensures nodes { IfOk result (λ nodes. nodes_of nodes.items ≡ map (λ x. opening_node shape (names.process_at shape x)) (range_with_len 0 count)) }
+    ensures shapes { IfOk result (λ nodes. AreOf shape nodes.items) }
+    ensures many { IfOk result (λ nodes. length nodes.items ≡ count) }
+{
+    let mut nodes = Vec::with_capacity(alloc, count as usize)?;
+    'processes: for x in 0..count {
+        nodes.push(Node::new(alloc, shape, process_at(shape, x))?)?;
+    }
+    Ok(nodes)
+}
+
+// The process at an index.
+fn process_at(shape: Shape, x: u32) -> ProcessId
+    requires { x < shape.k + shape.m }
+    ensures name { result ≡ names.process_at shape x }
+    ensures process { IsProcess shape result }
+{
+    let k = shape.k();
+    if x < k {
+        ProcessId::DataNode(x)
+    } else {
+        ProcessId::ParityNode(x - k)
+    }
+}

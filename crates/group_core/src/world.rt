@@ -1,0 +1,85 @@
+ghost use Rattle.std.specs.Prelude.{◌≡◌, ◌≤◌, ◌<◌, ◌+◌, ◌^◌, length, IfOk, OnErr};
+ghost use Rattle.group_run.specs.Headline.{MayCome};
+ghost use Rattle.group_run.specs.World.{group_step, opening, step};
+
+use crate::nodes::Nodes;
+use group_calls::{Event, Out};
+use group_ledger::Ledger;
+use group_types::Shape;
+use std::alloc::{AllocError, Global};
+use std::marker::Model;
+
+/// A group that a run of events led to.
+#[derive(Drop)]
+pub struct World {
+    pub(crate) nodes: Nodes,
+    pub(crate) ledger: Ledger,
+}
+
+impl Model for World {
+    ghost use Rattle.group_core.specs.Runs.{IsGroup, group_of};
+    ghost use Rattle.group_run.specs.World as machine;
+
+    ghost Value = { machine.World };
+
+    ghost view = { λ w. group_of w.nodes w.ledger.books };
+
+    ghost invariant = { λ w. IsGroup w.nodes w.ledger.books };
+}
+
+impl World {
+    /// The group at the start.
+    pub fn new(alloc: Global, shape: Shape) -> Result<World, AllocError>
+        ensures { IfOk result (λ world. world ≡ opening shape) }
+    {
+        Ok(World {
+            nodes: Nodes::new(alloc, shape)?,
+            ledger: Ledger::new(alloc, shape)?,
+        })
+    }
+
+    /// What an event makes of the group. After want of memory nothing but room has changed.
+    pub fn step(&mut self, event: &Event) -> Result<Out, AllocError>
+        requires events { self.old.events < 2 ^ 62 }
+        requires may { MayCome self.old event.now }
+        ensures world { IfOk result (λ _. self.new ≡ (step self.old event.now).world) }
+        ensures answer { IfOk result (λ out. out.answer ≡ (step self.old event.now).turn.answer) }
+        ensures logged { IfOk result (λ out. out.logged ≡ length (step self.old event.now).turn.logged) }
+        ensures err { OnErr result (self.new ≡ self.old) }
+    {
+        let most = self.settles(event)?;
+        self.ledger.reserve(most)?;
+        let turn = self.nodes.turn(&self.ledger, event)?;
+        let logged = self
+            .ledger
+            .record(turn.call, &turn.out.answer, &turn.out.settled);
+        Ok(Out {
+            answer: turn.out.answer,
+            logged,
+        })
+    }
+
+    // No more updates are settled by an event.
+    fn settles(&self, event: &Event) -> Result<usize, AllocError>
+        requires { MayCome self.now event.now }
+        ensures { IfOk result (λ most. length (group_step self.now event.now).settled ≤ most) }
+    {
+        match event {
+            Event::Ask { at, .. } => {
+                let waiting = self.nodes.node(*at).waiting()?;
+                one_more(waiting)
+            }
+            Event::Deliver { to, .. } => self.nodes.node(*to).waiting(),
+            Event::Collect { .. } => Ok(0),
+            Event::Fail { .. } => Ok(0),
+            Event::Flush { .. } => Ok(0),
+            Event::Trace { .. } => Ok(0),
+        }
+    }
+}
+
+fn one_more(n: usize) -> Result<usize, AllocError>
+    ensures { IfOk result (λ more. more ≡ n + 1) }
+{
+    n.checked_add(1).ok_or(AllocError)
+}
