@@ -53,7 +53,9 @@ module _ (xs front back : List Standing) (i j : ℕ) (e d : Standing) (low : i <
   pub exchanged-up : (ys : List Standing) (a2 b2 : Standing) (r : Result NodeOut AllocError) → ys ≡ set front i a2 ++ set back 0 b2 → a2.shape ≡ (get_or front i e).shape
       → b2.shape ≡ (get_or back 0 d).shape → Makes (get_or front i e) (get_or back 0 d) a2 b2 r → IfOk r (λ out. Exchanged xs ys i j out)
   exchanged-up ys a2 b2 (Ok out) is sa sb makes = record {
-    sender = a2; receiver = b2; items = is ∙ joined a2 b2;
+    sender = a2;
+    receiver = b2;
+    items = is ∙ joined a2 b2;
     delivered = λ x y at_x at_y. one-made _ _ a2 b2 x y out (at-low x at_x) (at-high y at_y) sa sb makes;
   }
   exchanged-up ys a2 b2 (Err error) is sa sb makes = tt
@@ -61,7 +63,9 @@ module _ (xs front back : List Standing) (i j : ℕ) (e d : Standing) (low : i <
   pub exchanged-down : (ys : List Standing) (a2 b2 : Standing) (r : Result NodeOut AllocError) → ys ≡ set front i b2 ++ set back 0 a2 → a2.shape ≡ (get_or back 0 d).shape
       → b2.shape ≡ (get_or front i e).shape → Makes (get_or back 0 d) (get_or front i e) a2 b2 r → IfOk r (λ out. Exchanged xs ys j i out)
   exchanged-down ys a2 b2 (Ok out) is sa sb makes = record {
-    sender = a2; receiver = b2; items = is ∙ joined b2 a2 ∙ set-either xs i j b2 a2 low;
+    sender = a2;
+    receiver = b2;
+    items = is ∙ joined b2 a2 ∙ set-either xs i j b2 a2 low;
     delivered = λ x y at_x at_y. one-made _ _ a2 b2 x y out (at-high x at_x) (at-low y at_y) sa sb makes;
   }
   exchanged-down ys a2 b2 (Err error) is sa sb makes = tt

@@ -70,7 +70,7 @@ module _ (w : World) where
   pub trace-settles : (caller call : ℕ) (d : Partition) (p : ProcessId) → length (group_step w (Trace caller call d p)).settled ≤ 0
   trace-settles caller call d p =
       let none = ap (λ (xs : List Settlement). length xs)
-          (traced w.shape (node_of w p) (fate_of w.shape caller call d.0 (node_of w p).process (head_at (node_of w p).process d.0)) (node_of w p).down (node_of w p).dead) in
+      (traced w.shape (node_of w p) (fate_of w.shape caller call d.0 (node_of w p).process (head_at (node_of w p).process d.0)) (node_of w p).down (node_of w p).dead) in
       omega (arith, none)
 
   pub fail-settles : (p : ProcessId) (keep : ℕ) → length (group_step w (Fail p keep)).settled ≤ 0
