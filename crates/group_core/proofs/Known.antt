@@ -1,12 +1,14 @@
 -- What is delivered in a group that a run led to.
-use Rattle.std.proofs.Common.{ℕ, ◌≡◌, ◌≢◌, ◌<◌, ◌≤◌, true, false, nat_lt, List, ◌∷◌, refl, sym, ap, subst, ◌∙◌, arith}
+use Rattle.std.proofs.Common.{ℕ, ◌≡◌, ◌≢◌, ◌<◌, ◌≤◌, Bool, true, false, IsTrue, nat_lt, List, ◌∷◌, refl, sym, ap, subst, ◌∙◌, arith}
 use Rattle.std.proofs.lemmas.List.Elements.{All-weaker}
 use Rattle.std.proofs.lemmas.Grind.{common_steps}
 use Rattle.group_types.specs.Dimensions.{Dimensions}
 use Rattle.group_types.specs.Names.{IsProcess}
 use Rattle.group_types.specs.declared.process.ProcessId.{ProcessId}
+use Rattle.group_types.specs.declared.process.ProcessId.TheVariants.{DataNode}
 use Rattle.group_message.specs.declared.message.Message.{Message}
 use Rattle.group_message.specs.declared.message.Message.TheVariants as tells
+use Rattle.group_calls.specs.Log.{IsLegal}
 use Rattle.group_run.specs.Fitting.{Fits}
 use Rattle.group_run.specs.Keeping.{NodesKnowDown}
 use Rattle.group_run.specs.Meaning.{IsDown, Lives, is_dead, link, process_of}
@@ -14,7 +16,7 @@ use Rattle.group_run.specs.World.{World, after, dead_nodes, node_of}
 use Rattle.group_run.specs.Replica.{last_of}
 use Rattle.group_run.specs.Rows.{parity_number}
 use Rattle.group_frame.proofs.Downs.{words_always}
-use Rattle.group_headline.proofs.Headlines.{fits_always}
+use Rattle.group_headline.proofs.Headlines.{fits_always, headline_always}
 use Rattle.group_bounds.specs.Deliveries.{FirstsAreFor, IsFor, KnowsFewDead, OwnMarksStarted}
 use Rattle.group_bounds.proofs.Addressing.{kinds_always}
 use Rattle.group_bounds.proofs.Deaths.{few_dead_always}
@@ -25,10 +27,22 @@ use Rattle.group_core.specs.Runs.{HasRun}
 use Rattle.group_core.specs.Seats.{IsKnownLow}
 use Rattle.group_core.proofs.Runs.{numbers-low}
 
+less-word : (m n : ℕ) → (IsTrue (nat_lt m n) → m < n) × (m < n → IsTrue (nat_lt m n))
+less-word m n = ((λ yes. grind (arith, common_steps)), (λ less. grind (arith, common_steps)))
+
 module _ (w : World) (has : HasRun w) where
+  pub word-is : (p : ProcessId) → IsProcess w.shape p → (node_of w p).down ≡ nat_lt w.shape.m (dead_nodes w.nodes)
+  word-is = subst NodesKnowDown (sym has.is) (words_always w.shape has.events has.run)
+
+  pub told-down : (b : Bool) → b ≡ (node_of w (DataNode 0)).down → (IsTrue b → IsDown w) × (IsDown w → IsTrue b)
+  told-down b is = subst (λ (x : Bool). (IsTrue x → IsDown w) × (IsDown w → IsTrue x)) (sym (is ∙ word-is (DataNode 0) has.run.0.k.0)) (less-word w.shape.m (dead_nodes w.nodes))
+
+  pub log-legal : IsLegal w.shape.k w.log
+  log-legal = subst (λ (v : World). IsLegal w.shape.k v.log) (sym has.is) (headline_always w.shape has.events has.run).one_log.legal
+
   up : (p : ProcessId) → IsProcess w.shape p → (node_of w p).down ≡ false → ¬ (IsDown w)
   up p pin is down =
-      let word : (node_of w p).down ≡ nat_lt w.shape.m (dead_nodes w.nodes) = (subst NodesKnowDown (sym has.is) (words_always w.shape has.events has.run)) p pin in
+      let word : (node_of w p).down ≡ nat_lt w.shape.m (dead_nodes w.nodes) = word-is p pin in
       let above : w.shape.m < dead_nodes w.nodes = down in
       let is_up : nat_lt w.shape.m (dead_nodes w.nodes) ≡ false = sym word ∙ is in
       grind (arith, common_steps)

@@ -1,4 +1,5 @@
 pub mod Changed
+pub mod Waiting
 pub mod Exchanges
 pub mod Halves
 pub mod Killed

@@ -4,9 +4,14 @@
 #![tactic(auto)]
 
 mod asking;
+mod coming;
 mod delivering;
+mod draining;
 mod failing;
 mod nodes;
+mod reading;
+#[cfg(test)]
+mod tests;
 mod turning;
 mod world;
 

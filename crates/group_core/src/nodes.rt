@@ -74,8 +74,8 @@ fn nodes_at_start(alloc: Global, shape: Shape, count: u32) -> Result<Vec<Node>, 
     Ok(nodes)
 }
 
-// The process at an index.
-fn process_at(shape: Shape, x: u32) -> ProcessId
+/// The process at an index.
+pub(crate) fn process_at(shape: Shape, x: u32) -> ProcessId
     requires { x < shape.k + shape.m }
     ensures name { result ≡ names.process_at shape x }
     ensures process { IsProcess shape result }

@@ -1,0 +1,76 @@
+ghost use Rattle.std.specs.Prelude.{◌↔◌, ◌<◌, All, IsTrue};
+ghost use Rattle.group_types.specs.Names.{IsProcess};
+ghost use Rattle.memc_table.specs.Act.{value_of};
+ghost use Rattle.group_run.specs.Headline.{MayCome};
+
+use crate::world::World;
+use group_calls::Event;
+use group_types::{CALLERS, ProcessId, Shape};
+use memc_table::Act;
+
+impl World {
+    /// Whether an event may come: callers and processes are of the group, a message goes between two, and the call
+    /// that is traced was asked.
+    pub fn may_come(&self, event: &Event) -> bool
+        ensures { IsTrue result ↔ MayCome self.now event.now }
+    {
+        let shape = self.shape();
+        match event {
+            Event::Ask { caller, op, at } => {
+                read_value(op.act());
+                *caller < CALLERS && is_process(shape, *at)
+            }
+            Event::Collect { caller, at, .. } => *caller < CALLERS && is_process(shape, *at),
+            Event::Deliver { from, to } => {
+                is_process(shape, *from) && is_process(shape, *to) && from != to
+            }
+            Event::Fail { at, .. } => is_process(shape, *at),
+            Event::Flush { at } => is_process(shape, *at),
+            Event::Trace {
+                caller,
+                call,
+                partition,
+                at,
+            } => {
+                *caller < CALLERS
+                    && *call < self.asks(*caller)
+                    && partition.0 < shape.k()
+                    && is_process(shape, *at)
+            }
+        }
+    }
+}
+
+fn is_process(shape: Shape, name: ProcessId) -> bool
+    ensures { IsTrue result ↔ IsProcess shape name }
+{
+    match name {
+        ProcessId::DataNode(d) => d < shape.k(),
+        ProcessId::ParityNode(i) => i < shape.m(),
+    }
+}
+
+// A value consists of bytes.
+fn read_value(act: &Act)
+    ensures { All (λ b. b < 256) (value_of act.now) }
+{
+    match act {
+        Act::Set { value, .. } => are_bytes(value.bytes()),
+        Act::Add { value, .. } => are_bytes(value.bytes()),
+        Act::Replace { value, .. } => are_bytes(value.bytes()),
+        Act::Cas { value, .. } => are_bytes(value.bytes()),
+        Act::Append { value, .. } => are_bytes(value.bytes()),
+        Act::Prepend { value, .. } => are_bytes(value.bytes()),
+        Act::Get { .. } => {}
+        Act::Delete { .. } => {}
+        Act::Touch { .. } => {}
+        Act::Incr { .. } => {}
+        Act::Decr { .. } => {}
+    }
+}
+
+fn are_bytes(bytes: &[u8])
+    ensures { All (λ b. b < 256) bytes.now }
+{
+    let _long = bytes.len();
+}
