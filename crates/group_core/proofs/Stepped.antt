@@ -8,10 +8,10 @@ use Rattle.group_run.specs.Applying.{Settlement}
 use Rattle.group_run.specs.Headline.{MayCome}
 use Rattle.group_run.specs.Process.{Node}
 use Rattle.group_run.specs.World.{Call, GroupStep, World, call_of, group_step, step}
-use Rattle.group_ledger.specs.Books.{Books, CanRecord, recorded, settled_by, world_of}
+use Rattle.group_ledger.specs.Books.{Books, Once, recorded, settled_by, world_of}
 use Rattle.group_core.specs.Runs.{HasRun, group_of}
 use Rattle.group_core.specs.Seats.{Seats}
-use Rattle.group_core.proofs.Runs.{entries-differ, goes-on, tickets-stand}
+use Rattle.group_core.proofs.Runs.{entries-differ, goes-on}
 use Rattle.group_types.specs.Dimensions.{Dimensions}
 
 group-is : (v : Seats) (b : Books) → v.shape ≡ b.shape → group_of v b ≡ world_of v.nodes b
@@ -53,12 +53,8 @@ module _ (v u : Seats) (b : Books) (e : Event) (answer : Answer) (settled : List
   pub answer-is : (step (group_of v b) e).turn.answer ≡ answer
   answer-is = ap (λ (x : GroupStep). x.answer) is
 
-  pub can-record : HasRun (group_of v b) → MayCome (group_of v b) e → CanRecord call answer settled b
-  can-record has may = record {
-    asked = (tickets-stand (group_of v b) has).asked;
-    differ = (tickets-stand (group_of v b) has).differ;
-    once = subst (λ (es : List Entry). AllPairs (λ x y. name_of x ≢ name_of y) es) logged-is (entries-differ (group_of v b) e has may);
-  }
+  pub once-logged : HasRun (group_of v b) → MayCome (group_of v b) e → Once (settled_by call answer settled b).logged
+  once-logged has may = subst Once logged-is (entries-differ (group_of v b) e has may)
 
   module _ (c : Books) (books : c ≡ recorded call answer settled b) (kept : u.shape ≡ v.shape) where
     pub still-one : u.shape ≡ c.shape

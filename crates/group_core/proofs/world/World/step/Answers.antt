@@ -4,17 +4,17 @@ use Rattle.group_run.specs.Headline.{MayCome}
 use Rattle.group_run.specs.World.{World, step}
 use Rattle.group_ledger.specs.Books.{Books, call_in}
 use Rattle.group_core.specs.Runs.{HasRun, group_of}
-use Rattle.group_core.proofs.Stepped.{answer-is, can-record, logged-is, run-on, settled-as, still-one, world-is}
+use Rattle.group_core.proofs.Stepped.{answer-is, once-logged, logged-is, run-on, settled-as, still-one, world-is}
 use Rattle.group_core.proofs.world.World.step.Goals as goal
 
-pub record-logged-requires-clause-can : goal.record-logged-requires-clause-can
-record-logged-requires-clause-can c =
+pub record-logged-requires-clause-once : goal.record-logged-requires-clause-once
+record-logged-requires-clause-once c =
     let v = c.self.inside.nodes in
     let b = c.reserve.new.self.books in
     let t = c.in_ok-turn.turn in
     let is = settled-as _ c.turn.new.self.nodes t.out.answer t.out.settled.items c.deref.result.now c.in_ok-turn.ensures.step c.deref.ensures.value in
     let same = ap (group_of v) c.reserve.ensures.books ∙ c.self.view_is in
-    can-record v c.turn.new.self b c.args.event.now t.out.answer c.deref.result.now (call_in b.asked t.call)
+    once-logged v c.turn.new.self b c.args.event.now t.out.answer c.deref.result.now (call_in b.asked t.call)
     (c.self.invariant.shape ∙ sym (ap (λ (x : Books). x.shape) c.reserve.ensures.books)) is c.in_ok-turn.ensures.call
     (subst (λ (x : Books). HasRun (group_of v x)) (sym c.reserve.ensures.books) c.self.invariant.run) (subst (λ (w : World). MayCome w c.args.event.now) (sym same) c.requires.may)
 
