@@ -8,7 +8,7 @@ mkdir -p "$work/crates/process_bench/src"
 cp "$top/bench/process/main.rattle" "$work/crates/process_bench/src/main.rt"
 uses=data_process
 while :; do
-    more=$(for name in $uses; do echo "$name"; sed -n "s/^$name://p" "$top/crates.txt" | tr ' ' '\n' | while read -r used; do [ -d "$top/crates/$used" ] && echo "$used"; done; done | sort -u | tr '\n' ' ')
+    more=$(for name in $uses; do echo "$name"; sed -n "s/^$name://p" "$top/crates.txt" | tr ' ' '\n' | while read -r used; do if [ -d "$top/crates/$used" ]; then echo "$used"; fi; done; done | sort -u | tr '\n' ' ')
     [ "$more" = "$uses" ] && break
     uses=$more
 done
