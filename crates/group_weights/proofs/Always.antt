@@ -1,11 +1,10 @@
 -- Along every run each delivery lowers the weight of what is on its way, so draining ends.
-use Rattle.std.proofs.Common.{◌≡◌, ◌≢◌, ◌<◌, ◌+◌, ◌⊎◌, inl, inr, Bool, true, false, List, [], ◌∷◌, length, refl, sym, ap, subst, ◌∙◌, arith}
+use Rattle.std.proofs.Common.{◌≡◌, ◌≢◌, ◌<◌, ◌+◌, Bool, true, false, List, [], ◌∷◌, length, refl, sym, ap, subst, ◌∙◌, arith}
 use Rattle.group_types.specs.Dimensions.{Dimensions}
 use Rattle.group_types.specs.Lists.{at}
 use Rattle.group_types.specs.Names.{IsProcess, index_of}
 use Rattle.group_types.specs.Shape.{IsShape}
 use Rattle.group_types.specs.declared.process.ProcessId.{ProcessId}
-use Rattle.group_types.proofs.Names.{same-cases}
 use Rattle.group_message.specs.declared.message.Message.{Message}
 use Rattle.group_message.specs.declared.message.Message.TheVariants as tells
 use Rattle.group_calls.specs.declared.event.Answer.TheVariants as says
@@ -17,11 +16,11 @@ use Rattle.group_run.specs.History.{History, history_of, no_history}
 use Rattle.group_run.specs.Process.{Node}
 use Rattle.group_run.specs.Progress.{DeliveryLowers}
 use Rattle.group_run.specs.Receiving.{receive}
-use Rattle.group_run.specs.World.{DeliveryStep, World, delivered, link_emptied, node_after, node_in, node_of, opening, step, with_link, with_node, world_after}
+use Rattle.group_run.specs.World.{DeliveryStep, World, delivered, link_emptied, node_after, node_in, node_of, opening, sent_to, step, with_link, with_node, world_after}
 use Rattle.group_frame.proofs.Events.{emptied-dead}
 use Rattle.group_frame.specs.State.{state_from, state_of}
 use Rattle.group_frame.proofs.Events.{FramedHistory}
-use Rattle.group_frame.proofs.Reading.{node-here, node-other, size-with_node}
+use Rattle.group_frame.proofs.Reading.{node-other, size-with_node}
 use Rattle.group_frame.proofs.Runs.{framed-from, framed-opening, shape-from, world-from}
 use Rattle.group_frame.proofs.Steps.{popped}
 use Rattle.group_members.specs.Members.{Each}
@@ -32,7 +31,7 @@ use Rattle.group_headline.proofs.All.{whole-always}
 use Rattle.group_headline.proofs.Always.{sound-always}
 use Rattle.group_weights.specs.Laws.{DrainsEnd, EndsAlways, LowersAlways}
 use Rattle.group_weights.proofs.Differing.{differ-below}
-use Rattle.group_weights.proofs.Loads.{Sends, load-is, popped-weighs, received-weighs, sends-weigh, way_of, weights}
+use Rattle.group_weights.proofs.Loads.{Adds, adds-weigh, load-is, node-adds, popped-weighs, received-weighs, sent-sum, way_of, weights}
 use Rattle.group_weights.proofs.Sending.{FewRows, receive-sends}
 
 module _ (s : Dimensions) (shaped : IsShape s) (nodes : List Node) (size : length nodes ≡ s.k + s.m) where
@@ -47,9 +46,10 @@ module _ (s : Dimensions) (shaped : IsShape s) (nodes : List Node) (size : lengt
   delivery-lowers x p xin pin apart false false isdead [] is few done = absurd (cc done)
   delivery-lowers x p xin pin apart false false isdead (m ∷ rest) is few done =
       let out = popped-weighs s (state_from s nodes []) (state_from s left []) x p m xin pin isdead (popped s nodes size [] x p m rest xin pin is) in
-      let sent = sends-weigh s (state_from s left []) (state_from s (with_node s p received left) []) p turn.sent pin sends in
+      let added = adds-weigh s (state_from s left []) (state_from s (with_node s p received left) []) p (λ q. weights (sent_to q turn.sent)) adds in
+      let sent = sent-sum s turn.sent in
       let less = receive-sends s shaped x m (node_in s nodes p).process (few m rest refl refl) in
-      omega (arith, out, sent, less)
+      omega (arith, out, added, sent, less)
     where
       turn : ProcessStep
       turn = receive s x m (node_in s nodes p).process
@@ -66,27 +66,12 @@ module _ (s : Dimensions) (shaped : IsShape s) (nodes : List Node) (size : lengt
       stays : node_in s left p ≡ node_in s nodes p
       stays = node-other s nodes x p (with_link s p rest (node_in s nodes x)) xin pin (λ same. apart (sym same)) size
 
-      here : node_in s (with_node s p received left) p ≡ received
-      here = node-here s left p received
-
-      there : (q : ProcessId) → IsProcess s q → q ≢ p → node_in s (with_node s p received left) q ≡ node_in s left q
-      there q qin other = node-other s left p q received pin qin other many
-
-      sends : Sends s (state_from s left []) (state_from s (with_node s p received left) []) p turn.sent
-      sends = record {
-        dead = λ q qin. by q qin (same-cases q p);
-        here = λ q qin.
-            let now = ap (λ (n : Node). weights (at [] n.links (index_of s q))) here in
-            let before = ap (λ (n : Node). weights (at [] n.links (index_of s q))) stays in
-            let less = received-weighs s m turn (node_in s nodes p) q qin in
-            omega (arith, now, before, less);
-        others = λ y q yin qin other. ap (λ (n : Node). at [] n.links (index_of s q)) (there y yin other);
-      } where
-        by : (q : ProcessId) → IsProcess s q → (q ≡ p) ⊎ (q ≢ p) → (node_in s (with_node s p received left) q).dead ≡ (node_in s left q).dead
-        by q qin (inr other) = ap (λ (n : Node). n.dead) (there q qin other)
-        by q qin (inl same) =
-            ap (λ (z : ProcessId). (node_in s (with_node s p received left) z).dead) same ∙ ap (λ (n : Node). n.dead) here
-            ∙ emptied-dead s m (node_after s turn (node_in s nodes p)) ∙ ap (λ (n : Node). n.dead) (sym stays) ∙ ap (λ (z : ProcessId). (node_in s left z).dead) (sym same)
+      adds : Adds s (state_from s left []) (state_from s (with_node s p received left) []) p (λ q. weights (sent_to q turn.sent))
+      adds = node-adds s left p received (λ q. weights (sent_to q turn.sent)) many pin (emptied-dead s m (node_after s turn (node_in s nodes p)) ∙ ap (λ (n : Node). n.dead) (sym stays))
+          (λ q qin.
+          let before = ap (λ (n : Node). weights (at [] n.links (index_of s q))) stays in
+          let less = received-weighs s m turn (node_in s nodes p) q qin in
+          omega (arith, before, less))
 
 -- the questions for blocks that are on their way to the living name few rows
 few-from : (s : Dimensions) → IsShape s → (x : ProcessId) (m : Message) → Sound s x m → FewRows m

@@ -8,6 +8,7 @@ use Rattle.group_types.proofs.Lists.{map-put}
 use Rattle.group_types.proofs.Names.{index-below, same-cases}
 use Rattle.membership.specs.Members.{count_dead}
 use Rattle.group_message.specs.declared.message.Message.{Message}
+use Rattle.group_calls.specs.declared.event.Answer.TheVariants as says
 use Rattle.group_calls.specs.declared.event.Event.{Event}
 use Rattle.group_calls.specs.declared.event.Event.TheVariants.{Deliver}
 use Rattle.group_run.specs.Headline.{IsRun, IsRunFrom, MayCome}
@@ -33,7 +34,7 @@ pub record Ready (w : World) : Type 0 where
   pub many : length w.nodes ≡ w.shape.k + w.shape.m
   pub words : NodesKnowDown w
 
-ready-after : (s : Dimensions) (es : List Event) → IsRun s es → Ready (after s es)
+pub ready-after : (s : Dimensions) (es : List Event) → IsRun s es → Ready (after s es)
 ready-after s es run = record {
   lowers = deliveries_lower s es run;
   many = subst (λ (w : World). length w.nodes ≡ w.shape.k + w.shape.m) (world-from (no_history s) es) (framed-from (no_history s) es (framed-opening s) run.1).nodes_many;
@@ -44,26 +45,31 @@ ready-after s es run = record {
 abbrev Empty : World → ProcessId → ProcessId → Type 0
 Empty w p q = Lives w q → p ≢ q → link w p q ≡ []
 
--- a message that waits for a living process can be delivered
+-- a message that waits for a living process comes with its delivery
+pub message-comes : (w : World) → NodesKnowDown w → ¬ (IsDown w) → (from to : ProcessId) (m : Message) (rest : List Message) → Lives w to → link w from to ≡ m ∷ rest
+    → (step w (Deliver from to)).turn.answer ≡ says.Done
+message-comes w words up from to m rest lives first =
+    ap (λ (b : Bool). (delivered b (node_of w to).dead w.shape from to (node_of w from) (node_of w to) (link w from to)).receiver.answer) (words to lives.0 ∙ not_above)
+    ∙ ap (λ (b : Bool). (delivered false b w.shape from to (node_of w from) (node_of w to) (link w from to)).receiver.answer) lives.1
+    ∙ ap (λ (ms : List Message). (delivered false false w.shape from to (node_of w from) (node_of w to) ms).receiver.answer) first
+  where
+    few : dead_nodes w.nodes ≤ w.shape.m
+    few = by (nat_lt w.shape.m (dead_nodes w.nodes)) refl where
+      by : (b : Bool) → nat_lt w.shape.m (dead_nodes w.nodes) ≡ b → dead_nodes w.nodes ≤ w.shape.m
+      by true is = absurd (up (grind (arith, common_steps)))
+      by false is = grind (arith, common_steps)
+
+    not_above : nat_lt w.shape.m (dead_nodes w.nodes) ≡ false
+    not_above = let least = few in grind (arith, common_steps)
+
 can-come : (w : World) → NodesKnowDown w → ¬ (IsDown w) → (from to : ProcessId) (m : Message) (rest : List Message) → IsProcess w.shape from → Lives w to
     → from ≢ to → link w from to ≡ m ∷ rest → HasDelivery w
 can-come w words up from to m rest fin lives apart first = record {
   from = from;
   to = to;
   may = (fin, lives.0, apart);
-  done =
-      ap (λ (b : Bool). (delivered b (node_of w to).dead w.shape from to (node_of w from) (node_of w to) (link w from to)).receiver.answer) (words to lives.0 ∙ not_above)
-      ∙ ap (λ (b : Bool). (delivered false b w.shape from to (node_of w from) (node_of w to) (link w from to)).receiver.answer) lives.1
-      ∙ ap (λ (ms : List Message). (delivered false false w.shape from to (node_of w from) (node_of w to) ms).receiver.answer) first;
-} where
-  few : dead_nodes w.nodes ≤ w.shape.m
-  few = by (nat_lt w.shape.m (dead_nodes w.nodes)) refl where
-    by : (b : Bool) → nat_lt w.shape.m (dead_nodes w.nodes) ≡ b → dead_nodes w.nodes ≤ w.shape.m
-    by true is = absurd (up (grind (arith, common_steps)))
-    by false is = grind (arith, common_steps)
-
-  not_above : nat_lt w.shape.m (dead_nodes w.nodes) ≡ false
-  not_above = let least = few in grind (arith, common_steps)
+  done = message-comes w words up from to m rest lives first;
+}
 
 module _ (w : World) (words : NodesKnowDown w) (up : ¬ (IsDown w)) where
   -- the link from one process to another is drained, or has a delivery
@@ -129,7 +135,7 @@ words-stay s x p sender receiver false true ms = (refl, refl)
 words-stay s x p sender receiver false false [] = (refl, refl)
 words-stay s x p sender receiver false false (m ∷ rest) = (refl, emptied-dead s m (node_after s (receive s x m receiver.process) receiver))
 
-still-up : (w : World) → length w.nodes ≡ w.shape.k + w.shape.m → (from to : ProcessId) → MayCome w (Deliver from to) → ¬ (IsDown w) → ¬ (IsDown (step w (Deliver from to)).world)
+pub still-up : (w : World) → length w.nodes ≡ w.shape.k + w.shape.m → (from to : ProcessId) → MayCome w (Deliver from to) → ¬ (IsDown w) → ¬ (IsDown (step w (Deliver from to)).world)
 still-up w size from to may up down =
     let same = two-dead w.shape w.nodes size from to may.0 may.1 may.2 (deliver_nodes w.shape from to (node_of w from) (node_of w to))
     (words-stay w.shape from to (node_of w from) (node_of w to) (node_of w to).down (node_of w to).dead (link w from to)) in

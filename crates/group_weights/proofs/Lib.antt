@@ -3,3 +3,8 @@ pub mod Sending
 pub mod Loads
 pub mod Always
 pub mod Drained
+pub mod Outward
+pub mod Alone
+pub mod Next
+pub mod Rising
+pub mod Whole

@@ -1,5 +1,5 @@
 -- The weight of what is on its way to living processes, and how a delivery changes it.
-use Rattle.std.proofs.Common.{ℕ, zero, suc, ◌≡◌, ◌≢◌, ◌≤◌, ◌+◌, ◌⊎◌, inl, inr, Bool, true, false, List, [], ◌∷◌, ◌++◌, map, if◌then◌else◌, refl, sym, ap, ◌∙◌, arith}
+use Rattle.std.proofs.Common.{ℕ, zero, suc, ◌≡◌, ◌≢◌, ◌≤◌, ◌+◌, ◌⊎◌, inl, inr, Bool, true, false, List, [], ◌∷◌, ◌++◌, length, map, if◌then◌else◌, refl, sym, ap, ◌∙◌, arith}
 use Rattle.std.specs.Prelude.{sum_by}
 use Rattle.std.proofs.lemmas.List.Sums.{sum_by-cons}
 use Rattle.std.specs.List.{range_with_len}
@@ -15,10 +15,10 @@ use Rattle.group_run.specs.Applying.{ProcessStep, Sent}
 use Rattle.group_run.specs.Draining.{node_at}
 use Rattle.group_run.specs.Process.{Node}
 use Rattle.group_run.specs.Progress.{load_from, load_of, weight_of}
-use Rattle.group_run.specs.World.{World, front_if, link_after, link_emptied, links_after, links_without, node_after, sent_to}
+use Rattle.group_run.specs.World.{World, front_if, link_after, link_emptied, links_after, links_without, node_after, node_in, sent_to, with_node}
 use Rattle.group_frame.specs.Moves.{Popped}
 use Rattle.group_frame.specs.State.{State, state_from}
-use Rattle.group_frame.proofs.Reading.{at-indices, grown-is, link-sent}
+use Rattle.group_frame.proofs.Reading.{at-indices, grown-is, link-sent, node-here, node-other}
 use Rattle.group_sessions.specs.Tokens.{everyone, sum_of}
 use Rattle.group_sessions.proofs.Sums.{everyone-inside, everyone-once, only-here, only_at, sum-both, sum-le, sum-less, sum-only, sum-zero, within-everyone}
 use Rattle.group_weights.proofs.Sending.{sent_weight}
@@ -28,7 +28,7 @@ abbrev pub weights : List Message → ℕ
 weights [] = 0
 weights (m ∷ ms) = weight_of m + weights ms
 
-weights-append : (a b : List Message) → weights (a ++ b) ≡ weights a + weights b
+pub weights-append : (a b : List Message) → weights (a ++ b) ≡ weights a + weights b
 weights-append [] b = omega arith
 weights-append (m ∷ ms) b = let rest = weights-append ms b in omega (arith, rest)
 
@@ -98,7 +98,7 @@ link-weighs true old sent = omega arith
 link-weighs false old sent = let is = ap weights (grown-is old sent) in let both = weights-append old sent in omega (arith, is, both)
 
 module _ (s : Dimensions) where
-  after-weighs : (t : ProcessStep) (node : Node) (q : ProcessId) → IsProcess s q
+  pub after-weighs : (t : ProcessStep) (node : Node) (q : ProcessId) → IsProcess s q
       → weights (at [] (node_after s t node).links (index_of s q)) ≤ weights (at [] node.links (index_of s q)) + weights (sent_to q t.sent)
   after-weighs t node q qin =
       let is = ap weights (link-sent s t.process.known t.sent node.links q qin) in
@@ -133,14 +133,14 @@ module _ (s : Dimensions) where
   received-weighs (tells.Row session bytes stamp) t node q qin = after-weighs t node q qin
   received-weighs (tells.Cease upto) t node q qin = after-weighs t node q qin
 
-  -- the words of who is dead stay, and links weigh alike
-  way-le : (v w : State) (x q : ProcessId) (c : ℕ) → w.dead q ≡ v.dead q → weights (w.link x q) ≤ weights (v.link x q) + c → on_way w x q ≤ on_way v x q + c
-  way-le v w x q c same less = by (v.dead q) (w.dead q) (same) where
-    by : (a b : Bool) → b ≡ a → (if b then 0 else weights (w.link x q)) ≤ (if a then 0 else weights (v.link x q)) + c
+  -- the dead stay dead, and a link weighs at most so much more
+  way-le : (v w : State) (x q : ProcessId) (c : ℕ) → (v.dead q ≡ true → w.dead q ≡ true) → weights (w.link x q) ≤ weights (v.link x q) + c → on_way w x q ≤ on_way v x q + c
+  way-le v w x q c dead less = by (v.dead q) (w.dead q) dead where
+    by : (a b : Bool) → (a ≡ true → b ≡ true) → (if b then 0 else weights (w.link x q)) ≤ (if a then 0 else weights (v.link x q)) + c
     by true true is = omega arith
     by false false is = omega (arith, less)
-    by true false is = absurd (cc is)
-    by false true is = absurd (cc is)
+    by true false is = absurd (cc (is refl))
+    by false true is = omega arith
 
   way-living : (v : State) (x q : ProcessId) → v.dead q ≡ false → on_way v x q ≡ weights (v.link x q)
   way-living v x q lives = ap (λ (b : Bool). if b then 0 else weights (v.link x q)) lives
@@ -149,7 +149,7 @@ module _ (s : Dimensions) where
   pub popped-weighs : (v u : State) (x p : ProcessId) (m : Message) → IsProcess s x → IsProcess s p → v.dead p ≡ false → Popped s v u x p m → way_of s u + weight_of m ≤ way_of s v
   popped-weighs v u x p m xin pin lives pops = sum-less (everyone s) (way_from s v) (way_from s u) x (weight_of m) (within-everyone s x xin) (λ y there. every y (everyone-inside s y there)) here where
     link : (y q : ProcessId) → IsProcess s y → IsProcess s q → on_way u y q ≤ on_way v y q
-    link y q yin qin = let less = way-le v u y q 0 (pops.dead q qin) (by (same-cases y x) (same-cases q p)) in omega (arith, less) where
+    link y q yin qin = let less = way-le v u y q 0 (λ dead. pops.dead q qin ∙ dead) (by (same-cases y x) (same-cases q p)) in omega (arith, less) where
       same : u.link y q ≡ v.link y q → weights (u.link y q) ≤ weights (v.link y q) + 0
       same is = let alike = ap weights is in omega (arith, alike)
 
@@ -169,36 +169,61 @@ module _ (s : Dimensions) where
     here = sum-less (everyone s) (on_way v x) (on_way u x) p (weight_of m) (within-everyone s p pin) (λ q there. link x q xin (everyone-inside s q there))
         (let before = way-living v x p lives in let after = way-living u x p (pops.dead p pin ∙ lives) in let first = ap weights pops.first in omega (arith, before, after, first))
 
-  -- one process sends, and nothing else changes
-  pub record Sends (u w : State) (p : ProcessId) (sent : List Sent) : Type 0 where
-    pub dead : (q : ProcessId) → IsProcess s q → w.dead q ≡ u.dead q
-    pub here : (q : ProcessId) → IsProcess s q → weights (w.link p q) ≤ weights (u.link p q) + weights (sent_to q sent)
+  -- the links of one process get heavier by so much, it may die, and nothing else changes
+  pub record Adds (u w : State) (p : ProcessId) (c : ProcessId → ℕ) : Type 0 where
+    pub dead : (q : ProcessId) → IsProcess s q → u.dead q ≡ true → w.dead q ≡ true
+    pub here : (q : ProcessId) → IsProcess s q → weights (w.link p q) ≤ weights (u.link p q) + c q
     pub others : (x q : ProcessId) → IsProcess s x → IsProcess s q → x ≢ p → w.link x q ≡ u.link x q
 
-  pub sends-weigh : (u w : State) (p : ProcessId) (sent : List Sent) → IsProcess s p → Sends u w p sent → way_of s w ≤ way_of s u + sent_weight sent
-  sends-weigh u w p sent pin sends =
-      let all = sum-le (everyone s) (λ x. way_from s u x + only_at p (sent_weight sent) x) (way_from s w) (λ x there. every x (everyone-inside s x there) (same-cases x p)) in
-      let both = sum-both (everyone s) (way_from s u) (only_at p (sent_weight sent)) in
-      let one = sum-only (everyone s) p (sent_weight sent) (everyone-once s) in
+  pub adds-weigh : (u w : State) (p : ProcessId) (c : ProcessId → ℕ) → Adds u w p c → way_of s w ≤ way_of s u + sum_of (everyone s) c
+  adds-weigh u w p c adds =
+      let all = sum-le (everyone s) (λ x. way_from s u x + only_at p total x) (way_from s w) (λ x there. every x (everyone-inside s x there) (same-cases x p)) in
+      let both = sum-both (everyone s) (way_from s u) (only_at p total) in
+      let one = sum-only (everyone s) p total (everyone-once s) in
       omega (arith, all, both, one)
     where
-      from-here : way_from s w p ≤ way_from s u p + sent_weight sent
-      from-here =
-          let all = sum-le (everyone s) (λ q. on_way u p q + weights (sent_to q sent)) (on_way w p) (λ q there. way-le u w p q (weights (sent_to q sent)) (sends.dead q (everyone-inside s q there)) (sends.here q (everyone-inside s q there))) in
-          let both = sum-both (everyone s) (on_way u p) (λ q. weights (sent_to q sent)) in
-          let sum = sent-sum s sent in
-          omega (arith, all, both, sum)
+      total : ℕ
+      total = sum_of (everyone s) c
 
-      every : (x : ProcessId) → IsProcess s x → (x ≡ p) ⊎ (x ≢ p) → way_from s w x ≤ way_from s u x + only_at p (sent_weight sent) x
+      from-here : way_from s w p ≤ way_from s u p + total
+      from-here =
+          let all = sum-le (everyone s) (λ q. on_way u p q + c q) (on_way w p)
+          (λ q there. way-le u w p q (c q) (adds.dead q (everyone-inside s q there)) (adds.here q (everyone-inside s q there))) in
+          let both = sum-both (everyone s) (on_way u p) c in
+          omega (arith, all, both)
+
+      every : (x : ProcessId) → IsProcess s x → (x ≡ p) ⊎ (x ≢ p) → way_from s w x ≤ way_from s u x + only_at p total x
       every x xin (inl is) =
-          let only = only-here p x (sent_weight sent) is in
+          let only = only-here p x total is in
           let a = ap (way_from s w) is in
           let b = ap (way_from s u) is in
           let less = from-here in
           omega (arith, only, a, b, less)
       every x xin (inr other) =
           let less = sum-le (everyone s) (on_way u x) (on_way w x) (λ q there.
-          let alike = ap weights (sends.others x q xin (everyone-inside s q there) other) in
-          let one = way-le u w x q 0 (sends.dead q (everyone-inside s q there)) (omega (arith, alike)) in
+          let alike = ap weights (adds.others x q xin (everyone-inside s q there) other) in
+          let one = way-le u w x q 0 (adds.dead q (everyone-inside s q there)) (omega (arith, alike)) in
           omega (arith, one)) in
           omega (arith, less)
+
+  -- a node's links get heavier
+  pub node-adds : (nodes : List Node) (p : ProcessId) (new : Node) (c : ProcessId → ℕ) → length nodes ≡ s.k + s.m → IsProcess s p
+      → new.dead ≡ (node_in s nodes p).dead
+      → ((q : ProcessId) → IsProcess s q → weights (at [] new.links (index_of s q)) ≤ weights (at [] (node_in s nodes p).links (index_of s q)) + c q)
+      → Adds (state_from s nodes []) (state_from s (with_node s p new nodes) []) p c
+  node-adds nodes p new c size pin same more = record {
+    dead = λ q qin dead. by q qin dead (same-cases q p);
+    here = λ q qin. let now = ap (λ (n : Node). weights (at [] n.links (index_of s q))) here in let less = more q qin in omega (arith, now, less);
+    others = λ x q xin qin other. ap (λ (n : Node). at [] n.links (index_of s q)) (there x xin other);
+  } where
+    here : node_in s (with_node s p new nodes) p ≡ new
+    here = node-here s nodes p new
+
+    there : (q : ProcessId) → IsProcess s q → q ≢ p → node_in s (with_node s p new nodes) q ≡ node_in s nodes q
+    there q qin other = node-other s nodes p q new pin qin other size
+
+    by : (q : ProcessId) → IsProcess s q → (node_in s nodes q).dead ≡ true → (q ≡ p) ⊎ (q ≢ p) → (node_in s (with_node s p new nodes) q).dead ≡ true
+    by q qin dead (inr other) = ap (λ (n : Node). n.dead) (there q qin other) ∙ dead
+    by q qin dead (inl is) =
+        ap (λ (z : ProcessId). (node_in s (with_node s p new nodes) z).dead) is ∙ ap (λ (n : Node). n.dead) here ∙ same
+        ∙ ap (λ (z : ProcessId). (node_in s nodes z).dead) (sym is) ∙ dead
