@@ -52,10 +52,11 @@ whole (suc n) w always up most = by (next_delivery w) refl (λ v. whole n v) whe
       let less = lowers w (always [] tt).ready up e comes in
       later (step w e).world (λ gs more. always (e ∷ gs) (comes.may, more)) less.1 (let lower = less.0 in omega (arith, lower, most))
 
-whole-after : (w : World) → ((gs : List Event) → IsRunFrom w gs → Drainable (world_after w gs)) → (es : List Event) → IsRunFrom w es → ¬ (IsDown (world_after w es))
-    → next_delivery (world_after (world_after w es) (drain_events (load_of (world_after w es)) (world_after w es))) ≡ None
-whole-after w always [] run up = whole (load_of w) w always up (omega arith)
-whole-after w always (e ∷ es) run up = whole-after (step w e).world (λ gs more. always (e ∷ gs) (run.0, more)) es run.1 up
+-- what is asked at every moment is asked at every moment of what is left of a run
+always-after : (w : World) → ((gs : List Event) → IsRunFrom w gs → Drainable (world_after w gs)) → (es : List Event) → IsRunFrom w es
+    → (gs : List Event) → IsRunFrom (world_after w es) gs → Drainable (world_after (world_after w es) gs)
+always-after w always [] run = always
+always-after w always (e ∷ es) run = always-after (step w e).world (λ gs more. always (e ∷ gs) (run.0, more)) es run.1
 
 pub drains-whole : DrainsWholeAlways
-drains-whole s es run up = whole-after (opening s) (λ gs more. drainable-after s gs (run.0, more)) es run.1 up
+drains-whole s es run up = whole (load_of (after s es)) (after s es) (always-after (opening s) (λ gs more. drainable-after s gs (run.0, more)) es run.1) up (omega arith)

@@ -35,8 +35,8 @@ pub fn write_line(alloc: Global, number: u32, round: Round) -> Result<String, Al
         }
         Round::Deliver { from, to } if from == to => format!(in alloc; "drain\n"),
         Round::Deliver { from, to } => {
-            let from = write_process(alloc, process_of(from))?;
-            let to = write_process(alloc, process_of(to))?;
+            let from = write_process(alloc, nth_process(from))?;
+            let to = write_process(alloc, nth_process(to))?;
             format!(in alloc; "deliver {from} {to}\n")
         }
         Round::Drain => format!(in alloc; "drain\n"),
@@ -94,12 +94,12 @@ fn process_asked(number: u32, home: u32) -> ProcessId
 }
 
 #[tactic(auto, unfolding(crate::specs::Rounds::process_at))]
-fn process_of(place: u32) -> ProcessId
-    ensures { result ≡ process_at place }
+fn nth_process(n: u32) -> ProcessId
+    ensures { result ≡ process_at n }
 {
-    if place < DATA_PROCESSES {
-        ProcessId::DataNode(place)
+    if n < DATA_PROCESSES {
+        ProcessId::DataNode(n)
     } else {
-        ProcessId::ParityNode(place - DATA_PROCESSES)
+        ProcessId::ParityNode(n - DATA_PROCESSES)
     }
 }
