@@ -117,7 +117,7 @@ pub(crate) fn read_process(word: &[u8]) -> Result<ProcessId, Fault>
 
 /// Reads how many messages each link keeps.
 #[tactic(auto, unfolding(crate::specs::Words::keep_word))]
-pub(crate) fn read_keep(word: &[u8]) -> Result<u32, Fault>
+pub fn read_keep(word: &[u8]) -> Result<u32, Fault>
     ensures { Gives result (keep_word word.now) }
 {
     if word == b"all".as_slice() {
@@ -126,7 +126,8 @@ pub(crate) fn read_keep(word: &[u8]) -> Result<u32, Fault>
     read_u32(Word::Keep, word)
 }
 
-fn signed(word: &[u8]) -> Option<i64>
+/// The number of 64 bits with an optional minus sign, if the word is one.
+pub fn signed(word: &[u8]) -> Option<i64>
     ensures { result ≡ signed_of word.now }
 {
     match word {

@@ -1,2 +1,5 @@
 pub mod Limits
-pub mod Asks
+pub mod Lines
+pub mod Read
+pub mod Stamps
+pub mod Values

@@ -1,15 +1,16 @@
-use Rattle.std.proofs.Common.{◌≡◌, ℕ, ◌==◌, ◌&&◌, nat_lt, not, true, false, List, Some, None, refl, sym, ap, arith}
+use Rattle.std.proofs.Common.{◌≡◌, ℕ, ◌==◌, ◌&&◌, nat_lt, not, true, false, List, Some, None, Ok, Err, refl, sym, ap, arith}
 use Rattle.std.proofs.lemmas.Bool.Decides.{nat_tests}
 use Rattle.std.proofs.lemmas.Grind.{common_steps}
 use Rattle.std.proofs.lemmas.List.Sums.{list_all-from_AllPass}
 use Rattle.group_types.specs.Dimensions.{Dimensions}
 use Rattle.group_types.specs.Key.{IsKey, IsKeyByte}
-use Rattle.group_types.specs.Shape.{IsShape, IsFirstOutOfRange}
+use Rattle.group_types.specs.Shape.{IsShape, IsFieldInRange, IsFirstOutOfRange}
 use Rattle.group_types.specs.declared.shape.Field.{Field}
 use Rattle.group_types.specs.declared.shape.Field.TheVariants.{K, M, Block, Blocks}
-use Rattle.scenario_text.specs.Meaning.{is_shape, group_within}
+use Rattle.scenario_text.specs.Meaning.{is_in_range, first_out_of_range, group_within}
 use Rattle.scenario_text.specs.Words.{key_of_word}
 use Rattle.scenario_text.specs.declared.line.Line.TheVariants.{Group}
+use Rattle.scenario_text.specs.declared.line.LineFault.TheVariants.{BadShape}
 
 key_byte_passes : (b : ℕ) → IsKeyByte b → (nat_lt 32 b && not (b == 127)) ≡ true
 key_byte_passes b (low, plain) = grind (arith, nat_tests, common_steps)
@@ -22,24 +23,32 @@ key_of_word-key word key =
     let short = key.short in
     grind (arith, nat_tests, common_steps)
 
-pub is_shape-holds : (d : Dimensions) → IsShape d → is_shape d ≡ true
-is_shape-holds d shape =
-    let k = shape.k in
-    let m = shape.m in
-    let block = shape.block in
-    let blocks = shape.blocks in
-    grind (arith, nat_tests, common_steps)
+in_range : (d : Dimensions) (field : Field) → IsFieldInRange d field → is_in_range d field ≡ true
+in_range d K within = grind (arith, nat_tests, common_steps)
+in_range d M within = grind (arith, nat_tests, common_steps)
+in_range d Block within = grind (arith, nat_tests, common_steps)
+in_range d Blocks within = grind (arith, nat_tests, common_steps)
 
-pub is_shape-fails : (d : Dimensions) (field : Field) → IsFirstOutOfRange d field → is_shape d ≡ false
-is_shape-fails d K out = grind (arith, nat_tests, common_steps)
-is_shape-fails d M out = grind (arith, nat_tests, common_steps)
-is_shape-fails d Block out = grind (arith, nat_tests, common_steps)
-is_shape-fails d Blocks out = grind (arith, nat_tests, common_steps)
+out_of_range : (d : Dimensions) (field : Field) → ¬ (IsFieldInRange d field) → is_in_range d field ≡ false
+out_of_range d K out = grind (arith, nat_tests, common_steps)
+out_of_range d M out = grind (arith, nat_tests, common_steps)
+out_of_range d Block out = grind (arith, nat_tests, common_steps)
+out_of_range d Blocks out = grind (arith, nat_tests, common_steps)
 
-pub group_within-shape : (d s : Dimensions) → s ≡ d → IsShape d → group_within d ≡ Some (Group s)
+none_out : (d : Dimensions) → IsShape d → first_out_of_range d ≡ None
+none_out d shape = rw (in_range d K shape.k, in_range d M shape.m, in_range d Block shape.block, in_range d Blocks shape.blocks) refl
+
+first_out : (d : Dimensions) (field : Field) → IsFirstOutOfRange d field → first_out_of_range d ≡ Some field
+first_out d K out = rw (out_of_range d K out) refl
+first_out d M (k, out) = rw (in_range d K k, out_of_range d M out) refl
+first_out d Block (k, m, out) = rw (in_range d K k, in_range d M m, out_of_range d Block out) refl
+first_out d Blocks (k, m, block, out) = rw (in_range d K k, in_range d M m, in_range d Block block, out_of_range d Blocks out) refl
+
+pub group_within-shape : (d s : Dimensions) → s ≡ d → IsShape d → group_within d ≡ Ok (Group s)
 unfolding group_within
-group_within-shape d s same shape = rw (is_shape-holds d shape) (ap (λ (x : Dimensions). Some (Group x)) (sym same))
+group_within-shape d s same shape = rw (none_out d shape) (ap (λ (x : Dimensions). Ok (Group x)) (sym same))
 
-pub group_within-none : (d : Dimensions) (field : Field) → IsFirstOutOfRange d field → group_within d ≡ None
+-- the refusal of a group line names the field that group_types refuses
+pub group_within-fault : (d : Dimensions) (field : Field) → IsFirstOutOfRange d field → group_within d ≡ Err (BadShape field)
 unfolding group_within
-group_within-none d field out = rw (is_shape-fails d field out) refl
+group_within-fault d field out = rw (first_out d field out) refl

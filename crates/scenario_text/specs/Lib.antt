@@ -1,3 +1,4 @@
+pub mod Acts
 pub mod Meaning
 pub mod Reads
 pub mod Texts

@@ -99,3 +99,17 @@ entry_text entry = name_text entry.caller entry.call entry.op.moment ++ act_text
 abbrev pub entries_text : List Entry → List ℕ
 entries_text [] = []
 entries_text (entry ∷ entries) = entry_text entry ++ 10 ∷ entries_text entries
+
+-- numbers, each behind a comma
+abbrev pub behind_commas : List ℕ → List ℕ
+behind_commas [] = []
+behind_commas (n ∷ ns) = codes "," ++ decimal n ++ behind_commas ns
+
+-- the numbers of a stamp, joined by commas
+abbrev pub stamp_text : List ℕ → List ℕ
+stamp_text [] = []
+stamp_text (n ∷ ns) = decimal n ++ behind_commas ns
+
+-- what a process shows: its stamp, and the bytes of a run
+abbrev pub shown_text : List ℕ → List ℕ → List ℕ
+shown_text stamp bytes = codes "shown " ++ stamp_text stamp ++ codes " " ++ value_text bytes

@@ -1,41 +1,53 @@
-use Rattle.std.specs.Prelude.{ℕ, ◌==◌, nat_le, nat_lt, ◌&&◌, Bool, List, [], ◌∷◌, length, codes, Option, Some, None, if◌then◌else◌, not}
-use Rattle.std.specs.List.{slice_split, list_all}
+use Rattle.std.specs.Prelude.{ℕ, ◌+◌, ◌^◌, ◌==◌, nat_le, nat_lt, List, [], ◌∷◌, length, replicate, codes, Option, Some, None, option_map, option_and_then, if◌then◌else◌}
+use Rattle.std.specs.List.{slice_split}
 use Rattle.std.specs.Result.{result_ok}
 use Rattle.std.specs.Str.{bytes_eq}
 use Rattle.group_types.specs.Dimensions.{Dimensions}
+use Rattle.group_types.specs.declared.process.Partition.{Partition}
 use Rattle.group_types.specs.declared.process.ProcessId.{ProcessId}
-use Rattle.group_types.specs.declared.process.ProcessId.TheVariants.{DataNode}
+use Rattle.group_types.specs.declared.process.ProcessId.TheVariants.{DataNode, ParityNode}
+use Rattle.group_types.specs.declared.run.Run.{Run}
 use Rattle.hex.specs.Hex.{decode_of}
+use Rattle.memc_proto.specs.Words.{if_below, is_key_word, keep_word}
 use Rattle.memc_table.specs.Numeral.{number_of}
 use Rattle.memc_table.specs.Ruling.{longest_value}
+
+-- what comes of words that are read in turn: nothing, where one of them has no meaning
+infixl 10 ◌>>=◌
+abbrev pub ◌>>=◌ : {A B : Type 0} → Option A → (A → Option B) → Option B
+o >>= f = option_and_then f o
 
 -- the words of a line: what stands between its single spaces. Two spaces together, and one at
 -- either end, leave an empty word, which has no meaning anywhere
 abbrev pub words_of : List ℕ → List (List ℕ)
 words_of line = slice_split (λ b. b == 32) line
 
--- the number, if it is below the limit
-abbrev pub if_below : ℕ → Option ℕ → Option ℕ
-if_below limit None = None
-if_below limit (Some n) = if nat_lt n limit then Some n else None
-
 -- the number of a number word, if it is below the limit
 unfoldable pub number_below : ℕ → List ℕ → Option ℕ
 number_below limit word = if_below limit (number_of word)
 
--- the data process of a number
-abbrev pub data_node : Option ℕ → Option ProcessId
-data_node None = None
-data_node (Some d) = Some (DataNode d)
-
--- the process that a word names: `d` and the number of a data process of the group
+-- the process that a word names: `d` or `p`, and the number of such a process of the group
 unfoldable pub process_of_word : Dimensions → List ℕ → Option ProcessId
 process_of_word shape [] = None
-process_of_word shape (letter ∷ digits) = if letter == 100 then data_node (number_below shape.k digits) else None
+process_of_word shape (letter ∷ digits) =
+    if letter == 100 then option_map DataNode (number_below shape.k digits)
+    else (if letter == 112 then option_map ParityNode (number_below shape.m digits)
+    else None)
 
--- whether a word meets memcached's limits of a key
-abbrev pub is_key_word : List ℕ → Bool
-is_key_word word = nat_le 1 (length word) && nat_le (length word) 250 && list_all (λ b. nat_lt 32 b && not (b == 127)) word
+-- the partition that a word names
+abbrev pub partition_of_word : Dimensions → List ℕ → Option Partition
+partition_of_word shape word = option_map (λ d. record { 0 = d }) (number_below shape.k word)
+
+-- the run of an address and a length
+abbrev pub run_of : List ℕ → List ℕ → Option Run
+run_of at len = do
+  at ← number_below (2 ^ 32) at
+  len ← number_below (2 ^ 32) len
+  Some (record { at = at; len = len })
+
+-- how many messages each link keeps: `all`, or a number of 32 bits
+abbrev pub keep_of_word : List ℕ → Option ℕ
+keep_of_word word = result_ok (keep_word word)
 
 -- the key that a word is
 unfoldable pub key_of_word : List ℕ → Option (List ℕ)
@@ -50,7 +62,23 @@ abbrev pub if_short : Option (List ℕ) → Option (List ℕ)
 if_short None = None
 if_short (Some value) = if nat_le (length value) longest_value then Some value else None
 
--- the value that a word is: `-` for no bytes, or hexadecimal digits
+-- so many bytes, of one that is given
+abbrev pub bytes_of : ℕ → List ℕ → Option (List ℕ)
+bytes_of len (byte ∷ []) = if nat_lt 0 len then Some (replicate len byte) else None
+bytes_of len _ = None
+
+-- a length and the two digits of a byte: so many of this byte
+abbrev pub repeated : List (List ℕ) → Option (List ℕ)
+repeated (len ∷ digits ∷ []) = do
+  len ← number_below (longest_value + 1) len
+  byte ← hex_value digits
+  bytes_of len byte
+repeated _ = None
+
+-- the value that a word is: `-` for no bytes, `*<len>*<digits of a byte>`, or hexadecimal digits
 unfoldable pub value_of_word : List ℕ → Option (List ℕ)
 value_of_word [] = None
-value_of_word (b ∷ bs) = if bytes_eq (b ∷ bs) (codes "-") then Some [] else if_short (hex_value (b ∷ bs))
+value_of_word (b ∷ bs) =
+    if bytes_eq (b ∷ bs) (codes "-") then Some []
+    else (if b == 42 then repeated (slice_split (λ c. c == 42) bs)
+    else if_short (hex_value (b ∷ bs)))

@@ -99,7 +99,7 @@ fn write_stored(
     ensures { IfOk result (λ text. text.items ≡ stored_text front.items expiry value.now) }
 {
     let mut text = joined(front, b" ")?;
-    text.extend_from_slice(&write_value(alloc, value)?)?;
+    text.extend_from_slice(&write_value(alloc, value.bytes())?)?;
     if expiry != 0 {
         text.extend_from_slice(format!(in alloc; " {expiry}")?.as_bytes())?;
     }

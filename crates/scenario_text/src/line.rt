@@ -1,4 +1,4 @@
-use group_types::{KeyFault, ProcessId, Shape};
+use group_types::{BadShape, Field, Partition, ProcessId, Run, Shape};
 use memc_table::Act;
 use std::alloc::AllocError;
 use std::error::Error;
@@ -19,23 +19,64 @@ pub enum Line {
         at: ProcessId,
         act: Act,
     },
+    /// The end of a call that was asked.
+    Collect {
+        caller: u32,
+        call: u64,
+        at: ProcessId,
+    },
+    /// The oldest message of the link between two different processes.
+    Deliver {
+        from: ProcessId,
+        to: ProcessId,
+    },
+    /// The death of a process: each of its links keeps so many messages.
+    Fail {
+        at: ProcessId,
+        keep: u32,
+    },
+    /// The settled number of a process, told to those behind it.
+    Flush {
+        at: ProcessId,
+    },
+    /// The fate of a call in a partition.
+    Trace {
+        caller: u32,
+        call: u64,
+        partition: Partition,
+        at: ProcessId,
+    },
+    /// Deliveries until there is no message left.
+    Drain,
+    /// A look at the bytes of a run in the space of a process.
+    Show {
+        at: ProcessId,
+        run: Run,
+    },
+    /// The moment of the asks that follow.
+    Time {
+        moment: u64,
+    },
     /// The end: nothing more is looked at.
     Stop,
 }
 
-/// Why a line was not read: it is no script line, or there was no memory.
+/// Why a line was not read: it is no script line, it is a group line with this field out of range, or
+/// there was no memory.
 #[derive(Clone, Copy, Debug, PartialEq, Eq)]
 pub enum LineFault {
     BadLine,
+    BadShape(Field),
     Want,
 }
 
 impl fmt::Display for LineFault {
     fn fmt<W: fmt::Write>(&self, f: &mut fmt::Formatter<W>) -> fmt::Result {
-        f.write_str(match self {
-            LineFault::BadLine => "no line of a script",
-            LineFault::Want => "no memory for the line",
-        })
+        match self {
+            LineFault::BadLine => f.write_str("no line of a script"),
+            LineFault::BadShape(field) => BadShape { field: *field }.fmt(f),
+            LineFault::Want => f.write_str("no memory for the line"),
+        }
     }
 }
 

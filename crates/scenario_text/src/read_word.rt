@@ -1,13 +1,15 @@
 ghost use Rattle.std.specs.Prelude.{◌^◌, ◌<◌, IfOk};
 ghost use Rattle.group_types.specs.Names.{IsProcess};
-ghost use Rattle.scenario_text.specs.Reads.{IsReadAs, IsReadBy};
-ghost use Rattle.scenario_text.specs.Words.{number_below, key_of_word, value_of_word, hex_value, process_of_word};
+ghost use Rattle.memc_proto.specs.Words.{signed_of};
+ghost use Rattle.memc_table.specs.Numeral.{number_of};
+ghost use Rattle.scenario_text.specs.Reads.{IsReadAs};
+ghost use Rattle.scenario_text.specs.Words.{number_below, key_of_word, process_of_word, keep_of_word};
 
 use crate::line::LineFault;
-use group_types::{Key, KeyFault, Payload, ProcessId, Shape};
-use hex::FromHexError;
+use group_types::{Key, KeyFault, ProcessId, Shape};
+use memc_proto::field;
+use memc_proto::field::Fault;
 use memc_table::numeral::number;
-use memc_table::rule::LONGEST_VALUE;
 use std::alloc::Global;
 
 /// Reads a number word that is below `limit`: 1 to 20 decimal digits.
@@ -29,7 +31,38 @@ pub fn read_u32(word: &[u8]) -> Result<u32, LineFault>
     Ok(read_number(word, 1 << 32)? as u32)
 }
 
-/// Reads a data process of the group, as `d0`.
+/// Reads a number word of 64 bits.
+pub fn read_u64(word: &[u8]) -> Result<u64, LineFault>
+    ensures { IsReadAs result (number_of word.now) }
+{
+    match number(word) {
+        Some(number) => Ok(number),
+        None => Err(LineFault::BadLine),
+    }
+}
+
+/// Reads an exptime: a number of 64 bits with an optional minus sign.
+pub fn read_exptime(word: &[u8]) -> Result<i64, LineFault>
+    ensures { IsReadAs result (signed_of word.now) }
+{
+    match field::signed(word) {
+        Some(expiry) => Ok(expiry),
+        None => Err(LineFault::BadLine),
+    }
+}
+
+/// Reads how many messages each link keeps.
+pub fn read_keep(word: &[u8]) -> Result<u32, LineFault>
+    ensures { IsReadAs result (keep_of_word word.now) }
+{
+    match field::read_keep(word) {
+        Ok(keep) => Ok(keep),
+        Err(Fault::Wrong(_)) => Err(LineFault::BadLine),
+        Err(Fault::Want) => Err(LineFault::Want),
+    }
+}
+
+/// Reads a process of the group, as `d0` or `p0`.
 #[tactic(auto, unfolding(crate::specs::Words::process_of_word))]
 pub fn read_process(shape: Shape, word: &[u8]) -> Result<ProcessId, LineFault>
     ensures value { IsReadAs result (process_of_word shape word.now) }
@@ -39,6 +72,10 @@ pub fn read_process(shape: Shape, word: &[u8]) -> Result<ProcessId, LineFault>
         [b'd', digits @ ..] => {
             let process = read_number(digits, u64::from(shape.k()))?;
             Ok(ProcessId::DataNode(process as u32))
+        }
+        [b'p', digits @ ..] => {
+            let process = read_number(digits, u64::from(shape.m()))?;
+            Ok(ProcessId::ParityNode(process as u32))
         }
         _ => Err(LineFault::BadLine),
     }
@@ -53,33 +90,5 @@ pub fn read_key(alloc: Global, word: &[u8]) -> Result<Key, LineFault>
         Ok(key) => Ok(key),
         Err(KeyFault::BadKey) => Err(LineFault::BadLine),
         Err(KeyFault::Want) => Err(LineFault::Want),
-    }
-}
-
-/// Reads a value: `-`, or the hexadecimal digits of its bytes in either case.
-#[tactic(auto, unfolding(crate::specs::Words::value_of_word))]
-pub fn read_value(alloc: Global, word: &[u8]) -> Result<Payload, LineFault>
-    ensures { IsReadAs result (value_of_word word.now) }
-{
-    if word.is_empty() {
-        return Err(LineFault::BadLine);
-    }
-    if word == b"-".as_slice() {
-        return Ok(Payload::of(alloc, &[])?);
-    }
-    let bytes = read_hex(alloc, word)?;
-    if LONGEST_VALUE < bytes.len() {
-        return Err(LineFault::BadLine);
-    }
-    Ok(Payload::from_vec(bytes)?)
-}
-
-fn read_hex(alloc: Global, word: &[u8]) -> Result<Vec<u8>, LineFault>
-    ensures { IsReadBy (λ bytes. bytes.items) result (hex_value word.now) }
-{
-    match hex::decode(alloc, word) {
-        Ok(bytes) => Ok(bytes),
-        Err(FromHexError::OutOfMemory) => Err(LineFault::Want),
-        Err(_) => Err(LineFault::BadLine),
     }
 }

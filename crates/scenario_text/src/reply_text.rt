@@ -2,18 +2,17 @@ ghost use Rattle.std.specs.Prelude.{◌≡◌, ◌++◌, IfOk};
 ghost use Rattle.std.specs.Fmt.{decimal};
 ghost use Rattle.scenario_text.specs.Texts.{value_text, reply_text};
 
-use group_types::Payload;
 use memc_table::Reply;
 use std::alloc::{AllocError, Global};
 
 /// A value: lower-case hexadecimal digits, or `-` for no bytes.
-pub fn write_value(alloc: Global, value: &Payload) -> Result<Vec<u8>, AllocError>
+pub fn write_value(alloc: Global, value: &[u8]) -> Result<Vec<u8>, AllocError>
     ensures { IfOk result (λ text. text.items ≡ value_text value.now) }
 {
     if value.is_empty() {
         return Vec::from_slice(alloc, b"-");
     }
-    Ok(hex::encode(alloc, value.bytes())?.into_bytes())
+    Ok(hex::encode(alloc, value)?.into_bytes())
 }
 
 /// A reply.
@@ -26,7 +25,7 @@ pub fn write_reply(alloc: Global, reply: &Reply) -> Result<Vec<u8>, AllocError>
             text.extend_from_slice(format!(in alloc; " {}", item.flags)?.as_bytes())?;
             text.extend_from_slice(format!(in alloc; " {}", item.cas)?.as_bytes())?;
             text.extend_from_slice(b" ")?;
-            joined(text, &write_value(alloc, &item.value)?)
+            joined(text, &write_value(alloc, item.value.bytes())?)
         }
         Reply::Number(number) => Ok(format!(in alloc; "number {number}")?.into_bytes()),
         Reply::Miss => Vec::from_slice(alloc, b"miss"),

@@ -1,0 +1,143 @@
+ghost use Rattle.std.specs.Prelude.{◌≡◌, ◌<◌, All, map, IfOk};
+ghost use Rattle.memc_table.specs.Act.{value_of};
+ghost use Rattle.scenario_text.specs.Acts.{act_of, act_by, stored, store_of, exptime_of};
+ghost use Rattle.scenario_text.specs.Reads.{IsReadAs};
+
+use crate::line::LineFault;
+use crate::read_value::read_value;
+use crate::read_word::{read_exptime, read_key, read_u32, read_u64};
+use crate::verb::{StoreMode, Verb, verb_named};
+use group_types::{Key, Payload};
+use memc_table::Act;
+use std::alloc::Global;
+
+/// What an item is made of.
+#[derive(Drop)]
+pub struct Store {
+    pub flags: u32,
+    pub expiry: i64,
+    pub value: Payload,
+}
+
+/// Reads an op: a verb, a key, and what the verb has behind it.
+pub(crate) fn read_act(alloc: Global, words: &[&[u8]]) -> Result<Act, LineFault>
+    ensures meaning { IsReadAs result (act_of (map (λ word. word.now) words.now)) }
+    ensures bytes { IfOk result (λ act. All (λ b. b < 256) (value_of act)) }
+{
+    match words {
+        [name, key, words @ ..] => match verb_named(name) {
+            Some(verb) => act(alloc, verb, key, words),
+            None => Err(LineFault::BadLine),
+        },
+        _ => Err(LineFault::BadLine),
+    }
+}
+
+#[tactic(auto, unfolding(crate::specs::Acts::act_by))]
+fn act(alloc: Global, verb: Verb, key: &[u8], words: &[&[u8]]) -> Result<Act, LineFault>
+    ensures meaning { IsReadAs result (act_by verb key.now (map (λ word. word.now) words.now)) }
+    ensures bytes { IfOk result (λ act. All (λ b. b < 256) (value_of act)) }
+{
+    match (verb, words) {
+        (Verb::Get, []) => Ok(Act::Get {
+            key: read_key(alloc, key)?,
+        }),
+        (Verb::Store(mode), [flags, words @ ..]) => {
+            let key = read_key(alloc, key)?;
+            Ok(stored(mode, key, read_store(alloc, flags, words)?))
+        }
+        (Verb::Cas, [flags, cas, words @ ..]) => {
+            let key = read_key(alloc, key)?;
+            let cas = read_u64(cas)?;
+            let store = read_store(alloc, flags, words)?;
+            Ok(Act::Cas {
+                key,
+                flags: store.flags,
+                expiry: store.expiry,
+                cas,
+                value: store.value,
+            })
+        }
+        (Verb::Delete, []) => Ok(Act::Delete {
+            key: read_key(alloc, key)?,
+        }),
+        (Verb::Touch, [exptime]) => Ok(Act::Touch {
+            key: read_key(alloc, key)?,
+            expiry: read_exptime(exptime)?,
+        }),
+        (Verb::Append, [value]) => Ok(Act::Append {
+            key: read_key(alloc, key)?,
+            value: read_value(alloc, value)?,
+        }),
+        (Verb::Prepend, [value]) => Ok(Act::Prepend {
+            key: read_key(alloc, key)?,
+            value: read_value(alloc, value)?,
+        }),
+        (Verb::Incr, [by]) => Ok(Act::Incr {
+            key: read_key(alloc, key)?,
+            by: read_u64(by)?,
+        }),
+        (Verb::Decr, [by]) => Ok(Act::Decr {
+            key: read_key(alloc, key)?,
+            by: read_u64(by)?,
+        }),
+        _ => Err(LineFault::BadLine),
+    }
+}
+
+fn stored(mode: StoreMode, key: Key, store: Store) -> Act
+    ensures act { result ≡ stored mode key store }
+    ensures value { value_of result ≡ store.value }
+{
+    let Store {
+        flags,
+        expiry,
+        value,
+    } = store;
+    match mode {
+        StoreMode::Set => Act::Set {
+            key,
+            flags,
+            expiry,
+            value,
+        },
+        StoreMode::Add => Act::Add {
+            key,
+            flags,
+            expiry,
+            value,
+        },
+        StoreMode::Replace => Act::Replace {
+            key,
+            flags,
+            expiry,
+            value,
+        },
+    }
+}
+
+/// Reads flags, a value, and an exptime where there is one.
+#[tactic(auto, unfolding(crate::specs::Acts::store_of))]
+fn read_store(alloc: Global, flags: &[u8], words: &[&[u8]]) -> Result<Store, LineFault>
+    ensures meaning { IsReadAs result (store_of flags.now (map (λ word. word.now) words.now)) }
+    ensures bytes { IfOk result (λ store. All (λ b. b < 256) store.value) }
+{
+    match words {
+        [value, exptime @ ..] => Ok(Store {
+            flags: read_u32(flags)?,
+            value: read_value(alloc, value)?,
+            expiry: read_expiry(exptime)?,
+        }),
+        [] => Err(LineFault::BadLine),
+    }
+}
+
+fn read_expiry(words: &[&[u8]]) -> Result<i64, LineFault>
+    ensures { IsReadAs result (exptime_of (map (λ word. word.now) words.now)) }
+{
+    match words {
+        [] => Ok(0),
+        [exptime] => read_exptime(exptime),
+        _ => Err(LineFault::BadLine),
+    }
+}
