@@ -1,4 +1,4 @@
-use Rattle.std.proofs.Common.{◌≡◌, ℕ, ◌==◌, ◌&&◌, nat_lt, not, true, false, List, Some, None, Ok, Err, refl, sym, ap, arith}
+use Rattle.std.proofs.Common.{◌≡◌, ℕ, ◌==◌, ◌&&◌, nat_lt, not, true, false, List, Some, None, Ok, Err, refl, sym, ap, arith, Bool, Option, ◌∙◌}
 use Rattle.std.proofs.lemmas.Bool.Decides.{nat_tests}
 use Rattle.std.proofs.lemmas.Grind.{common_steps}
 use Rattle.std.proofs.lemmas.List.Sums.{list_all-from_AllPass}
@@ -43,6 +43,38 @@ first_out d K out = rw (out_of_range d K out) refl
 first_out d M (k, out) = rw (in_range d K k, out_of_range d M out) refl
 first_out d Block (k, m, out) = rw (in_range d K k, in_range d M m, out_of_range d Block out) refl
 first_out d Blocks (k, m, block, out) = rw (in_range d K k, in_range d M m, in_range d Block block, out_of_range d Blocks out) refl
+
+-- a field that passes is within its limits
+passes : (d : Dimensions) (field : Field) → is_in_range d field ≡ true → IsFieldInRange d field
+passes d K is = grind (arith, nat_tests, common_steps)
+passes d M is = grind (arith, nat_tests, common_steps)
+passes d Block is = grind (arith, nat_tests, common_steps)
+passes d Blocks is = grind (arith, nat_tests, common_steps)
+
+-- the first field that fails, of these that pass or fail
+abbrev first_of : Bool → Bool → Bool → Bool → Option Field
+first_of false m block blocks = Some K
+first_of true false block blocks = Some M
+first_of true true false blocks = Some Block
+first_of true true true false = Some Blocks
+first_of true true true true = None
+
+first_is : (d : Dimensions) → (k m block blocks : Bool) → is_in_range d K ≡ k → is_in_range d M ≡ m → is_in_range d Block ≡ block → is_in_range d Blocks ≡ blocks
+    → first_out_of_range d ≡ first_of k m block blocks
+first_is d false m block blocks isk ism isblock isblocks = rw isk refl
+first_is d true false block blocks isk ism isblock isblocks = rw (isk, ism) refl
+first_is d true true false blocks isk ism isblock isblocks = rw (isk, ism, isblock) refl
+first_is d true true true false isk ism isblock isblocks = rw (isk, ism, isblock, isblocks) refl
+first_is d true true true true isk ism isblock isblocks = rw (isk, ism, isblock, isblocks) refl
+
+pub shape-of : (d : Dimensions) → first_out_of_range d ≡ None → IsShape d
+shape-of d none = by (is_in_range d K) (is_in_range d M) (is_in_range d Block) (is_in_range d Blocks) refl refl refl refl where
+  by : (k m block blocks : Bool) → is_in_range d K ≡ k → is_in_range d M ≡ m → is_in_range d Block ≡ block → is_in_range d Blocks ≡ blocks → IsShape d
+  by true true true true isk ism isblock isblocks = record { k = passes d K isk; m = passes d M ism; block = passes d Block isblock; blocks = passes d Blocks isblocks }
+  by false m block blocks isk ism isblock isblocks = absurd (cc (sym (first_is d false m block blocks isk ism isblock isblocks) ∙ none))
+  by true false block blocks isk ism isblock isblocks = absurd (cc (sym (first_is d true false block blocks isk ism isblock isblocks) ∙ none))
+  by true true false blocks isk ism isblock isblocks = absurd (cc (sym (first_is d true true false blocks isk ism isblock isblocks) ∙ none))
+  by true true true false isk ism isblock isblocks = absurd (cc (sym (first_is d true true true false isk ism isblock isblocks) ∙ none))
 
 pub group_within-shape : (d s : Dimensions) → s ≡ d → IsShape d → group_within d ≡ Ok (Group s)
 unfolding group_within

@@ -13,6 +13,7 @@ use Rattle.group_types.specs.declared.shape.Field.{Field}
 use Rattle.memc_proto.specs.Words.{if_below}
 use Rattle.memc_table.specs.Numeral.{number_of}
 use Rattle.scenario_text.proofs.Read.{bound, mapped, chosen, passed}
+use Rattle.scenario_text.proofs.Limits.{shape-of}
 use Rattle.scenario_text.proofs.Values.{act_of-bytes}
 use Rattle.scenario_text.specs.Acts.{act_of}
 use Rattle.scenario_text.specs.Meaning.{line_of, line_by, event_line, group_line, group_of, group_within, group_unless, first_out_of_range}
@@ -151,11 +152,11 @@ event_line-within s (name ∷ words) l is = let k = bound (keyword_of name) _ l 
 
 group_within-group : (d : Dimensions) (l : Line) → group_within d ≡ Ok l → IsLineOf None l
 unfolding group_within
-group_within-group d l is = by (first_out_of_range d) is
+group_within-group d l is = by (first_out_of_range d) refl is
   where
-    by : (o : Option Field) → group_unless d o ≡ Ok l → IsLineOf None l
-    by None is = let same : Group d ≡ l = cc is in subst (IsLineOf None) same tt
-    by (Some field) is = cc is
+    by : (o : Option Field) → first_out_of_range d ≡ o → group_unless d o ≡ Ok l → IsLineOf None l
+    by None none is = let same : Group d ≡ l = cc is in subst (IsLineOf None) same (shape-of d none)
+    by (Some field) some is = cc is
 
 group_of-group : (k m blocks block : Option ℕ) (l : Line) → group_of k m blocks block ≡ Ok l → IsLineOf None l
 group_of-group None m blocks block l is = cc is

@@ -3,7 +3,7 @@ use Rattle.std.specs.Int.{is_power_of_two}
 use Rattle.std.specs.Str.{bytes_eq}
 use Rattle.group_types.specs.Dimensions.{Dimensions, callers, space_of}
 use Rattle.group_types.specs.Names.{IsProcess, same_process}
-use Rattle.group_types.specs.Shape.{most_space}
+use Rattle.group_types.specs.Shape.{IsShape, most_space}
 use Rattle.group_types.specs.declared.process.ProcessId.{ProcessId}
 use Rattle.group_types.specs.declared.run.Run.{Run}
 use Rattle.group_types.specs.declared.shape.Field.{Field}
@@ -152,5 +152,5 @@ IsWithin s Stop = ⊤
 abbrev pub IsLineOf : Option Dimensions → Line → Type 0
 IsLineOf (Some shape) line = IsWithin shape line
 IsLineOf None Skipped = ⊤
-IsLineOf None (Group _) = ⊤
+IsLineOf None (Group shape) = IsShape shape
 IsLineOf None _ = ⊥
