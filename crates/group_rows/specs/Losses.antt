@@ -2,27 +2,27 @@
 use Rattle.std.specs.Prelude.{pos, [], ◌∷◌, codes}
 use Rattle.group_types.specs.declared.process.ProcessId.TheVariants.{DataNode, ParityNode}
 use Rattle.memc_table.specs.declared.act.Act.TheVariants.{Get, Set}
-use Rattle.group_calls.specs.declared.event.Event.TheVariants.{Collect, Deliver, Fail, Flush}
-use Rattle.group_rows.specs.Script.{Do, Drain, Show, ask, shape, writes}
+use Rattle.scenario_text.specs.declared.line.Line.TheVariants.{Ask, Collect, Deliver, Fail, Flush, Drain, Show}
+use Rattle.group_rows.specs.Script.{shape, writes}
 
 -- the code by hand
 abbrev pub CodeByHand : Type 0
 CodeByHand = writes (shape 2 1 4 16) (
-    ask 0 (DataNode 0) (Set (codes "a") 0 (pos 0) (65 ∷ [])) ∷
-    ask 1 (DataNode 1) (Set (codes "b") 0 (pos 0) (66 ∷ [])) ∷
+    Ask 0 (DataNode 0) (Set (codes "a") 0 (pos 0) (65 ∷ [])) ∷
+    Ask 1 (DataNode 1) (Set (codes "b") 0 (pos 0) (66 ∷ [])) ∷
     Drain ∷
-    Show (ParityNode 0) 0 2 ∷
-    Do (Flush (DataNode 0)) ∷
-    Do (Flush (DataNode 1)) ∷
+    Show (ParityNode 0) (record { at = 0; len = 2 }) ∷
+    Flush (DataNode 0) ∷
+    Flush (DataNode 1) ∷
     Drain ∷
-    Show (ParityNode 0) 0 2 ∷
-    Show (DataNode 1) 0 2 ∷
-    Do (Fail (DataNode 1) 0) ∷
-    ask 1 (ParityNode 0) (Get (codes "b")) ∷
+    Show (ParityNode 0) (record { at = 0; len = 2 }) ∷
+    Show (DataNode 1) (record { at = 0; len = 2 }) ∷
+    Fail (DataNode 1) 0 ∷
+    Ask 1 (ParityNode 0) (Get (codes "b")) ∷
     Drain ∷
-    ask 1 (ParityNode 0) (Get (codes "b")) ∷
+    Ask 1 (ParityNode 0) (Get (codes "b")) ∷
     Drain ∷
-    ask 1 (ParityNode 0) (Get (codes "b")) ∷ [])
+    Ask 1 (ParityNode 0) (Get (codes "b")) ∷ [])
     (
     codes "ticket 1" ∷
     codes "ticket 1" ∷
@@ -46,18 +46,18 @@ CodeByHand = writes (shape 2 1 4 16) (
 -- an update is settled, its settling isn't sent, and its head fails
 abbrev pub SettledUnsent : Type 0
 SettledUnsent = writes (shape 2 2 4 16) (
-    ask 0 (DataNode 0) (Set (codes "a") 0 (pos 0) (65 ∷ [])) ∷
+    Ask 0 (DataNode 0) (Set (codes "a") 0 (pos 0) (65 ∷ [])) ∷
     Drain ∷
-    Do (Collect 0 0 (DataNode 0)) ∷
-    Do (Fail (DataNode 0) 0) ∷
-    ask 1 (ParityNode 0) (Get (codes "a")) ∷
-    Do (Deliver (DataNode 0) (ParityNode 0)) ∷
-    ask 1 (ParityNode 0) (Get (codes "a")) ∷
+    Collect 0 0 (DataNode 0) ∷
+    Fail (DataNode 0) 0 ∷
+    Ask 1 (ParityNode 0) (Get (codes "a")) ∷
+    Deliver (DataNode 0) (ParityNode 0) ∷
+    Ask 1 (ParityNode 0) (Get (codes "a")) ∷
     Drain ∷
-    Show (ParityNode 0) 0 1 ∷
-    ask 1 (ParityNode 0) (Get (codes "a")) ∷
+    Show (ParityNode 0) (record { at = 0; len = 1 }) ∷
+    Ask 1 (ParityNode 0) (Get (codes "a")) ∷
     Drain ∷
-    ask 1 (ParityNode 0) (Get (codes "a")) ∷ [])
+    Ask 1 (ParityNode 0) (Get (codes "a")) ∷ [])
     (
     codes "ticket 1" ∷
     codes "= 0.0 set a 0 41 stored" ∷
@@ -77,24 +77,24 @@ SettledUnsent = writes (shape 2 2 4 16) (
 -- an update comes to a row between a mark and the end of the session
 abbrev pub MarkedRow : Type 0
 MarkedRow = writes (shape 3 1 1 16) (
-    ask 0 (DataNode 1) (Set (codes "a") 0 (pos 0) (16 ∷ [])) ∷
+    Ask 0 (DataNode 1) (Set (codes "a") 0 (pos 0) (16 ∷ [])) ∷
     Drain ∷
-    Do (Flush (DataNode 1)) ∷
+    Flush (DataNode 1) ∷
     Drain ∷
-    Do (Fail (DataNode 1) 0) ∷
+    Fail (DataNode 1) 0 ∷
     Drain ∷
-    ask 0 (ParityNode 0) (Get (codes "a")) ∷
-    Do (Deliver (ParityNode 0) (DataNode 0)) ∷
-    ask 1 (DataNode 0) (Set (codes "g") 0 (pos 0) (7 ∷ [])) ∷
-    Do (Deliver (DataNode 0) (ParityNode 0)) ∷
-    Do (Deliver (DataNode 0) (ParityNode 0)) ∷
-    Do (Deliver (DataNode 0) (ParityNode 0)) ∷
-    Do (Deliver (ParityNode 0) (DataNode 0)) ∷
-    Do (Flush (DataNode 0)) ∷
-    Do (Deliver (DataNode 0) (ParityNode 0)) ∷
-    Show (ParityNode 0) 0 1 ∷
+    Ask 0 (ParityNode 0) (Get (codes "a")) ∷
+    Deliver (ParityNode 0) (DataNode 0) ∷
+    Ask 1 (DataNode 0) (Set (codes "g") 0 (pos 0) (7 ∷ [])) ∷
+    Deliver (DataNode 0) (ParityNode 0) ∷
+    Deliver (DataNode 0) (ParityNode 0) ∷
+    Deliver (DataNode 0) (ParityNode 0) ∷
+    Deliver (ParityNode 0) (DataNode 0) ∷
+    Flush (DataNode 0) ∷
+    Deliver (DataNode 0) (ParityNode 0) ∷
+    Show (ParityNode 0) (record { at = 0; len = 1 }) ∷
     Drain ∷
-    ask 0 (ParityNode 0) (Get (codes "a")) ∷ [])
+    Ask 0 (ParityNode 0) (Get (codes "a")) ∷ [])
     (
     codes "ticket 1" ∷
     codes "= 0.0 set a 0 10 stored" ∷

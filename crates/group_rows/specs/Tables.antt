@@ -2,13 +2,14 @@
 use Rattle.std.specs.Prelude.{pos, negsuc, [], ◌∷◌, codes, replicate}
 use Rattle.group_types.specs.declared.process.ProcessId.TheVariants.{DataNode}
 use Rattle.memc_table.specs.declared.act.Act.TheVariants.{Get, Set, Add, Replace, Cas, Delete, Touch, Append, Prepend, Incr, Decr}
-use Rattle.group_rows.specs.Script.{ask, ask_then, shape, writes}
+use Rattle.scenario_text.specs.declared.line.Line.TheVariants.{Ask, Time}
+use Rattle.group_rows.specs.Script.{shape, writes}
 
 -- the smallest script
 abbrev pub SmallestScript : Type 0
 SmallestScript = writes (shape 2 0 4 16) (
-    ask 0 (DataNode 0) (Set (codes "a") 0 (pos 0) (65 ∷ [])) ∷
-    ask 0 (DataNode 0) (Get (codes "a")) ∷ [])
+    Ask 0 (DataNode 0) (Set (codes "a") 0 (pos 0) (65 ∷ [])) ∷
+    Ask 0 (DataNode 0) (Get (codes "a")) ∷ [])
     (
     codes "reply stored" ∷
     codes "= 0.0 set a 0 41 stored" ∷
@@ -18,10 +19,10 @@ SmallestScript = writes (shape 2 0 4 16) (
 -- a value of no bytes in a full space
 abbrev pub FullSpace : Type 0
 FullSpace = writes (shape 1 0 1 16) (
-    ask 0 (DataNode 0) (Set (codes "b") 0 (pos 0) (replicate 16 97)) ∷
-    ask 0 (DataNode 0) (Set (codes "a") 0 (pos 0) []) ∷
-    ask 0 (DataNode 0) (Get (codes "a")) ∷
-    ask 0 (DataNode 0) (Set (codes "c") 0 (pos 0) (99 ∷ [])) ∷ [])
+    Ask 0 (DataNode 0) (Set (codes "b") 0 (pos 0) (replicate 16 97)) ∷
+    Ask 0 (DataNode 0) (Set (codes "a") 0 (pos 0) []) ∷
+    Ask 0 (DataNode 0) (Get (codes "a")) ∷
+    Ask 0 (DataNode 0) (Set (codes "c") 0 (pos 0) (99 ∷ [])) ∷ [])
     (
     codes "reply stored" ∷
     codes "= 0.0 set b 0 61616161616161616161616161616161 stored" ∷
@@ -34,17 +35,17 @@ FullSpace = writes (shape 1 0 1 16) (
 -- the table's cases
 abbrev pub TableCases : Type 0
 TableCases = writes (shape 1 0 1 16) (
-    ask 0 (DataNode 0) (Set (codes "a") 0 (pos 0) (1 ∷ [])) ∷
-    ask 1 (DataNode 0) (Set (codes "a") 0 (pos 0) (2 ∷ [])) ∷
-    ask 0 (DataNode 0) (Cas (codes "a") 0 (pos 0) 1 (3 ∷ [])) ∷
-    ask 0 (DataNode 0) (Cas (codes "a") 7 (pos 0) 2 (3 ∷ [])) ∷
-    ask 0 (DataNode 0) (Get (codes "a")) ∷
-    ask 0 (DataNode 0) (Cas (codes "z") 0 (pos 0) 1 (4 ∷ [])) ∷
-    ask 0 (DataNode 0) (Add (codes "a") 0 (pos 0) (5 ∷ [])) ∷
-    ask 0 (DataNode 0) (Replace (codes "z") 0 (pos 0) (5 ∷ [])) ∷
-    ask 0 (DataNode 0) (Delete (codes "z")) ∷
-    ask 0 (DataNode 0) (Delete (codes "a")) ∷
-    ask 0 (DataNode 0) (Get (codes "a")) ∷ [])
+    Ask 0 (DataNode 0) (Set (codes "a") 0 (pos 0) (1 ∷ [])) ∷
+    Ask 1 (DataNode 0) (Set (codes "a") 0 (pos 0) (2 ∷ [])) ∷
+    Ask 0 (DataNode 0) (Cas (codes "a") 0 (pos 0) 1 (3 ∷ [])) ∷
+    Ask 0 (DataNode 0) (Cas (codes "a") 7 (pos 0) 2 (3 ∷ [])) ∷
+    Ask 0 (DataNode 0) (Get (codes "a")) ∷
+    Ask 0 (DataNode 0) (Cas (codes "z") 0 (pos 0) 1 (4 ∷ [])) ∷
+    Ask 0 (DataNode 0) (Add (codes "a") 0 (pos 0) (5 ∷ [])) ∷
+    Ask 0 (DataNode 0) (Replace (codes "z") 0 (pos 0) (5 ∷ [])) ∷
+    Ask 0 (DataNode 0) (Delete (codes "z")) ∷
+    Ask 0 (DataNode 0) (Delete (codes "a")) ∷
+    Ask 0 (DataNode 0) (Get (codes "a")) ∷ [])
     (
     codes "reply stored" ∷
     codes "= 0.0 set a 0 01 stored" ∷
@@ -72,12 +73,18 @@ TableCases = writes (shape 1 0 1 16) (
 -- expiry and touch
 abbrev pub Expiry : Type 0
 Expiry = writes (shape 1 0 1 16) (
-    ask_then 100 0 (DataNode 0) (Set (codes "a") 0 (pos 10) (65 ∷ [])) ∷
-    ask_then 109 0 (DataNode 0) (Touch (codes "a") (pos 5)) ∷
-    ask_then 113 0 (DataNode 0) (Get (codes "a")) ∷
-    ask_then 114 0 (DataNode 0) (Get (codes "a")) ∷
-    ask_then 114 0 (DataNode 0) (Add (codes "a") 0 (negsuc 0) (66 ∷ [])) ∷
-    ask_then 114 0 (DataNode 0) (Get (codes "a")) ∷ [])
+    Time 100 ∷
+    Ask 0 (DataNode 0) (Set (codes "a") 0 (pos 10) (65 ∷ [])) ∷
+    Time 109 ∷
+    Ask 0 (DataNode 0) (Touch (codes "a") (pos 5)) ∷
+    Time 113 ∷
+    Ask 0 (DataNode 0) (Get (codes "a")) ∷
+    Time 114 ∷
+    Ask 0 (DataNode 0) (Get (codes "a")) ∷
+    Time 114 ∷
+    Ask 0 (DataNode 0) (Add (codes "a") 0 (negsuc 0) (66 ∷ [])) ∷
+    Time 114 ∷
+    Ask 0 (DataNode 0) (Get (codes "a")) ∷ [])
     (
     codes "reply stored" ∷
     codes "= 0.0 @100 set a 0 41 10 stored" ∷
@@ -95,13 +102,13 @@ Expiry = writes (shape 1 0 1 16) (
 -- append, prepend, incr and decr
 abbrev pub Numerals : Type 0
 Numerals = writes (shape 1 0 4 16) (
-    ask 0 (DataNode 0) (Set (codes "n") 0 (pos 0) (57 ∷ 57 ∷ [])) ∷
-    ask 0 (DataNode 0) (Incr (codes "n") 1) ∷
-    ask 0 (DataNode 0) (Decr (codes "n") 200) ∷
-    ask 0 (DataNode 0) (Append (codes "n") (120 ∷ [])) ∷
-    ask 0 (DataNode 0) (Incr (codes "n") 1) ∷
-    ask 0 (DataNode 0) (Get (codes "n")) ∷
-    ask 0 (DataNode 0) (Prepend (codes "z") (65 ∷ [])) ∷ [])
+    Ask 0 (DataNode 0) (Set (codes "n") 0 (pos 0) (57 ∷ 57 ∷ [])) ∷
+    Ask 0 (DataNode 0) (Incr (codes "n") 1) ∷
+    Ask 0 (DataNode 0) (Decr (codes "n") 200) ∷
+    Ask 0 (DataNode 0) (Append (codes "n") (120 ∷ [])) ∷
+    Ask 0 (DataNode 0) (Incr (codes "n") 1) ∷
+    Ask 0 (DataNode 0) (Get (codes "n")) ∷
+    Ask 0 (DataNode 0) (Prepend (codes "z") (65 ∷ [])) ∷ [])
     (
     codes "reply stored" ∷
     codes "= 0.0 set n 0 3939 stored" ∷

@@ -2,24 +2,24 @@
 use Rattle.std.specs.Prelude.{pos, [], ◌∷◌, codes}
 use Rattle.group_types.specs.declared.process.ProcessId.TheVariants.{DataNode, ParityNode}
 use Rattle.memc_table.specs.declared.act.Act.TheVariants.{Get, Set}
-use Rattle.group_calls.specs.declared.event.Event.TheVariants.{Collect, Deliver, Fail, Trace}
-use Rattle.group_rows.specs.Script.{Do, Drain, ask, shape, writes}
+use Rattle.scenario_text.specs.declared.line.Line.TheVariants.{Ask, Collect, Deliver, Fail, Trace, Drain}
+use Rattle.group_rows.specs.Script.{shape, writes}
 
 -- a new head tells one process alone, and fails
 abbrev pub PartialAdoption : Type 0
 PartialAdoption = writes (shape 2 3 4 16) (
-    ask 0 (DataNode 0) (Set (codes "a") 0 (pos 0) (1 ∷ [])) ∷
-    Do (Deliver (DataNode 0) (ParityNode 0)) ∷
-    Do (Fail (DataNode 0) 0) ∷
-    Do (Deliver (DataNode 0) (ParityNode 0)) ∷
-    Do (Deliver (ParityNode 0) (ParityNode 2)) ∷
-    Do (Fail (ParityNode 0) 0) ∷
+    Ask 0 (DataNode 0) (Set (codes "a") 0 (pos 0) (1 ∷ [])) ∷
+    Deliver (DataNode 0) (ParityNode 0) ∷
+    Fail (DataNode 0) 0 ∷
+    Deliver (DataNode 0) (ParityNode 0) ∷
+    Deliver (ParityNode 0) (ParityNode 2) ∷
+    Fail (ParityNode 0) 0 ∷
     Drain ∷
-    Do (Collect 0 0 (DataNode 0)) ∷
-    ask 1 (ParityNode 1) (Get (codes "a")) ∷
-    ask 1 (ParityNode 1) (Set (codes "a") 0 (pos 0) (2 ∷ [])) ∷
+    Collect 0 0 (DataNode 0) ∷
+    Ask 1 (ParityNode 1) (Get (codes "a")) ∷
+    Ask 1 (ParityNode 1) (Set (codes "a") 0 (pos 0) (2 ∷ [])) ∷
     Drain ∷
-    ask 1 (ParityNode 1) (Set (codes "a") 0 (pos 0) (2 ∷ [])) ∷
+    Ask 1 (ParityNode 1) (Set (codes "a") 0 (pos 0) (2 ∷ [])) ∷
     Drain ∷ [])
     (
     codes "ticket 1" ∷
@@ -41,14 +41,14 @@ PartialAdoption = writes (shape 2 3 4 16) (
 -- the fate of a call: gone
 abbrev pub FateGone : Type 0
 FateGone = writes (shape 2 2 4 16) (
-    ask 0 (DataNode 0) (Set (codes "a") 0 (pos 0) (1 ∷ [])) ∷
-    Do (Deliver (DataNode 0) (ParityNode 1)) ∷
-    Do (Fail (DataNode 0) 0) ∷
-    Do (Deliver (DataNode 0) (ParityNode 0)) ∷
-    Do (Trace 0 0 (record { 0 = 0 }) (ParityNode 0)) ∷
+    Ask 0 (DataNode 0) (Set (codes "a") 0 (pos 0) (1 ∷ [])) ∷
+    Deliver (DataNode 0) (ParityNode 1) ∷
+    Fail (DataNode 0) 0 ∷
+    Deliver (DataNode 0) (ParityNode 0) ∷
+    Trace 0 0 (record { 0 = 0 }) (ParityNode 0) ∷
     Drain ∷
-    Do (Trace 0 0 (record { 0 = 0 }) (ParityNode 0)) ∷
-    ask 0 (ParityNode 0) (Get (codes "a")) ∷ [])
+    Trace 0 0 (record { 0 = 0 }) (ParityNode 0) ∷
+    Ask 0 (ParityNode 0) (Get (codes "a")) ∷ [])
     (
     codes "ticket 1" ∷
     codes "done" ∷
@@ -63,12 +63,12 @@ FateGone = writes (shape 2 2 4 16) (
 -- the fate of a call whose update was cut off
 abbrev pub FateCutBefore : Type 0
 FateCutBefore = writes (shape 2 1 4 16) (
-    ask 0 (DataNode 0) (Set (codes "a") 0 (pos 0) (65 ∷ [])) ∷
-    Do (Fail (DataNode 0) 0) ∷
+    Ask 0 (DataNode 0) (Set (codes "a") 0 (pos 0) (65 ∷ [])) ∷
+    Fail (DataNode 0) 0 ∷
     Drain ∷
-    Do (Collect 0 0 (DataNode 0)) ∷
-    ask 1 (ParityNode 0) (Get (codes "a")) ∷
-    Do (Trace 0 0 (record { 0 = 0 }) (ParityNode 0)) ∷ [])
+    Collect 0 0 (DataNode 0) ∷
+    Ask 1 (ParityNode 0) (Get (codes "a")) ∷
+    Trace 0 0 (record { 0 = 0 }) (ParityNode 0) ∷ [])
     (
     codes "ticket 1" ∷
     codes "done" ∷
@@ -81,10 +81,10 @@ FateCutBefore = writes (shape 2 1 4 16) (
 -- the fate of a call whose update lived
 abbrev pub FateCutBehind : Type 0
 FateCutBehind = writes (shape 2 1 4 16) (
-    ask 0 (DataNode 0) (Set (codes "a") 0 (pos 0) (65 ∷ [])) ∷
-    Do (Fail (DataNode 0) 4294967295) ∷
+    Ask 0 (DataNode 0) (Set (codes "a") 0 (pos 0) (65 ∷ [])) ∷
+    Fail (DataNode 0) 4294967295 ∷
     Drain ∷
-    Do (Trace 0 0 (record { 0 = 0 }) (ParityNode 0)) ∷ [])
+    Trace 0 0 (record { 0 = 0 }) (ParityNode 0) ∷ [])
     (
     codes "ticket 1" ∷
     codes "done" ∷

@@ -2,29 +2,29 @@
 use Rattle.std.specs.Prelude.{pos, [], ◌∷◌, codes}
 use Rattle.group_types.specs.declared.process.ProcessId.TheVariants.{DataNode, ParityNode}
 use Rattle.memc_table.specs.declared.act.Act.TheVariants.{Get, Set}
-use Rattle.group_calls.specs.declared.event.Event.TheVariants.{Fail, Flush}
-use Rattle.group_rows.specs.Script.{Do, Drain, Show, ask, shape, writes}
+use Rattle.scenario_text.specs.declared.line.Line.TheVariants.{Ask, Fail, Flush, Drain, Show}
+use Rattle.group_rows.specs.Script.{shape, writes}
 
 -- two data processes are lost
 abbrev pub TwoLost : Type 0
 TwoLost = writes (shape 3 2 1 16) (
-    ask 0 (DataNode 0) (Set (codes "g") 0 (pos 0) (1 ∷ [])) ∷
-    ask 0 (DataNode 1) (Set (codes "a") 0 (pos 0) (2 ∷ [])) ∷
-    ask 0 (DataNode 2) (Set (codes "c") 0 (pos 0) (3 ∷ [])) ∷
+    Ask 0 (DataNode 0) (Set (codes "g") 0 (pos 0) (1 ∷ [])) ∷
+    Ask 0 (DataNode 1) (Set (codes "a") 0 (pos 0) (2 ∷ [])) ∷
+    Ask 0 (DataNode 2) (Set (codes "c") 0 (pos 0) (3 ∷ [])) ∷
     Drain ∷
-    Do (Flush (DataNode 0)) ∷
-    Do (Flush (DataNode 1)) ∷
-    Do (Flush (DataNode 2)) ∷
+    Flush (DataNode 0) ∷
+    Flush (DataNode 1) ∷
+    Flush (DataNode 2) ∷
     Drain ∷
-    Show (ParityNode 0) 0 1 ∷
-    Show (ParityNode 1) 0 1 ∷
-    Do (Fail (DataNode 0) 0) ∷
-    Do (Fail (DataNode 1) 0) ∷
+    Show (ParityNode 0) (record { at = 0; len = 1 }) ∷
+    Show (ParityNode 1) (record { at = 0; len = 1 }) ∷
+    Fail (DataNode 0) 0 ∷
+    Fail (DataNode 1) 0 ∷
     Drain ∷
-    ask 0 (ParityNode 0) (Get (codes "g")) ∷
+    Ask 0 (ParityNode 0) (Get (codes "g")) ∷
     Drain ∷
-    ask 0 (ParityNode 0) (Get (codes "g")) ∷
-    ask 0 (ParityNode 0) (Get (codes "a")) ∷ [])
+    Ask 0 (ParityNode 0) (Get (codes "g")) ∷
+    Ask 0 (ParityNode 0) (Get (codes "a")) ∷ [])
     (
     codes "ticket 1" ∷
     codes "ticket 1" ∷
@@ -52,25 +52,25 @@ TwoLost = writes (shape 3 2 1 16) (
 -- a second loss during an open session
 abbrev pub SecondLoss : Type 0
 SecondLoss = writes (shape 3 2 1 16) (
-    ask 0 (DataNode 0) (Set (codes "g") 0 (pos 0) (1 ∷ [])) ∷
-    ask 0 (DataNode 1) (Set (codes "a") 0 (pos 0) (2 ∷ [])) ∷
-    ask 0 (DataNode 2) (Set (codes "c") 0 (pos 0) (3 ∷ [])) ∷
+    Ask 0 (DataNode 0) (Set (codes "g") 0 (pos 0) (1 ∷ [])) ∷
+    Ask 0 (DataNode 1) (Set (codes "a") 0 (pos 0) (2 ∷ [])) ∷
+    Ask 0 (DataNode 2) (Set (codes "c") 0 (pos 0) (3 ∷ [])) ∷
     Drain ∷
-    Do (Flush (DataNode 0)) ∷
-    Do (Flush (DataNode 1)) ∷
-    Do (Flush (DataNode 2)) ∷
+    Flush (DataNode 0) ∷
+    Flush (DataNode 1) ∷
+    Flush (DataNode 2) ∷
     Drain ∷
-    Show (ParityNode 0) 0 1 ∷
-    Show (ParityNode 1) 0 1 ∷
-    Do (Fail (DataNode 0) 0) ∷
+    Show (ParityNode 0) (record { at = 0; len = 1 }) ∷
+    Show (ParityNode 1) (record { at = 0; len = 1 }) ∷
+    Fail (DataNode 0) 0 ∷
     Drain ∷
-    ask 0 (ParityNode 0) (Get (codes "g")) ∷
-    Do (Fail (DataNode 1) 0) ∷
+    Ask 0 (ParityNode 0) (Get (codes "g")) ∷
+    Fail (DataNode 1) 0 ∷
     Drain ∷
-    ask 0 (ParityNode 0) (Get (codes "a")) ∷
+    Ask 0 (ParityNode 0) (Get (codes "a")) ∷
     Drain ∷
-    ask 0 (ParityNode 0) (Get (codes "g")) ∷
-    ask 0 (ParityNode 0) (Get (codes "a")) ∷ [])
+    Ask 0 (ParityNode 0) (Get (codes "g")) ∷
+    Ask 0 (ParityNode 0) (Get (codes "a")) ∷ [])
     (
     codes "ticket 1" ∷
     codes "ticket 1" ∷

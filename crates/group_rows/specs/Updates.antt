@@ -4,18 +4,18 @@ use Rattle.std.specs.Fmt.{decimal}
 use Rattle.std.specs.List.{range_with_len}
 use Rattle.group_types.specs.declared.process.ProcessId.TheVariants.{DataNode, ParityNode}
 use Rattle.memc_table.specs.declared.act.Act.TheVariants.{Get, Set}
-use Rattle.group_calls.specs.declared.event.Event.TheVariants.{Collect, Deliver, Fail, Flush}
-use Rattle.group_rows.specs.Script.{Do, Drain, Show, ask, shape, writes}
+use Rattle.scenario_text.specs.declared.line.Line.TheVariants.{Ask, Collect, Deliver, Fail, Flush, Drain, Show}
+use Rattle.group_rows.specs.Script.{shape, writes}
 
 -- the old run is free only once the update that frees it is settled
 abbrev pub OldRunNotFree : Type 0
 OldRunNotFree = writes (shape 1 1 1 16) (
-    ask 0 (DataNode 0) (Set (codes "a") 0 (pos 0) (replicate 10 97)) ∷
+    Ask 0 (DataNode 0) (Set (codes "a") 0 (pos 0) (replicate 10 97)) ∷
     Drain ∷
-    ask 0 (DataNode 0) (Set (codes "a") 0 (pos 0) (replicate 6 98)) ∷
-    ask 1 (DataNode 0) (Set (codes "b") 0 (pos 0) (replicate 7 99)) ∷
+    Ask 0 (DataNode 0) (Set (codes "a") 0 (pos 0) (replicate 6 98)) ∷
+    Ask 1 (DataNode 0) (Set (codes "b") 0 (pos 0) (replicate 7 99)) ∷
     Drain ∷
-    ask 1 (DataNode 0) (Set (codes "b") 0 (pos 0) (replicate 7 99)) ∷ [])
+    Ask 1 (DataNode 0) (Set (codes "b") 0 (pos 0) (replicate 7 99)) ∷ [])
     (
     codes "ticket 1" ∷
     codes "= 0.0 set a 0 61616161616161616161 stored" ∷
@@ -29,15 +29,15 @@ OldRunNotFree = writes (shape 1 1 1 16) (
 -- an unfinished update on the key
 abbrev pub PendingUpdate : Type 0
 PendingUpdate = writes (shape 1 1 1 16) (
-    ask 0 (DataNode 0) (Set (codes "a") 0 (pos 0) (1 ∷ [])) ∷
-    ask 1 (DataNode 0) (Set (codes "a") 0 (pos 0) (2 ∷ [])) ∷
-    ask 1 (DataNode 0) (Get (codes "a")) ∷
-    Do (Collect 0 0 (DataNode 0)) ∷
+    Ask 0 (DataNode 0) (Set (codes "a") 0 (pos 0) (1 ∷ [])) ∷
+    Ask 1 (DataNode 0) (Set (codes "a") 0 (pos 0) (2 ∷ [])) ∷
+    Ask 1 (DataNode 0) (Get (codes "a")) ∷
+    Collect 0 0 (DataNode 0) ∷
     Drain ∷
-    Do (Collect 0 0 (DataNode 0)) ∷
-    Do (Collect 0 0 (DataNode 0)) ∷
-    Do (Deliver (DataNode 0) (ParityNode 0)) ∷
-    ask 1 (DataNode 0) (Set (codes "a") 0 (pos 0) (2 ∷ [])) ∷ [])
+    Collect 0 0 (DataNode 0) ∷
+    Collect 0 0 (DataNode 0) ∷
+    Deliver (DataNode 0) (ParityNode 0) ∷
+    Ask 1 (DataNode 0) (Set (codes "a") 0 (pos 0) (2 ∷ [])) ∷ [])
     (
     codes "ticket 1" ∷
     codes "retry pending 0 1" ∷
@@ -54,19 +54,19 @@ PendingUpdate = writes (shape 1 1 1 16) (
 -- all parity processes fail, and then one process more
 abbrev pub AllParitiesFail : Type 0
 AllParitiesFail = writes (shape 1 1 1 16) (
-    ask 0 (DataNode 0) (Set (codes "a") 0 (pos 0) (1 ∷ [])) ∷
-    Do (Fail (ParityNode 0) 0) ∷
-    Do (Deliver (ParityNode 0) (DataNode 0)) ∷
-    ask 0 (DataNode 0) (Set (codes "b") 0 (pos 0) (2 ∷ [])) ∷
-    Do (Fail (ParityNode 0) 0) ∷
-    Do (Fail (DataNode 0) 0) ∷
-    ask 0 (DataNode 0) (Get (codes "a")) ∷
-    Do (Collect 0 0 (DataNode 0)) ∷
-    Do (Deliver (DataNode 0) (ParityNode 0)) ∷
-    Do (Flush (DataNode 0)) ∷
-    Show (DataNode 0) 0 1 ∷
+    Ask 0 (DataNode 0) (Set (codes "a") 0 (pos 0) (1 ∷ [])) ∷
+    Fail (ParityNode 0) 0 ∷
+    Deliver (ParityNode 0) (DataNode 0) ∷
+    Ask 0 (DataNode 0) (Set (codes "b") 0 (pos 0) (2 ∷ [])) ∷
+    Fail (ParityNode 0) 0 ∷
+    Fail (DataNode 0) 0 ∷
+    Ask 0 (DataNode 0) (Get (codes "a")) ∷
+    Collect 0 0 (DataNode 0) ∷
+    Deliver (DataNode 0) (ParityNode 0) ∷
+    Flush (DataNode 0) ∷
+    Show (DataNode 0) (record { at = 0; len = 1 }) ∷
     Drain ∷
-    Do (Fail (DataNode 0) 0) ∷ [])
+    Fail (DataNode 0) 0 ∷ [])
     (
     codes "ticket 1" ∷
     codes "done" ∷
@@ -87,11 +87,11 @@ AllParitiesFail = writes (shape 1 1 1 16) (
 -- the cut of a link decides: the update is lost
 abbrev pub CutBefore : Type 0
 CutBefore = writes (shape 2 1 4 16) (
-    ask 0 (DataNode 0) (Set (codes "a") 0 (pos 0) (65 ∷ [])) ∷
-    Do (Fail (DataNode 0) 0) ∷
+    Ask 0 (DataNode 0) (Set (codes "a") 0 (pos 0) (65 ∷ [])) ∷
+    Fail (DataNode 0) 0 ∷
     Drain ∷
-    Do (Collect 0 0 (DataNode 0)) ∷
-    ask 1 (ParityNode 0) (Get (codes "a")) ∷ [])
+    Collect 0 0 (DataNode 0) ∷
+    Ask 1 (ParityNode 0) (Get (codes "a")) ∷ [])
     (
     codes "ticket 1" ∷
     codes "done" ∷
@@ -103,13 +103,13 @@ CutBefore = writes (shape 2 1 4 16) (
 -- the cut of a link decides: the update lives
 abbrev pub CutBehind : Type 0
 CutBehind = writes (shape 2 1 4 16) (
-    ask 0 (DataNode 0) (Set (codes "a") 0 (pos 0) (65 ∷ [])) ∷
-    Do (Fail (DataNode 0) 4294967295) ∷
+    Ask 0 (DataNode 0) (Set (codes "a") 0 (pos 0) (65 ∷ [])) ∷
+    Fail (DataNode 0) 4294967295 ∷
     Drain ∷
-    Do (Collect 0 0 (DataNode 0)) ∷
-    ask 1 (ParityNode 0) (Get (codes "a")) ∷
+    Collect 0 0 (DataNode 0) ∷
+    Ask 1 (ParityNode 0) (Get (codes "a")) ∷
     Drain ∷
-    ask 1 (ParityNode 0) (Get (codes "a")) ∷ [])
+    Ask 1 (ParityNode 0) (Get (codes "a")) ∷ [])
     (
     codes "ticket 1" ∷
     codes "done" ∷
@@ -124,11 +124,11 @@ CutBehind = writes (shape 2 1 4 16) (
 -- 256 updates wait, of values of no bytes, and no more can come until the first is settled
 abbrev pub FullWindow : Type 0
 FullWindow = writes (shape 1 1 1 16) (
-    map (λ i. ask 0 (DataNode 0) (Set (codes "k" ++ decimal i) 0 (pos 0) [])) (range_with_len 0 256) ++
-    ask 0 (DataNode 0) (Set (codes "z") 0 (pos 0) []) ∷
-    Do (Deliver (DataNode 0) (ParityNode 0)) ∷
-    Do (Deliver (ParityNode 0) (DataNode 0)) ∷
-    ask 0 (DataNode 0) (Set (codes "z") 0 (pos 0) []) ∷ [])
+    map (λ i. Ask 0 (DataNode 0) (Set (codes "k" ++ decimal i) 0 (pos 0) [])) (range_with_len 0 256) ++
+    Ask 0 (DataNode 0) (Set (codes "z") 0 (pos 0) []) ∷
+    Deliver (DataNode 0) (ParityNode 0) ∷
+    Deliver (ParityNode 0) (DataNode 0) ∷
+    Ask 0 (DataNode 0) (Set (codes "z") 0 (pos 0) []) ∷ [])
     (
     map (λ i. codes "ticket " ++ decimal (suc i)) (range_with_len 0 256) ++
     codes "retry pending 0 1" ∷

@@ -1,5 +1,6 @@
-//! The worked rows of the group's rules, as theorems: the pure machine, run on each script, writes
-//! exactly the row's transcript. Each function is one row; its contract says it.
+//! The worked rows of the group's rules, as theorems: each script, played line by line over the pure machine, writes
+//! exactly the row's transcript. Each function is one row; its contract says it. What a line does and what is written for
+//! it is left to `scenario_run`, which has the transcript of every script.
 #![tactic(auto)]
 
 ghost use Rattle.group_rows.specs.Tables.{SmallestScript, FullSpace, TableCases, Expiry, Numerals};

@@ -1,0 +1,5 @@
+pub mod Leading
+pub mod Truth
+pub mod Draining
+pub mod Running
+pub mod Promises

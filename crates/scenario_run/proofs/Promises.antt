@@ -1,0 +1,176 @@
+-- Every script's group keeps the promises of the headline.
+use Rattle.std.proofs.Common.{ℕ, ◌≡◌, ◌+◌, ◌⊎◌, inl, inr, List, [], ◌∷◌, ◌++◌, map, Option, Some, None, Result, Ok, Err, refl, sym, ap, subst, ◌∙◌}
+use Rattle.group_types.specs.Dimensions.{Dimensions}
+use Rattle.group_types.specs.Shape.{IsShape}
+use Rattle.group_calls.specs.Log.{IsLegal}
+use Rattle.group_calls.specs.Turns.{Turn, log_of}
+use Rattle.group_calls.specs.Within.{AnswersWithin}
+use Rattle.group_calls.specs.declared.event.Event.{Event}
+use Rattle.group_run.specs.Headline.{Headline, IsRun}
+use Rattle.group_run.specs.World as machine
+use Rattle.group_run.specs.World.{World, after, opening, step, world_after}
+use Rattle.group_headline.proofs.Headlines.{headline_always}
+use Rattle.group_shown.specs.Shown.{HoldsTruth}
+use Rattle.group_shown.proofs.Truth.{truth_always}
+use Rattle.scenario_text.specs.Meaning.{IsLineOf, line_of}
+use Rattle.scenario_text.specs.declared.line.Line.{Line}
+use Rattle.scenario_text.specs.declared.line.Line.TheVariants.{Skipped, Group, Ask, Collect, Deliver, Fail, Flush, Trace, Drain, Show, Time, Stop}
+use Rattle.scenario_text.specs.declared.line.LineFault.{LineFault}
+use Rattle.scenario_text.proofs.Lines.{line_of-within}
+use Rattle.scenario_run.specs.Lines.{lines_of}
+use Rattle.scenario_run.specs.Playing.{Ends, Goes, Next, Play, Refused, next_of, shape_in}
+use Rattle.scenario_run.specs.Promises.{AreTrueLines, IsTrueLine, KeepsPromises, ScriptsKeepPromises}
+use Rattle.scenario_run.specs.Script.{Fault, events_of, fault_in, first_fault, shape_from, shape_of, turns_in, turns_of}
+use Rattle.scenario_run.proofs.Leading.{IsLedTo, Leads, leads-then, led-on, opened}
+use Rattle.scenario_run.proofs.Running.{GoesOn, Opens, line-leads, line-opens, never-ends}
+use Rattle.scenario_run.proofs.Truth.{shows-truth}
+
+-- what follows a line, by what it does
+abbrev turns_after : Next → List (List ℕ) → List Turn
+turns_after next lines = elim next [ Goes play turns text ↦ turns ++ turns_in play lines | Ends ↦ [] | Refused fault ↦ [] ]
+
+abbrev fault_after : ℕ → Next → List (List ℕ) → Option Fault
+fault_after n next lines = elim next [ Goes play turns text ↦ fault_in (n + 1) play lines | Ends ↦ None | Refused fault ↦ Some (record { number = n; cause = fault }) ]
+
+abbrev TrueAfter : Next → List (List ℕ) → Type 0
+TrueAfter next lines = elim next [ Goes play turns text ↦ AreTrueLines play lines | Ends ↦ Unit {0} | Refused fault ↦ Unit {0} ]
+
+-- the lines behind the group line make a run
+record Runs (w : World) (turns : List Turn) : Type 0 where
+  v : World
+  leads : Leads w v turns
+
+module _ (s : Dimensions) where
+  none : (w : World) → Runs w []
+  none w = record { v = w; leads = record { events = []; run = tt; turns_are = refl; to = refl } }
+
+  mutual-runs : (p : Play) (lines : List (List ℕ)) → IsLedTo s p.world → Runs p.world (turns_in (Some p) lines)
+  mutual-runs p [] led = none p.world
+  mutual-runs p (line ∷ lines) led = by (next_of (Some p) line) refl (λ q. mutual-runs q lines) where
+    by : (next : Next) → next_of (Some p) line ≡ next → ((q : Play) → IsLedTo s q.world → Runs q.world (turns_in (Some q) lines)) → Runs p.world (turns_after next lines)
+    by Ends is later = none p.world
+    by (Refused fault) is later = none p.world
+    by (Goes next turns text) is later =
+        let on = line-leads s p line next turns text led is in
+        let rest = later on.play (led-on s p.world on.play.world turns led on.leads) in
+        record {
+          v = rest.v;
+          leads = leads-then p.world on.play.world rest.v turns (turns_in next lines) on.leads
+              (subst (λ (q : Option Play). Leads on.play.world rest.v (turns_in q lines)) (sym on.is) rest.leads);
+        }
+
+  -- what is shown behind the group line is true
+  truth : (w : World) → IsLedTo s w → HoldsTruth w
+  truth w led = subst HoldsTruth (sym led.is) (truth_always s led.events led.run)
+
+  true-line : (p : Play) (l : Result Line LineFault) → IsLedTo s p.world → ((l' : Line) → l ≡ Ok l' → IsLineOf (Some p.world.shape) l') → IsTrueLine (Some p) l
+  true-line p (Err fault) led within = tt
+  true-line p (Ok (Show from run)) led within = shows-truth p.world from run (within (Show from run) refl).0 (truth p.world led)
+  true-line p (Ok Skipped) led within = tt
+  true-line p (Ok (Group shape)) led within = tt
+  true-line p (Ok (Ask caller from act)) led within = tt
+  true-line p (Ok (Collect caller call from)) led within = tt
+  true-line p (Ok (Deliver from to)) led within = tt
+  true-line p (Ok (Fail from keep)) led within = tt
+  true-line p (Ok (Flush from)) led within = tt
+  true-line p (Ok (Trace caller call d from)) led within = tt
+  true-line p (Ok Drain) led within = tt
+  true-line p (Ok (Time moment)) led within = tt
+  true-line p (Ok Stop) led within = tt
+
+  true-lines : (p : Play) (lines : List (List ℕ)) → IsLedTo s p.world → AreTrueLines (Some p) lines
+  true-lines p [] led = tt
+  true-lines p (line ∷ lines) led =
+      (true-line p (line_of (Some p.world.shape) line) led (λ l reads. line_of-within (Some p.world.shape) line l reads), by (next_of (Some p) line) refl (λ q. true-lines q lines))
+    where
+      by : (next : Next) → next_of (Some p) line ≡ next → ((q : Play) → IsLedTo s q.world → AreTrueLines (Some q) lines) → TrueAfter next lines
+      by Ends is later = tt
+      by (Refused fault) is later = tt
+      by (Goes next turns text) is later =
+          let on = line-leads s p line next turns text led is in
+          subst (λ (q : Option Play). AreTrueLines q lines) (sym on.is) (later on.play (led-on s p.world on.play.world turns led on.leads))
+
+-- a script with a group line
+record Named (lines : List (List ℕ)) : Type 0 where
+  shape : Dimensions
+  limits : IsShape shape
+  named : shape_from None lines ≡ Some shape
+  runs : Runs (opening shape) (turns_in None lines)
+  true_lines : AreTrueLines None lines
+
+begins : (n : ℕ) (lines : List (List ℕ)) → fault_in n None lines ≡ None → Named lines
+begins n [] ends = absurd (cc ends)
+begins n (line ∷ lines) ends = by (next_of None line) refl ends (begins (n + 1) lines) where
+  begun : (next : Option Play) (turns : List Turn) (text : List ℕ) → next_of None line ≡ Goes next turns text → Opens next turns text → fault_in (n + 1) next lines ≡ None
+      → (fault_in (n + 1) None lines ≡ None → Named lines) → Named (line ∷ lines)
+  begun next turns text is opens rest later = either opens.is where
+    shape_then : Next → Option Dimensions
+    shape_then x = elim x [ Goes play turns text ↦ shape_from play lines | Ends ↦ None | Refused fault ↦ None ]
+
+    turns_are : (q : Option Play) → next ≡ q → turns_in None (line ∷ lines) ≡ turns_in q lines
+    turns_are q same = ap (λ (x : Next). turns_after x lines) is ∙ ap (λ (ts : List Turn). ts ++ turns_in next lines) opens.quiet ∙ ap (λ (x : Option Play). turns_in x lines) same
+
+    shape_is : (q : Option Play) → next ≡ q → shape_from None (line ∷ lines) ≡ shape_from q lines
+    shape_is q same = ap shape_then is ∙ ap (λ (x : Option Play). shape_from x lines) same
+
+    true_then : (q : Option Play) → next ≡ q → AreTrueLines q lines → AreTrueLines None (line ∷ lines)
+    true_then q same truth = (tt, subst (λ (x : Next). TrueAfter x lines) (sym is) (subst (λ (x : Option Play). AreTrueLines x lines) (sym same) truth))
+
+    either : (next ≡ None) ⊎ ((s : Dimensions) × IsShape s × (next ≡ Some (record { world = opening s; moment = 0 }))) → Named (line ∷ lines)
+    either (inl none) =
+        let behind = later (subst (λ (q : Option Play). fault_in (n + 1) q lines ≡ None) none rest) in
+        record {
+          shape = behind.shape;
+          limits = behind.limits;
+          named = shape_is None none ∙ behind.named;
+          runs = subst (Runs (opening behind.shape)) (sym (turns_are None none)) behind.runs;
+          true_lines = true_then None none behind.true_lines;
+        }
+    either (inr (s, limits, some)) =
+        let p : Play = record { world = opening s; moment = 0 } in
+        record {
+          shape = s;
+          limits = limits;
+          named = shape_is (Some p) some;
+          runs = subst (Runs (opening s)) (sym (turns_are (Some p) some)) (mutual-runs s p lines (opened s limits));
+          true_lines = true_then (Some p) some (true-lines s p lines (opened s limits));
+        }
+
+  by : (next : Next) → next_of None line ≡ next → fault_in n None (line ∷ lines) ≡ None → (fault_in (n + 1) None lines ≡ None → Named lines) → Named (line ∷ lines)
+  by Ends is ends later = absurd (never-ends line is)
+  by (Refused fault) is ends later = absurd (cc (sym (ap (λ (x : Next). fault_after n x lines) is) ∙ ends))
+  by (Goes next turns text) is ends later = begun next turns text is (line-opens line next turns text is) (sym (ap (λ (x : Next). fault_after n x lines) is) ∙ ends) later
+
+-- the events of turns
+events-are : (w : World) (es : List Event) → map (λ turn. turn.event) (machine.turns_from w es) ≡ es
+events-are w [] = refl
+events-are w (e ∷ es) = ap (λ (xs : List Event). e ∷ xs) (events-are (step w e).world es)
+
+pub scripts_keep_promises : ScriptsKeepPromises
+scripts_keep_promises text whole = record {
+  shape = s;
+  named = named.named;
+  run = subst (IsRun s) same run;
+  turns = ap (machine.turns_of s) (sym same) ∙ leads.turns_are;
+  legal = subst (λ (ts : List Turn). IsLegal s.k (log_of ts)) leads.turns_are (subst (IsLegal s.k) line.one_log.kept line.one_log.legal);
+  within = subst (AnswersWithin s.k) leads.turns_are line.one_log.within;
+  headline = subst (Headline s) same line;
+  shown = named.true_lines;
+} where
+  named : Named (lines_of text)
+  named = begins 1 (lines_of text) whole
+
+  s : Dimensions
+  s = named.shape
+
+  leads : Leads (opening s) named.runs.v (turns_of text)
+  leads = named.runs.leads
+
+  same : leads.events ≡ events_of text
+  same = sym (events-are (opening s) leads.events) ∙ ap (λ (ts : List Turn). map (λ turn. turn.event) ts) leads.turns_are
+
+  run : IsRun s leads.events
+  run = (named.limits, leads.run)
+
+  line : Headline s leads.events
+  line = headline_always s leads.events run

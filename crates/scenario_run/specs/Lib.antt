@@ -1,0 +1,4 @@
+pub mod Lines
+pub mod Playing
+pub mod Promises
+pub mod Script

@@ -1,0 +1,50 @@
+-- What holds of every script's group: its turns are a run of the machine, so the headline is about it; and
+-- the lines that show bytes show what the log tells.
+use Rattle.std.specs.Prelude.{ℕ, ◌≡◌, List, [], ◌∷◌, Option, Some, None, Result, Ok, Err}
+use Rattle.group_types.specs.Dimensions.{Dimensions}
+use Rattle.group_types.specs.declared.process.ProcessId.{ProcessId}
+use Rattle.group_types.specs.declared.run.Run.{Run}
+use Rattle.group_calls.specs.Log.{IsLegal}
+use Rattle.group_calls.specs.Turns.{log_of}
+use Rattle.group_calls.specs.Within.{AnswersWithin}
+use Rattle.group_run.specs.Headline.{Headline, IsRun}
+use Rattle.group_run.specs.World as machine
+use Rattle.group_run.specs.World.{World}
+use Rattle.group_shown.specs.Shown.{held, told}
+use Rattle.scenario_text.specs.Meaning.{line_of}
+use Rattle.scenario_text.specs.declared.line.Line.{Line}
+use Rattle.scenario_text.specs.declared.line.Line.TheVariants.{Show}
+use Rattle.scenario_text.specs.declared.line.LineFault.{LineFault}
+use Rattle.scenario_run.specs.Lines.{lines_of}
+use Rattle.scenario_run.specs.Playing.{Play, Next, Goes, Ends, Refused, look, next_of, shape_in}
+use Rattle.scenario_run.specs.Script.{events_of, first_fault, shape_of, turns_of}
+
+-- what is shown is what the log tells
+abbrev pub ShowsTruth : World → ProcessId → Run → Type 0
+ShowsTruth w p run = look w p (held w p run) ≡ look w p (told w p run)
+
+-- so it is with a line that shows bytes
+abbrev pub IsTrueLine : Option Play → Result Line LineFault → Type 0
+IsTrueLine (Some p) (Ok (Show from run)) = ShowsTruth p.world from run
+IsTrueLine _ _ = Unit {0}
+
+-- and with all lines
+abbrev pub AreTrueLines : Option Play → List (List ℕ) → Type 0
+AreTrueLines play [] = Unit {0}
+AreTrueLines play (line ∷ lines) = IsTrueLine play (line_of (shape_in play) line)
+    × elim (next_of play line) [ Goes next turns text ↦ AreTrueLines next lines | Ends ↦ Unit {0} | Refused fault ↦ Unit {0} ]
+
+-- a script's group keeps its promises
+pub record KeepsPromises (text : List ℕ) : Type 0 where
+  pub shape : Dimensions
+  pub named : shape_of text ≡ Some shape
+  pub run : IsRun shape (events_of text)
+  pub turns : machine.turns_of shape (events_of text) ≡ turns_of text
+  pub legal : IsLegal shape.k (log_of (turns_of text))
+  pub within : AnswersWithin shape.k (turns_of text)
+  pub headline : Headline shape (events_of text)
+  pub shown : AreTrueLines None (lines_of text)
+
+-- the promises are kept by every script none of whose lines is refused
+abbrev pub ScriptsKeepPromises : Type 0
+ScriptsKeepPromises = (text : List ℕ) → first_fault text ≡ None → KeepsPromises text
