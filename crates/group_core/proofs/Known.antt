@@ -10,8 +10,10 @@ use Rattle.group_message.specs.declared.message.Message.{Message}
 use Rattle.group_message.specs.declared.message.Message.TheVariants as tells
 use Rattle.group_calls.specs.Log.{IsLegal}
 use Rattle.group_run.specs.Fitting.{Fits}
+use Rattle.group_run.specs.Headline.{AgreeOnStamp, Headline}
 use Rattle.group_run.specs.Keeping.{NodesKnowDown}
 use Rattle.group_run.specs.Meaning.{IsDown, Lives, is_dead, link, process_of}
+use Rattle.group_run.specs.Process.{Node}
 use Rattle.group_run.specs.World.{World, after, dead_nodes, node_of}
 use Rattle.group_run.specs.Replica.{last_of}
 use Rattle.group_run.specs.Rows.{parity_number}
@@ -22,10 +24,12 @@ use Rattle.group_bounds.proofs.Addressing.{kinds_always}
 use Rattle.group_bounds.proofs.Deaths.{few_dead_always}
 use Rattle.group_bounds.proofs.OwnMarks.{own_marks_always}
 use Rattle.group_node.specs.Delivering.{Comes}
+use Rattle.group_node.specs.Standing.{Standing}
 use Rattle.leader_role.specs.Sound.{IsOfGroup}
-use Rattle.group_core.specs.Runs.{HasRun}
+use Rattle.group_shown.specs.Shown.{process_stamp, stamp_of}
+use Rattle.group_core.specs.Runs.{HasHeadline, HasRun}
 use Rattle.group_core.specs.Seats.{IsKnownLow}
-use Rattle.group_core.proofs.Runs.{numbers-low}
+use Rattle.group_core.proofs.Runs.{named, numbers-low}
 
 less-word : (m n : ℕ) → (IsTrue (nat_lt m n) → m < n) × (m < n → IsTrue (nat_lt m n))
 less-word m n = ((λ yes. grind (arith, common_steps)), (λ less. grind (arith, common_steps)))
@@ -37,8 +41,24 @@ module _ (w : World) (has : HasRun w) where
   pub told-down : (b : Bool) → b ≡ (node_of w (DataNode 0)).down → (IsTrue b → IsDown w) × (IsDown w → IsTrue b)
   told-down b is = subst (λ (x : Bool). (IsTrue x → IsDown w) × (IsDown w → IsTrue x)) (sym (is ∙ word-is (DataNode 0) has.run.0.k.0)) (less-word w.shape.m (dead_nodes w.nodes))
 
+  headline : Headline w.shape has.events
+  headline = headline_always w.shape has.events has.run
+
+  pub has-headline : HasHeadline w
+  has-headline = record { led = has; headline = headline }
+
   pub log-legal : IsLegal w.shape.k w.log
-  log-legal = subst (λ (v : World). IsLegal w.shape.k v.log) (sym has.is) (headline_always w.shape has.events has.run).one_log.legal
+  log-legal = subst (λ (v : World). IsLegal w.shape.k v.log) (sym has.is) headline.one_log.legal
+
+  pub agree-on-stamp : ¬ (IsDown w) → AgreeOnStamp w
+  agree-on-stamp = subst (λ (v : World). ¬ (IsDown v) → AgreeOnStamp v) (sym has.is) headline.agree
+
+  -- what a node shows is what its process shows in the group
+  pub stamp-read : (p : ProcessId) → IsProcess w.shape p → (n : Standing) → n.shape ≡ w.shape → n.node ≡ node_of w p
+      → process_stamp n.shape n.node.process.name n.node.process ≡ stamp_of w p
+  stamp-read p pin n shape same =
+      let name : n.node.process.name ≡ p = ap (λ (x : Node). x.process.name) same ∙ named w has p pin in
+      (λ i. process_stamp (shape i) (name i) (same i).process)
 
   up : (p : ProcessId) → IsProcess w.shape p → (node_of w p).down ≡ false → ¬ (IsDown w)
   up p pin is down =

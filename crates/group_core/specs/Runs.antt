@@ -1,7 +1,7 @@
 -- A group that a run led to.
 use Rattle.std.specs.Prelude.{◌≡◌, List}
 use Rattle.group_calls.specs.declared.event.Event.{Event}
-use Rattle.group_run.specs.Headline.{IsRun}
+use Rattle.group_run.specs.Headline.{Headline, IsRun}
 use Rattle.group_run.specs.World.{World, after}
 use Rattle.group_ledger.specs.Books.{Books}
 use Rattle.group_core.specs.Seats.{Seats}
@@ -11,6 +11,11 @@ pub record HasRun (w : World) : Type 0 where
   pub events : List Event
   pub run : IsRun w.shape events
   pub is : w ≡ after w.shape events
+
+-- events that led to the group, and the headline of their run
+pub record HasHeadline (w : World) : Type 0 where
+  pub led : HasRun w
+  pub headline : Headline w.shape led.events
 
 -- the nodes and what is kept beside them, as a group
 abbrev pub group_of : Seats → Books → World

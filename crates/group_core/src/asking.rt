@@ -7,12 +7,11 @@ ghost use Rattle.group_node.specs.Steps.{IsRefusal};
 ghost use Rattle.group_core.specs.Seats.{IsKnownLow, made, one_changed, seat};
 
 use crate::nodes::Nodes;
-use group_calls::Answer;
 use group_node::{NodeOut, index_of};
 use group_types::{Partition, ProcessId};
 use head_service::Call;
 use memc_table::Op;
-use std::alloc::{AllocError, Global};
+use std::alloc::AllocError;
 
 // What a call makes of the node that it is asked at.
 impl Nodes {
@@ -36,7 +35,7 @@ impl Nodes {
     {
         let at = index_of(self.shape, at) as usize;
         let answer = self.nodes[at].collect(caller, call);
-        only(self.alloc, answer)
+        NodeOut::only(self.alloc, answer)
     }
 
     pub(crate) fn flush(&mut self, at: ProcessId) -> Result<NodeOut, AllocError>
@@ -62,17 +61,6 @@ impl Nodes {
         ensures step { one_changed self.now at (trace_node self.now.shape caller call partition.0 (seat self.now at)) ≡ made self.now result }
     {
         let answer = self.node(at).trace(caller, call, partition);
-        only(self.alloc, answer)
-    }
-}
-
-/// An answer that settles nothing.
-pub(crate) fn only(alloc: Global, answer: Answer) -> NodeOut
-    ensures answer { result.answer ≡ answer }
-    ensures settled { result.settled.items ≡ [] }
-{
-    NodeOut {
-        answer,
-        settled: Vec::new(alloc),
+        NodeOut::only(self.alloc, answer)
     }
 }

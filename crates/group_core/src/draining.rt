@@ -1,25 +1,24 @@
 ghost use Rattle.std.specs.Prelude.{◌≡◌, ◌+◌, ◌<◌, ◌↔◌, None, IsTrue, IfSome, option_map};
 ghost use Rattle.std.specs.List.{range_with_len};
+ghost use Rattle.group_calls.specs.declared.event.Event.TheVariants as happens;
 ghost use Rattle.group_run.specs.Draining.{is_waiting, next_delivery, next_target};
 ghost use Rattle.group_run.specs.Meaning.{IsDrained};
 ghost use Rattle.group_core.specs.Links.{delivery};
 
-use crate::nodes::process_at;
 use crate::world::World;
-use group_calls::Event;
+use group_types::ProcessId;
+use group_node::process_at;
 
 impl World {
-    /// The delivery that drains the group next: that of the lowest link into a living process that has a message.
-    pub fn next_link(&self) -> Option<Event>
-        ensures { result ≡ next_delivery self.now }
+    /// The link that drains the group next, by its sender and its receiver: the lowest into a living process that has a
+    /// message.
+    pub fn next_link(&self) -> Option<(ProcessId, ProcessId)>
+        ensures { option_map (λ link. happens.Deliver link.0 link.1) result ≡ next_delivery self.now }
     {
         let shape = self.shape();
         match self.next_indices() {
             None => None,
-            Some((from, to)) => Some(Event::Deliver {
-                from: process_at(shape, from),
-                to: process_at(shape, to),
-            }),
+            Some((from, to)) => Some((process_at(shape, from), process_at(shape, to))),
         }
     }
 

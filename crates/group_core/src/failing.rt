@@ -4,7 +4,6 @@ ghost use Rattle.group_types.specs.Names.{IsProcess};
 ghost use Rattle.group_run.specs.World.{all_change, dead_nodes, with_down};
 ghost use Rattle.group_core.specs.Seats.{AreOf, AreSeated, made, nodes_of, seat, seats_of};
 
-use crate::asking::only;
 use crate::nodes::Nodes;
 use group_calls::Answer;
 use group_node::{Node, NodeOut, index_of};
@@ -19,7 +18,7 @@ impl Nodes {
         ensures step { all_change (seat self.old at).dead self.old.shape self.old.nodes at keep ≡ made self.new result }
     {
         let answer = kill(self.shape, &mut self.nodes, at, keep);
-        only(self.alloc, answer)
+        NodeOut::only(self.alloc, answer)
     }
 }
 

@@ -1,4 +1,4 @@
-ghost use Rattle.std.specs.Prelude.{◌≡◌, ◌+◌, ◌<◌, ◌≤◌, IfOk, length, map};
+ghost use Rattle.std.specs.Prelude.{◌≡◌, ◌+◌, ◌≤◌, IfOk, length, map};
 ghost use Rattle.std.specs.List.{range_with_len};
 ghost use Rattle.group_types.specs.Names as names;
 ghost use Rattle.group_types.specs.Names.{IsProcess};
@@ -6,7 +6,7 @@ ghost use Rattle.group_types.specs.Shape.{IsShape};
 ghost use Rattle.group_run.specs.World.{opening, opening_node};
 ghost use Rattle.group_core.specs.Seats.{AreOf, nodes_of, seat};
 
-use group_node::{Node, index_of};
+use group_node::{Node, index_of, process_at};
 use group_types::{ProcessId, Shape};
 use std::alloc::{AllocError, Global};
 use std::marker::Model;
@@ -72,18 +72,4 @@ fn nodes_at_start(alloc: Global, shape: Shape, count: u32) -> Result<Vec<Node>, 
         nodes.push(Node::new(alloc, shape, process_at(shape, x))?)?;
     }
     Ok(nodes)
-}
-
-/// The process at an index.
-pub(crate) fn process_at(shape: Shape, x: u32) -> ProcessId
-    requires { x < shape.k + shape.m }
-    ensures name { result ≡ names.process_at shape x }
-    ensures process { IsProcess shape result }
-{
-    let k = shape.k();
-    if x < k {
-        ProcessId::DataNode(x)
-    } else {
-        ProcessId::ParityNode(x - k)
-    }
 }

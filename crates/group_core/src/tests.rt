@@ -1,7 +1,7 @@
 // Whole runs, event by event: what is answered, and how many entries are logged.
 use crate::world::World;
 use group_calls::{Answer, Cause, Event, Out};
-use group_types::{Key, Partition, Payload, ProcessId, Shape};
+use group_types::{Key, Partition, Payload, ProcessId, Run, Shape};
 use memc_table::{Act, Op, Reply};
 use std::alloc::{AllocError, Global};
 use std::test::Fail;
@@ -67,29 +67,31 @@ const A_DATA_PROCESS_DIES: [Row; 11] = [
 
 #[test]
 fn a_set_is_logged_once_it_is_acknowledged(rt: HostRuntime) -> Result<(), Fail> {
-    let world = World::new(rt.alloc(), Shape::new(1, 1, 1, 16)?)?;
-    assert!(rt; all_answer(rt.alloc(), world, &A_SET_AND_ITS_DELIVERY)?);
+    let mut world = World::new(rt.alloc(), Shape::new(1, 1, 1, 16)?)?;
+    assert!(rt; all_answer(rt.alloc(), &mut world, &A_SET_AND_ITS_DELIVERY)?);
+    assert!(rt; shows(&world, FIRST, &[1], b"1")? && shows(&world, PARITY, &[0], b"\0")?);
     Ok(())
 }
 
 #[test]
 fn without_parity_processes_an_update_is_settled_at_once(rt: HostRuntime) -> Result<(), Fail> {
-    let world = World::new(rt.alloc(), Shape::new(1, 1, 1, 16)?)?;
-    assert!(rt; all_answer(rt.alloc(), world, &THE_PARITY_PROCESS_DIES)?);
+    let mut world = World::new(rt.alloc(), Shape::new(1, 1, 1, 16)?)?;
+    assert!(rt; all_answer(rt.alloc(), &mut world, &THE_PARITY_PROCESS_DIES)?);
     Ok(())
 }
 
 #[test]
 fn a_parity_process_takes_over(rt: HostRuntime) -> Result<(), Fail> {
-    let world = World::new(rt.alloc(), Shape::new(2, 1, 4, 16)?)?;
-    assert!(rt; all_answer(rt.alloc(), world, &A_DATA_PROCESS_DIES)?);
+    let mut world = World::new(rt.alloc(), Shape::new(2, 1, 4, 16)?)?;
+    assert!(rt; all_answer(rt.alloc(), &mut world, &A_DATA_PROCESS_DIES)?);
+    assert!(rt; shows(&world, SECOND, &[0], b"\0")? && shows(&world, PARITY, &[1, 0], b"A")?);
     Ok(())
 }
 
 // Whether each row is answered so.
-fn all_answer(alloc: Global, mut world: World, rows: &[Row]) -> Result<bool, Fail> {
+fn all_answer(alloc: Global, world: &mut World, rows: &[Row]) -> Result<bool, Fail> {
     'rows: for row in rows {
-        if !happens(alloc, &mut world, row)? {
+        if !happens(alloc, world, row)? {
             return Ok(false);
         }
     }
@@ -113,6 +115,15 @@ fn answers(
     }
     let out = world.step(event)?;
     Ok(is(&out, answer, logged))
+}
+
+// Whether a process shows this stamp, and this first byte.
+fn shows(world: &World, at: ProcessId, stamp: &[u64], byte: &[u8]) -> Result<bool, AllocError> {
+    if !world.may_come(&Event::Flush { at }) || world.shape().space() == 0 {
+        return Ok(false);
+    }
+    let first = world.bytes(at, Run { at: 0, len: 1 })?;
+    Ok(world.stamp(at)?.as_slice() == stamp && first.bytes() == byte)
 }
 
 fn is(out: &Out, answer: &str, logged: u64) -> bool {

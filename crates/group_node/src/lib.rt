@@ -8,10 +8,11 @@ mod delivery;
 mod failing;
 mod node;
 mod process;
+mod reading;
 mod sending;
 #[cfg(test)]
 mod tests;
 
 pub use delivery::deliver_between;
 pub use node::{Node, NodeOut};
-pub use sending::index_of;
+pub use sending::{index_of, process_at};

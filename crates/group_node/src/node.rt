@@ -24,7 +24,7 @@ pub struct NodeOut {
 
 impl NodeOut {
     /// An answer that settles nothing.
-    pub(crate) fn only(alloc: Global, answer: Answer) -> NodeOut
+    pub fn only(alloc: Global, answer: Answer) -> NodeOut
         ensures answer { result.answer ≡ answer }
         ensures settled { result.settled.items ≡ [] }
     {

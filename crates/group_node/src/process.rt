@@ -1,6 +1,8 @@
-ghost use Rattle.std.specs.Prelude.{◌≡◌, ◌<◌, ◌^◌, [], All, IfOk, OnErr};
+ghost use Rattle.std.specs.Prelude.{◌≡◌, ◌+◌, ◌≤◌, ◌<◌, ◌^◌, [], All, IfOk, OnErr};
 ghost use Rattle.std.specs.List.{range_with_len};
+ghost use Rattle.group_types.specs.Dimensions.{space_of};
 ghost use Rattle.group_types.specs.Names.{IsProcess};
+ghost use Rattle.erasure_code.specs.Spaces.{bytes_at};
 ghost use Rattle.group_run.specs.Applying.{head_at, sending};
 ghost use Rattle.group_run.specs.Asking.{ask_process, collect_from, fate_of, only};
 ghost use Rattle.group_run.specs.Process.{opening_process};
@@ -11,11 +13,13 @@ ghost use Rattle.head_service.specs.Acting.{name_of};
 ghost use Rattle.process_service.specs.Noticing.{waiting};
 ghost use Rattle.process_service.specs.Steps.{called, stepped};
 ghost use Rattle.group_node.specs.Delivering.{Comes};
+ghost use Rattle.group_shown.specs.Shown.{process_stamp};
 
+use crate::reading::numbers_of;
 use data_process::DataProcess;
 use group_calls::Answer;
 use group_message::Message;
-use group_types::{Partition, ProcessId, Shape};
+use group_types::{Partition, Payload, ProcessId, Run, Shape};
 use head_service::{Call, CallStep, Sent};
 use membership::Members;
 use memc_table::Op;
@@ -152,6 +156,27 @@ impl Process {
         match &self.role {
             Role::Data(process) => process.waiting(),
             Role::Parity(process) => process.waiting(),
+        }
+    }
+    /// The numbers up to which it has settled or applied, where its group has `k` partitions.
+    pub fn stamp(&self, alloc: Global, k: u32) -> Result<Vec<u64>, AllocError>
+        requires { k ≡ self.now.shape.k }
+        ensures { IfOk result (λ stamp. stamp.items ≡ process_stamp self.now.shape self.now.process.name self.now.process) }
+    {
+        match &self.role {
+            Role::Data(process) => Ok(vec![in alloc; process.stamp()]?),
+            Role::Parity(process) => numbers_of(alloc, k, &process.stamp()?),
+        }
+    }
+
+    /// The bytes of a run of its space.
+    pub fn bytes(&self, run: Run) -> Result<Payload, AllocError>
+        requires { run.at + run.len ≤ space_of self.now.shape }
+        ensures { IfOk result (λ bytes. bytes ≡ bytes_at run.at run.len self.now.process.space) }
+    {
+        match &self.role {
+            Role::Data(process) => process.bytes(run),
+            Role::Parity(process) => process.bytes(run),
         }
     }
 }

@@ -1,4 +1,4 @@
-ghost use Rattle.std.specs.Prelude.{◌≡◌, ◌+◌, suc, List, ◌∷◌, length, IfSome, IfNone, OnOk};
+ghost use Rattle.std.specs.Prelude.{◌≡◌, ◌+◌, ◌<◌, suc, List, ◌∷◌, length, IfSome, IfNone, OnOk};
 ghost use Rattle.group_run.specs.Applying as machine;
 ghost use Rattle.group_types.specs.Names as names;
 ghost use Rattle.group_types.specs.Names.{IsProcess};
@@ -74,5 +74,19 @@ pub fn index_of(shape: Shape, name: ProcessId) -> u32
     match name {
         ProcessId::DataNode(d) => d,
         ProcessId::ParityNode(i) => shape.k() + i,
+    }
+}
+
+/// The process of the group at an index.
+pub fn process_at(shape: Shape, x: u32) -> ProcessId
+    requires { x < shape.k + shape.m }
+    ensures name { result ≡ names.process_at shape x }
+    ensures process { IsProcess shape result }
+{
+    let k = shape.k();
+    if x < k {
+        ProcessId::DataNode(x)
+    } else {
+        ProcessId::ParityNode(x - k)
     }
 }

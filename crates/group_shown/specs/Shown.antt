@@ -11,12 +11,17 @@ use Rattle.group_calls.specs.declared.event.Event.{Event}
 use Rattle.group_run.specs.Applying.{replica_of}
 use Rattle.group_run.specs.Headline.{IsRun}
 use Rattle.group_run.specs.Meaning.{IsDown, Lives, process_of, spaces_at, values_after}
+use Rattle.group_run.specs.Process.{Process}
 use Rattle.group_run.specs.World.{World, after, dead_nodes}
 
--- the stamp of a process: the settled number of a data process, the applied numbers of a parity process
+-- the stamp of the process of a name: the settled number of a data process, the applied numbers of a parity process
+abbrev pub process_stamp : Dimensions → ProcessId → Process → List ℕ
+process_stamp s (DataNode d) p = (replica_of p d).applied ∷ []
+process_stamp s (ParityNode _) p = map (λ d. (replica_of p d).applied) (range_with_len 0 s.k)
+
+-- the stamp of a process of the group
 abbrev pub stamp_of : World → ProcessId → List ℕ
-stamp_of w (DataNode d) = (replica_of (process_of w (DataNode d)) d).applied ∷ []
-stamp_of w (ParityNode i) = map (λ d. (replica_of (process_of w (ParityNode i)) d).applied) (range_with_len 0 w.shape.k)
+stamp_of w p = process_stamp w.shape p (process_of w p)
 
 -- the bytes of a run that a process holds
 abbrev pub held : World → ProcessId → Run → List ℕ

@@ -1,0 +1,2 @@
+pub mod Parsers
+pub mod Words

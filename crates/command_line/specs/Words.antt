@@ -1,0 +1,52 @@
+-- The command that words say.
+use Rattle.std.specs.Prelude.{ℕ, List, [], ◌∷◌, Option, Some, None, option_and_then, option_map, if◌then◌else◌, codes}
+use Rattle.std.specs.Str.{bytes_eq}
+use Rattle.std.specs.Str.Parse.{digits_value, without_leading_plus}
+use Rattle.clap.specs.ValueTests.{is_unsigned_in}
+use Rattle.clap.specs.Walk.{is_empty}
+use Rattle.clap.specs.Words.{App, Row, Text, fault_of, matches_of, one_of}
+use Rattle.command_line.specs.Parsers.{bare, most_32, most_64, number_app, session_app}
+use Rattle.command_line.specs.declared.command.Command.{Command}
+use Rattle.command_line.specs.declared.command.Command.TheVariants.{Make, Play, Session, Trial}
+
+-- the number that a text writes in decimal digits, behind a plus or not
+abbrev pub number_up_to : ℕ → Text → Option ℕ
+number_up_to most text = if is_unsigned_in 0 most text then Some (digits_value 10 (without_leading_plus text)) else None
+
+-- the number of an argument
+abbrev pub number_at : ℕ → List Row → Text → Option ℕ
+number_at most rows id = option_and_then (number_up_to most) (one_of id rows)
+
+-- what is said where a command of `clap` takes the words
+abbrev pub if_taken : {X : Type 0} → App → List Text → Option X → Option X
+if_taken app words said = if is_empty (fault_of app words) then said else None
+
+abbrev pub play_of : List Text → Option Command
+play_of words = if_taken (bare (codes "play")) words (Some Play)
+
+abbrev pub session_with : Option ℕ → Option ℕ → Option ℕ → Option ℕ → Option Command
+session_with (Some k) (Some m) (Some blocks) (Some block) = Some (Session k m blocks block)
+session_with _ _ _ _ = None
+
+abbrev pub session_in : List Row → Option Command
+session_in rows = session_with (number_at most_32 rows (codes "k")) (number_at most_32 rows (codes "m"))
+    (number_at most_32 rows (codes "blocks")) (number_at most_32 rows (codes "block"))
+
+abbrev pub session_of : List Text → Option Command
+session_of words = if_taken session_app words (session_in (matches_of session_app words))
+
+-- the number behind the first word
+abbrev pub number_of : Text → List Text → Option ℕ
+number_of name words = if_taken (number_app name) words (number_at most_64 (matches_of (number_app name) words) (codes "number"))
+
+abbrev pub command_at : Text → List Text → Option Command
+command_at word words =
+    if bytes_eq word (codes "play") then play_of words
+    else if bytes_eq word (codes "session") then session_of words
+    else if bytes_eq word (codes "make") then option_map Make (number_of word words)
+    else if bytes_eq word (codes "trial") then option_map Trial (number_of word words)
+    else None
+
+abbrev pub command_of : List Text → Option Command
+command_of [] = None
+command_of (word ∷ words) = command_at word words

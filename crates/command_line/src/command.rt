@@ -1,0 +1,21 @@
+/// What the program is to do.
+#[derive(Clone, Copy, Debug, PartialEq, Eq)]
+pub enum Command {
+    /// Plays a script.
+    Play,
+    /// Serves one connection over a group of this shape.
+    Session {
+        k: u32,
+        m: u32,
+        blocks: u32,
+        block: u32,
+    },
+    /// Makes the script of this number.
+    Make {
+        number: u64,
+    },
+    /// Plays the script of this number.
+    Trial {
+        number: u64,
+    },
+}

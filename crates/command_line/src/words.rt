@@ -1,0 +1,192 @@
+ghost use Rattle.std.specs.Prelude.{◌≡◌, ◌≢◌, true, [], Some, None, map, option_map, codes, IfOk, OnOk, IsErrOf};
+ghost use Rattle.std.specs.String.{string_bytes};
+ghost use Rattle.clap.specs.Words.{app_of, fault_of, found_of, is_simple_and_free, matches_of, rows_of};
+ghost use Rattle.command_line.specs.Parsers.{most_32, most_64};
+ghost use Rattle.command_line.specs.Words.{command_of, number_at, number_of, play_of, session_of, session_with};
+
+use crate::command::Command;
+use crate::fault::WordsFault;
+use crate::{fault, parsers};
+use clap::ArgMatches;
+use std::alloc::Global;
+
+/// The command that the words say. Memory may run out; else the words are wrong exactly where they say none.
+pub fn read_words(alloc: Global, words: &[String]) -> Result<Command, WordsFault>
+    ensures ok { IfOk result (λ command. command_of (map string_bytes words.now) ≡ Some command) }
+    ensures bad_words { IsErrOf result WordsFault.BadWords → command_of (map string_bytes words.now) ≡ None }
+{
+    let Some((word, rest)) = words.split_first() else {
+        return Err(WordsFault::BadWords);
+    };
+    match word.as_str() {
+        "play" => read_play(alloc, rest),
+        "session" => read_session(alloc, rest),
+        "make" => read_make(alloc, rest),
+        "trial" => read_trial(alloc, rest),
+        _ => Err(WordsFault::BadWords),
+    }
+}
+
+fn read_play(alloc: Global, words: &[String]) -> Result<Command, WordsFault>
+    ensures ok { IfOk result (λ command. play_of (map string_bytes words.now) ≡ Some command) }
+    ensures bad_words { IsErrOf result WordsFault.BadWords → play_of (map string_bytes words.now) ≡ None }
+{
+    parse(parsers::bare(alloc, "play"), words)?;
+    Ok(Command::Play)
+}
+
+fn read_session(alloc: Global, words: &[String]) -> Result<Command, WordsFault>
+    ensures ok { IfOk result (λ command. session_of (map string_bytes words.now) ≡ Some command) }
+    ensures bad_words { IsErrOf result WordsFault.BadWords → session_of (map string_bytes words.now) ≡ None }
+{
+    let matches = parse(parsers::session(alloc)?, words)?;
+    let k = small_number(&matches, "k");
+    let m = small_number(&matches, "m");
+    let blocks = small_number(&matches, "blocks");
+    let block = small_number(&matches, "block");
+    session(k, m, blocks, block).ok_or(WordsFault::BadWords)
+}
+
+fn session(
+    k: Option<u32>,
+    m: Option<u32>,
+    blocks: Option<u32>,
+    block: Option<u32>,
+) -> Option<Command>
+    ensures { result ≡ session_with k m blocks block }
+{
+    Some(Command::Session {
+        k: k?,
+        m: m?,
+        blocks: blocks?,
+        block: block?,
+    })
+}
+
+fn read_make(alloc: Global, words: &[String]) -> Result<Command, WordsFault>
+    ensures ok { IfOk result (λ command. option_map Command.Make (number_of (codes "make") (map string_bytes words.now)) ≡ Some command) }
+    ensures bad_words { IsErrOf result WordsFault.BadWords → number_of (codes "make") (map string_bytes words.now) ≡ None }
+{
+    let number = read_number(alloc, "make", words)?;
+    Ok(Command::Make { number })
+}
+
+fn read_trial(alloc: Global, words: &[String]) -> Result<Command, WordsFault>
+    ensures ok { IfOk result (λ command. option_map Command.Trial (number_of (codes "trial") (map string_bytes words.now)) ≡ Some command) }
+    ensures bad_words { IsErrOf result WordsFault.BadWords → number_of (codes "trial") (map string_bytes words.now) ≡ None }
+{
+    let number = read_number(alloc, "trial", words)?;
+    Ok(Command::Trial { number })
+}
+
+fn read_number(alloc: Global, name: &str, words: &[String]) -> Result<u64, WordsFault>
+    ensures ok { IfOk result (λ number. number_of name.now (map string_bytes words.now) ≡ Some number) }
+    ensures bad_words { IsErrOf result WordsFault.BadWords → number_of name.now (map string_bytes words.now) ≡ None }
+{
+    let matches = parse(parsers::one_number(alloc, name)?, words)?;
+    number(&matches, "number").ok_or(WordsFault::BadWords)
+}
+
+// What a command of `clap` makes of the words.
+fn parse<'a>(command: clap::Command<'a>, words: &'a [String]) -> Result<ArgMatches<'a>, WordsFault>
+    requires { is_simple_and_free (app_of command) ≡ true }
+    ensures rows { IfOk result (λ matches. rows_of (found_of matches) ≡ matches_of (app_of command.entry) (map string_bytes words.entry.now)) }
+    ensures taken { OnOk result (fault_of (app_of command.entry) (map string_bytes words.entry.now) ≡ []) }
+    ensures bad_words { IsErrOf result WordsFault.BadWords → fault_of (app_of command.entry) (map string_bytes words.entry.now) ≢ [] }
+{
+    match command.try_get_matches_from(words) {
+        Ok(matches) => Ok(matches),
+        Err(error) => Err(fault::fault_of(&error)),
+    }
+}
+
+fn small_number(matches: &ArgMatches, id: &str) -> Option<u32>
+    ensures { result ≡ number_at most_32 (rows_of (found_of matches.now)) id.now }
+{
+    matches.get_one::<u32>(id)
+}
+
+fn number(matches: &ArgMatches, id: &str) -> Option<u64>
+    ensures { result ≡ number_at most_64 (rows_of (found_of matches.now)) id.now }
+{
+    matches.get_one::<u64>(id)
+}
+
+#[cfg(test)]
+mod tests {
+    use super::*;
+    use std::test::Fail;
+
+    const SESSION: Command = Command::Session {
+        k: 3,
+        m: 2,
+        blocks: 64,
+        block: 4_294_967_295,
+    };
+
+    #[test]
+    fn says_each_command(rt: HostRuntime) -> Result<(), Fail> {
+        let rows: [(&[&str], Command); 9] = [
+            (&["play"], Command::Play),
+            (&["play", "--"], Command::Play),
+            (&["session", "3", "2", "64", "4294967295"], SESSION),
+            (&["session", "--", "3", "2", "64", "4294967295"], SESSION),
+            (&["session", "+3", "02", "--", "64", "4294967295"], SESSION),
+            (&["make", "0"], Command::Make { number: 0 }),
+            (&["make", "--", "+007"], Command::Make { number: 7 }),
+            (
+                &["make", "18446744073709551615"],
+                Command::Make { number: u64::MAX },
+            ),
+            (&["trial", "5"], Command::Trial { number: 5 }),
+        ];
+        for (at, (words, command)) in rows.iter().enumerate() {
+            assert_eq!(rt; read(rt.alloc(), words)?, Ok(*command), "at row {at}");
+        }
+        Ok(())
+    }
+
+    #[test]
+    fn refuses_other_words(rt: HostRuntime) -> Result<(), Fail> {
+        let rows: [&[&str]; 25] = [
+            &[],
+            &[""],
+            &["Play"],
+            &["serve"],
+            &["help"],
+            &["--help"],
+            &["play", "x"],
+            &["play", "help"],
+            &["play", "--help"],
+            &["play", "-h"],
+            &["session", "3", "2", "64"],
+            &["session", "3", "2", "64", "16", "1"],
+            &["session", "3", "2", "64", "4294967296"],
+            &["session", "-1", "2", "64", "16"],
+            &["session", "--", "-1", "2", "64", "16"],
+            &["session", "3", "--", "2", "--", "64", "16"],
+            &["session", "3", "2", "64", ""],
+            &["make"],
+            &["make", "--number", "1"],
+            &["make", "1", "2"],
+            &["make", "18446744073709551616"],
+            &["make", "+"],
+            &["make", "1a"],
+            &["trial", "--version"],
+            &["trial", "-1"],
+        ];
+        for (at, words) in rows.iter().enumerate() {
+            let fault = WordsFault::BadWords;
+            assert_eq!(rt; read(rt.alloc(), words)?, Err(fault), "at row {at}");
+        }
+        Ok(())
+    }
+
+    fn read(alloc: Global, words: &[&str]) -> Result<Result<Command, WordsFault>, Fail> {
+        let mut owned = Vec::new(alloc);
+        for word in words {
+            owned.push(String::from_str(alloc, word)?)?;
+        }
+        Ok(read_words(alloc, &owned))
+    }
+}

@@ -1,0 +1,40 @@
+ghost use Rattle.std.specs.Prelude.{◌≡◌, ◌+◌, ◌≤◌, IfOk, length};
+ghost use Rattle.group_types.specs.Dimensions.{space_of};
+ghost use Rattle.erasure_code.specs.Spaces.{bytes_at};
+ghost use Rattle.group_shown.specs.Shown.{process_stamp};
+
+use crate::node::Node;
+use group_types::{Payload, Run};
+use std::alloc::{AllocError, Global};
+use vector_stamp::Stamp;
+
+// What the process shows.
+impl Node {
+    /// The numbers up to which it has settled or applied: its own partition's alone of a data process, one for each
+    /// partition of a parity process.
+    pub fn stamp(&self) -> Result<Vec<u64>, AllocError>
+        ensures { IfOk result (λ stamp. stamp.items ≡ process_stamp self.now.shape self.now.node.process.name self.now.node.process) }
+    {
+        self.process.stamp(self.alloc, self.shape.k())
+    }
+
+    /// The bytes of a run of its space.
+    pub fn bytes(&self, run: Run) -> Result<Payload, AllocError>
+        requires { run.at + run.len ≤ space_of self.now.shape }
+        ensures { IfOk result (λ bytes. bytes ≡ bytes_at run.at run.len self.now.node.process.space) }
+    {
+        self.process.bytes(run)
+    }
+}
+
+/// The numbers of a stamp.
+pub(crate) fn numbers_of(alloc: Global, k: u32, stamp: &Stamp) -> Result<Vec<u64>, AllocError>
+    requires { k ≡ length stamp.now }
+    ensures { IfOk result (λ numbers. numbers.items ≡ stamp.now) }
+{
+    let mut numbers = Vec::with_capacity(alloc, k as usize)?;
+    'partitions: for d in 0..k {
+        numbers.push(stamp.at(d))?;
+    }
+    Ok(numbers)
+}
