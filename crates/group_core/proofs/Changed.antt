@@ -1,5 +1,5 @@
 -- The nodes after one of them changed.
-use Rattle.std.proofs.Common.{ℕ, zero, suc, ◌≡◌, ◌<◌, ◌+◌, List, [], ◌∷◌, Result, Ok, Err, IfOk, length, map, get_or, set, All, refl, sym, ap, subst, ◌∙◌, arith}
+use Rattle.std.proofs.Common.{ℕ, zero, suc, ◌≡◌, ◌<◌, ◌+◌, List, [], ◌∷◌, Result, Ok, Err, IfOk, length, get_or, set, refl, sym, ap, subst, ◌∙◌, arith}
 use Rattle.std.proofs.lemmas.List.{length-set}
 use Rattle.std.proofs.lemmas.List.Elements.{All-set}
 use Rattle.std.specs.declared.alloc.AllocError.{AllocError}
@@ -10,12 +10,12 @@ use Rattle.group_types.specs.declared.process.ProcessId.{ProcessId}
 use Rattle.group_types.proofs.Names.{index-below}
 use Rattle.group_calls.specs.declared.event.Answer.{Answer}
 use Rattle.group_run.specs.Process.{Node}
-use Rattle.group_run.specs.World.{NodeStep, node_in, opening_node, unchanged, with_node}
+use Rattle.group_run.specs.World.{NodeStep, opening_node, unchanged, with_node}
 use Rattle.group_frame.proofs.Reading.{node-back}
 use Rattle.group_node.specs.Standing.{Standing}
 use Rattle.group_node.specs.Steps as node
 use Rattle.group_node.specs.declared.node.NodeOut.{NodeOut}
-use Rattle.group_core.specs.Seats.{AreOf, AreSeated, Seats, made, nodes_of, one_changed, seat, seats_of}
+use Rattle.group_core.specs.Seats.{AreSeated, Seats, made, nodes_of, one_changed, seat, seats_of}
 
 -- the node at an index
 pub node-at : (d : Node) (xs : List Standing) (x : ℕ) (e : Standing) → x < length xs → (get_or xs x e).node ≡ at d (nodes_of xs) x

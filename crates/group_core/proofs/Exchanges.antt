@@ -1,5 +1,5 @@
 -- What a delivery makes of the nodes.
-use Rattle.std.proofs.Common.{ℕ, zero, suc, ◌≡◌, ◌≢◌, ◌<◌, false, List, [], ◌∷◌, Result, Ok, Err, IfOk, OnErr, length, get_or, set, refl, sym, ap, subst, ◌∙◌, arith}
+use Rattle.std.proofs.Common.{ℕ, zero, suc, ◌≡◌, ◌<◌, false, List, [], ◌∷◌, Result, Ok, Err, IfOk, OnErr, length, get_or, set, refl, sym, ap, subst, ◌∙◌, arith}
 use Rattle.std.specs.declared.alloc.AllocError.{AllocError}
 use Rattle.group_types.specs.Dimensions.{Dimensions}
 use Rattle.group_types.specs.Lists.{at}
@@ -7,7 +7,7 @@ use Rattle.group_types.specs.Names.{IsProcess, index_of}
 use Rattle.group_types.specs.declared.process.ProcessId.{ProcessId}
 use Rattle.group_message.specs.declared.message.Message.{Message}
 use Rattle.group_run.specs.Process.{Node}
-use Rattle.group_run.specs.World.{DeliveryStep, deliver_nodes, opening_node, with_node}
+use Rattle.group_run.specs.World.{deliver_nodes, opening_node, with_node}
 use Rattle.group_node.specs.Delivering.{Comes}
 use Rattle.group_node.specs.Standing.{Standing}
 use Rattle.group_node.specs.Steps as node

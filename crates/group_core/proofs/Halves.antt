@@ -1,5 +1,5 @@
 -- A delivery between the two halves of a list of nodes.
-use Rattle.std.proofs.Common.{ℕ, ◌≡◌, ◌<◌, false, List, [], ◌∷◌, ◌++◌, Result, Ok, Err, IfOk, length, take, drop, get_or, set, refl, sym, ap, subst, ◌∙◌}
+use Rattle.std.proofs.Common.{ℕ, ◌≡◌, ◌<◌, false, List, [], ◌∷◌, ◌++◌, Result, Ok, Err, IfOk, length, take, drop, get_or, set, sym, ap, subst, ◌∙◌}
 use Rattle.std.specs.declared.alloc.AllocError.{AllocError}
 use Rattle.group_types.specs.Lists.{at}
 use Rattle.group_types.specs.Names.{index_of}

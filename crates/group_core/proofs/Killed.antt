@@ -1,5 +1,5 @@
 -- What a death makes of the nodes.
-use Rattle.std.proofs.Common.{ℕ, ◌≡◌, Bool, true, false, nat_lt, List, [], length, map, get_or, set, refl, sym, ap, subst, ◌∙◌}
+use Rattle.std.proofs.Common.{ℕ, ◌≡◌, Bool, true, false, nat_lt, List, [], map, get_or, set, refl, sym, ap, ◌∙◌}
 use Rattle.group_types.specs.Dimensions.{Dimensions}
 use Rattle.group_types.specs.Names.{IsProcess, index_of}
 use Rattle.group_types.specs.declared.process.ProcessId.{ProcessId}

@@ -1,5 +1,5 @@
 -- What is delivered in a group that a run led to.
-use Rattle.std.proofs.Common.{ℕ, ◌≡◌, ◌≢◌, ◌<◌, ◌≤◌, Bool, true, false, IsTrue, nat_lt, List, ◌∷◌, refl, sym, ap, subst, ◌∙◌, arith}
+use Rattle.std.proofs.Common.{ℕ, ◌≡◌, ◌≢◌, ◌<◌, ◌≤◌, Bool, false, IsTrue, nat_lt, List, ◌∷◌, refl, sym, ap, subst, ◌∙◌, arith}
 use Rattle.std.proofs.lemmas.List.Elements.{All-weaker}
 use Rattle.std.proofs.lemmas.Grind.{common_steps}
 use Rattle.group_types.specs.Dimensions.{Dimensions}
@@ -12,9 +12,9 @@ use Rattle.group_calls.specs.Log.{IsLegal}
 use Rattle.group_run.specs.Fitting.{Fits}
 use Rattle.group_run.specs.Headline.{AgreeOnStamp, Headline}
 use Rattle.group_run.specs.Keeping.{NodesKnowDown}
-use Rattle.group_run.specs.Meaning.{IsDown, Lives, is_dead, link, process_of}
+use Rattle.group_run.specs.Meaning.{IsDown, Lives, link, process_of}
 use Rattle.group_run.specs.Process.{Node}
-use Rattle.group_run.specs.World.{World, after, dead_nodes, node_of}
+use Rattle.group_run.specs.World.{World, dead_nodes, node_of}
 use Rattle.group_run.specs.Replica.{last_of}
 use Rattle.group_run.specs.Rows.{parity_number}
 use Rattle.group_frame.proofs.Downs.{words_always}

@@ -1,5 +1,5 @@
 -- Two items of a list that is cut in two.
-use Rattle.std.proofs.Common.{ℕ, zero, suc, ◌≡◌, ◌<◌, List, [], ◌∷◌, ◌++◌, length, take, drop, get_or, set, refl, sym, ap, ◌∙◌, arith}
+use Rattle.std.proofs.Common.{ℕ, zero, suc, ◌≡◌, ◌<◌, List, [], ◌∷◌, ◌++◌, length, take, drop, get_or, set, refl, ap, arith}
 
 module _ {X : Type 0} where
   pub front-at : (xs : List X) (i j : ℕ) (e : X) → i < j → get_or (take j xs) i e ≡ get_or xs i e

@@ -1,7 +1,5 @@
 -- A step of the group, from what its nodes and its books make.
-use Rattle.std.proofs.Common.{ℕ, ◌≡◌, ◌≢◌, ◌≤◌, ◌<◌, List, Option, length, AllPairs, suc, refl, sym, ap, subst, ◌∙◌, arith}
-use Rattle.group_calls.specs.Turns.{name_of}
-use Rattle.group_calls.specs.declared.entry.Entry.{Entry}
+use Rattle.std.proofs.Common.{◌≡◌, List, Option, sym, ap, subst, ◌∙◌}
 use Rattle.group_calls.specs.declared.event.Answer.{Answer}
 use Rattle.group_calls.specs.declared.event.Event.{Event}
 use Rattle.group_run.specs.Applying.{Settlement}

@@ -3,11 +3,9 @@ use Rattle.std.proofs.Common.{ℕ, zero, suc, ◌≡◌, ◌≢◌, ◌≤◌, �
 use Rattle.std.proofs.lemmas.Bool.{cases_eq}
 use Rattle.std.specs.List.{range_with_len}
 use Rattle.group_types.specs.Lists.{at}
-use Rattle.group_types.specs.Names.{IsProcess, index_of, process_at}
-use Rattle.group_types.specs.declared.process.ProcessId.{ProcessId}
+use Rattle.group_types.specs.Names.{index_of}
 use Rattle.group_types.proofs.Names.{index-below, process_at-index}
 use Rattle.group_message.specs.declared.message.Message.{Message}
-use Rattle.group_calls.specs.declared.event.Event.{Event}
 use Rattle.group_run.specs.Draining.{event_or, is_waiting, next_among, next_delivery, next_from, next_target, node_at, some_message}
 use Rattle.group_run.specs.Meaning.{IsDrained}
 use Rattle.group_run.specs.Process.{Node}

@@ -5,7 +5,6 @@ use Rattle.group_types.specs.Dimensions.{Dimensions}
 use Rattle.group_types.specs.Hash.{home_of}
 use Rattle.memc_table.specs.Act.{key_of}
 use Rattle.memc_table.specs.Asked.{Asked}
-use Rattle.memc_table.specs.declared.reply.Reply.{Reply}
 use Rattle.group_message.specs.declared.message.Message.{Message}
 use Rattle.group_message.specs.declared.update.Outcome.{Outcome}
 use Rattle.group_message.specs.declared.update.Outcome.TheVariants as ends
@@ -13,11 +12,8 @@ use Rattle.group_message.specs.declared.update.Update.{Update}
 use Rattle.group_calls.specs.Turns.{CallName, accepts}
 use Rattle.group_calls.specs.declared.decision.Decision.{Decision}
 use Rattle.group_calls.specs.declared.decision.Decision.TheVariants as decides
-use Rattle.group_calls.specs.declared.event.Answer.{Answer}
-use Rattle.group_calls.specs.declared.event.Answer.TheVariants as says
 use Rattle.group_run.specs.Applying.{ProcessStep, Sent, head_at, quiet}
 use Rattle.group_run.specs.Asking.{CallStep, Oldest, act_on, ask_head, ask_process, oldest_inherited, reply_from, retry_block, ticketed}
-use Rattle.group_run.specs.Deciding.{decide}
 use Rattle.group_run.specs.Process.{Head, Process}
 use Rattle.membership.specs.Members.{Membership}
 use Rattle.group_run.specs.World.{links_after}

@@ -1,4 +1,4 @@
-use Rattle.std.proofs.Common.{◌≡◌, ◌≤◌, ◌-◌, ◌+◌, length, drop}
+use Rattle.std.proofs.Common.{◌≡◌, ◌≤◌, ◌+◌, length, drop}
 use Rattle.group_run.specs.World.{dead_nodes}
 use Rattle.group_core.specs.Seats.{nodes_of}
 use Rattle.group_core.proofs.failing.count_dead.Given as goal

@@ -1,4 +1,4 @@
-use Rattle.std.proofs.Common.{◌≡◌, ◌++◌, ◌+◌, ◌-◌, length, map}
+use Rattle.std.proofs.Common.{◌≡◌, ◌++◌, ◌-◌, length, map}
 use Rattle.std.specs.List.{range_with_len}
 use Rattle.group_types.specs.Names.{process_at}
 use Rattle.group_run.specs.World.{opening_node}

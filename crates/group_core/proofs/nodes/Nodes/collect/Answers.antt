@@ -1,6 +1,5 @@
-use Rattle.std.proofs.Common.{◌≡◌, List, sym, ap, ◌∙◌}
-use Rattle.group_run.specs.World.{NodeStep, collect_node}
-use Rattle.group_node.specs.Steps as node
+use Rattle.std.proofs.Common.{◌∙◌}
+use Rattle.group_run.specs.World.{collect_node}
 use Rattle.group_core.proofs.Changed.{changed, only-is}
 use Rattle.group_core.proofs.nodes.Nodes.collect.Goals as goal
 

@@ -3,7 +3,6 @@ use Rattle.group_types.specs.Lists.{at}
 use Rattle.group_types.specs.Names.{index_of}
 use Rattle.group_message.specs.declared.message.Message.{Message}
 use Rattle.group_node.specs.Delivering.{Comes}
-use Rattle.group_node.specs.Standing.{Standing}
 use Rattle.group_core.specs.Seats.{Seats, seat, seats_of}
 use Rattle.group_core.proofs.nodes.Nodes.deliver.Goals as goal
 

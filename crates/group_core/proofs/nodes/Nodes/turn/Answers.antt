@@ -1,5 +1,4 @@
-use Rattle.std.proofs.Common.{sym, subst}
-use Rattle.group_calls.specs.declared.event.Event.{Event}
+use Rattle.std.proofs.Common.{subst}
 use Rattle.group_run.specs.Headline.{MayCome}
 use Rattle.group_core.specs.Runs.{group_of}
 use Rattle.group_core.proofs.Known.{first-comes}

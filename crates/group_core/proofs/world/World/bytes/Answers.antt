@@ -1,4 +1,4 @@
-use Rattle.std.proofs.Common.{◌≡◌, List, ℕ, IfOk, ap, subst, ◌∙◌}
+use Rattle.std.proofs.Common.{◌≡◌, IfOk, ap, subst, ◌∙◌}
 use Rattle.erasure_code.specs.Spaces.{bytes_at}
 use Rattle.group_run.specs.Process.{Node}
 use Rattle.group_run.specs.World.{World, node_of}

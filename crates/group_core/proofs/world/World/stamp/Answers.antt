@@ -1,5 +1,4 @@
 use Rattle.std.proofs.Common.{◌≡◌, ℕ, List, IfOk, ap, subst, ◌∙◌}
-use Rattle.group_types.specs.Dimensions.{Dimensions}
 use Rattle.group_run.specs.World.{World, node_of}
 use Rattle.group_core.specs.Runs.{HasRun}
 use Rattle.group_core.proofs.Known.{stamp-read}

@@ -1,4 +1,4 @@
-use Rattle.std.proofs.Common.{◌≡◌, List, length, sym, ap, subst, ◌∙◌}
+use Rattle.std.proofs.Common.{List, length, sym, ap, subst, ◌∙◌}
 use Rattle.group_calls.specs.declared.entry.Entry.{Entry}
 use Rattle.group_run.specs.Headline.{MayCome}
 use Rattle.group_run.specs.World.{World, step}
