@@ -1,19 +1,35 @@
 #!/bin/sh
-# Plays scripts of 10,000 and 100,000 lines of set and get, and prints the seconds of each and their
-# ratio, which is at most 15. It runs by hand, over the executable that `rt run` leaves.
+# Plays scripts of 10,000 and 100,000 lines over a group of one process and over one of four data processes and two parity
+# processes, and prints seconds, events a second, and the ratio of the two lengths, which is at most 15. It runs by hand, over the
+# executable that `rt run` leaves.
 set -eu
 top=$(cd "$(dirname "$0")/.." && pwd)
 program=${1:-$top/crates/cocytus_main/out/cocytus_main}
 work=$(mktemp -d)
 trap 'rm -rf "$work"' EXIT
 
+# Two sets of 100 bytes to one get, and a drain every tenth line. With four data processes the home of a key is told by
+# the two lowest bits of its hash alone.
 script() {
-    awk -v lines="$1" 'BEGIN {
-        print "group 1 0 1024 65536"
-        for (i = 0; i < lines; i++) {
-            if (i % 2) printf "ask %d d0 get key%d\n", i % 256, int(i / 2)
-            else printf "ask %d d0 set key%d 7 %08x\n", i % 256, int(i / 2), i
+    awk -v lines="$1" -v k="$2" -v m="$3" '
+    function home(key,  h, i, b) {
+        h = 1
+        for (i = 1; i <= length(key); i++) {
+            b = index("0123456789", substr(key, i, 1)); b = b ? (b - 1) % 4 : 3
+            h = xor2[h * 4 + b] * 3 % 4
         }
+        return k == 1 ? 0 : h
+    }
+    BEGIN {
+        for (x = 0; x < 4; x++) for (y = 0; y < 4; y++) xor2[x * 4 + y] = (x % 2 != y % 2) + 2 * (int(x / 2) != int(y / 2))
+        print "group", k, m, 1024, 65536 / (k > 1 ? 4 : 1)
+        for (i = 0; i < lines; i++) {
+            key = "k" (i * 7919 % 1000)
+            if (i % 10 == 9) print "drain"
+            else if (i % 3 == 2) print "ask", i % 256, "d" home(key), "get", key
+            else print "ask", i % 256, "d" home(key), "set", key, 7, "*100*61"
+        }
+        print "drain"
         print "stop"
     }'
 }
@@ -25,9 +41,16 @@ seconds() {
     echo "$start $end" | awk '{ printf "%.3f", ($2 - $1) / 1e9 }'
 }
 
-script 10000 > "$work/small"
-script 100000 > "$work/large"
-small=$(seconds "$work/small")
-large=$(seconds "$work/large")
-echo "10,000 lines: $small s, 100,000 lines: $large s"
-echo "$small $large" | awk '{ ratio = $2 / $1; printf "ratio %.1f\n", ratio; exit ratio > 15 }'
+measure() {
+    for lines in 10000 100000; do
+        script $lines "$1" "$2" > "$work/script$lines"
+        seconds "$work/script$lines" > "$work/seconds$lines"
+        awk -v lines=$lines -v seconds="$(cat "$work/seconds$lines")" -v group="$1 $2" '
+            /^drained / { events += $2 } /^(reply|ticket|retry|no_space|moved)/ { events++ }
+            END { printf "group %s, %d lines: %s s, %d events, %d a second\n", group, lines, seconds, events, events / seconds }' "$work/script$lines.out"
+    done
+    echo "$(cat "$work/seconds10000") $(cat "$work/seconds100000")" | awk '{ ratio = $2 / $1; printf "ratio %.1f\n", ratio; exit ratio > 15 }'
+}
+
+measure 1 0
+measure 4 2

@@ -1,7 +1,16 @@
-use Rattle.std.specs.Prelude.{ℕ, Bool, false, List, [], ◌∷◌, codes}
-use Rattle.std.specs.Str.{bytes_eq}
+use Rattle.std.specs.Prelude.{ℕ, List, Option, Some, None}
+use Rattle.command_line.specs.Words.{command_of}
+use Rattle.command_line.specs.declared.command.Command.{Command}
+use Rattle.command_line.specs.declared.command.Command.TheVariants.{Play, Session, Make, Trial}
 
--- whether the words are the one word `play`
-abbrev pub is_play : List (List ℕ) → Bool
-is_play (word ∷ []) = bytes_eq word (codes "play")
-is_play _ = false
+-- a command that the program serves: no session as yet
+abbrev pub served : Option Command → Option Command
+served (Some Play) = Some Play
+served (Some (Make n)) = Some (Make n)
+served (Some (Trial n)) = Some (Trial n)
+served (Some (Session _ _ _ _)) = None
+served None = None
+
+-- the command that the words ask for
+abbrev pub asked : List (List ℕ) → Option Command
+asked words = served (command_of words)

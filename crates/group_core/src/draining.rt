@@ -6,8 +6,8 @@ ghost use Rattle.group_run.specs.Meaning.{IsDrained};
 ghost use Rattle.group_core.specs.Links.{delivery};
 
 use crate::world::World;
-use group_types::ProcessId;
 use group_node::process_at;
+use group_types::ProcessId;
 
 impl World {
     /// The link that drains the group next, by its sender and its receiver: the lowest into a living process that has a

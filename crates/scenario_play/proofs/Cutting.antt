@@ -4,7 +4,7 @@ use Rattle.std.proofs.lemmas.Grind.{get_or_default_zero}
 use Rattle.std.proofs.lemmas.List.{take-append-drop, length-take-le, get_or-take, length-drop}
 use Rattle.std.proofs.lemmas.List.Splits.{slice_split_at, slice_split_none, length-slice_split}
 use Rattle.std.specs.List.{slice_split}
-use Rattle.scenario_play.specs.Lines.{lines_of, without_empty_last}
+use Rattle.scenario_run.specs.Lines.{lines_of, without_empty_last}
 
 without_empty_last-cons : (line : List ℕ) (lines : List (List ℕ)) → 0 < length lines → without_empty_last (line ∷ lines) ≡ line ∷ without_empty_last lines
 without_empty_last-cons line [] none = absurd (omega arith)

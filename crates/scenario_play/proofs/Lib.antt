@@ -1,8 +1,5 @@
 pub mod Cutting
+pub mod Delivering
 pub mod Ending
-pub mod Playing
-pub mod Promises
+pub mod Lines
 pub mod Reading
-pub mod Turning
-pub mod Worked
-pub mod Worlds

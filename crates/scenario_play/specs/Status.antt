@@ -1,15 +1,19 @@
 use Rattle.std.specs.Prelude.{◌≡◌, ℕ, nat_lt, List, [], ◌++◌, codes, Option, Some, None, ◌⊎◌, if◌then◌else◌, length}
 use Rattle.std.specs.Fmt.{decimal}
 use Rattle.edge_io.specs.Faults.{Rose}
-use Rattle.scenario_play.specs.Script.{first_fault}
+use Rattle.group_types.specs.declared.shape.Field.TheVariants.{K, M, Block, Blocks}
+use Rattle.scenario_text.specs.declared.line.LineFault.{LineFault}
+use Rattle.scenario_text.specs.declared.line.LineFault.TheVariants as line
+use Rattle.scenario_run.specs.Script.{Fault, first_fault}
 use Rattle.scenario_play.specs.declared.status.Status.{Status}
-use Rattle.scenario_play.specs.declared.status.Status.TheVariants.{Done, BadWords, BadLine, TooLong, ReadFault, WriteFault, Want}
+use Rattle.scenario_play.specs.declared.status.Status.TheVariants.{Done, BadWords, BadLine, BadShape, TooLong, ReadFault, WriteFault, Want}
 
 -- the number with which the program ends
 abbrev pub number_of_status : Status → ℕ
 number_of_status Done = 0
 number_of_status BadWords = 1
 number_of_status (BadLine _) = 2
+number_of_status (BadShape _) = 3
 number_of_status TooLong = 4
 number_of_status ReadFault = 6
 number_of_status WriteFault = 7
@@ -20,6 +24,10 @@ abbrev pub text_of_status : Status → List ℕ
 text_of_status Done = []
 text_of_status BadWords = codes "fault: words\n"
 text_of_status (BadLine _) = codes "fault: line "
+text_of_status (BadShape K) = codes "fault: shape k\n"
+text_of_status (BadShape M) = codes "fault: shape m\n"
+text_of_status (BadShape Block) = codes "fault: shape block\n"
+text_of_status (BadShape Blocks) = codes "fault: shape blocks\n"
 text_of_status TooLong = codes "fault: length\n"
 text_of_status ReadFault = codes "fault: read\n"
 text_of_status WriteFault = []
@@ -30,6 +38,7 @@ abbrev pub last_line : Status → List ℕ
 last_line (BadLine n) = codes "fault: line " ++ decimal n ++ codes "\n"
 last_line Done = text_of_status Done
 last_line BadWords = text_of_status BadWords
+last_line (BadShape field) = text_of_status (BadShape field)
 last_line TooLong = text_of_status TooLong
 last_line ReadFault = text_of_status ReadFault
 last_line WriteFault = text_of_status WriteFault
@@ -39,10 +48,16 @@ last_line Want = text_of_status Want
 abbrev pub longest_script : ℕ
 longest_script = 16777216
 
+-- what is told of a line that is refused
+abbrev pub told_at : ℕ → LineFault → Status
+told_at n line.BadLine = BadLine n
+told_at n (line.BadShape field) = BadShape field
+told_at n line.Want = Want
+
 -- what is told of a script with this first fault
-abbrev pub told_of : Option ℕ → Status
+abbrev pub told_of : Option Fault → Status
 told_of None = Done
-told_of (Some n) = BadLine n
+told_of (Some fault) = told_at fault.number fault.cause
 
 -- what is told of a script
 abbrev pub told : List ℕ → Status

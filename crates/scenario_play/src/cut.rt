@@ -1,5 +1,5 @@
 ghost use Rattle.std.specs.Prelude.{◌≡◌, ◌<◌, ◌∷◌, length};
-ghost use Rattle.scenario_play.specs.Lines.{lines_of};
+ghost use Rattle.scenario_run.specs.Lines.{lines_of};
 
 use memchr::memchr;
 
@@ -13,4 +13,17 @@ pub(crate) fn cut_line(text: &[u8]) -> (&[u8], &[u8])
         Some(end) => (&text[..end], &text[end + 1..]),
         None => (text, &text[text.len()..]),
     }
+}
+
+/// How many lines a text has.
+pub(crate) fn count_lines(text: &[u8]) -> usize
+    ensures { result ≡ length (lines_of text.now) }
+{
+    let mut count = 0;
+    let mut rest = text;
+    'lines: while !rest.is_empty() {
+        (_, rest) = cut_line(rest);
+        count += 1;
+    }
+    count
 }

@@ -1,17 +1,20 @@
-//! The command `play` over a group without parity processes: it reads a script, treats its lines in
-//! order, and writes the transcript. Its contract says that the bytes written are the transcript of
-//! the script, when each status comes, and that the log is legal. The text of a line and of an
-//! answer is left to `scenario_text`, and the table to `memc_table`.
+//! Scripts played: `play` reads a script, treats its lines in order over a group, and writes the transcript; `make` writes
+//! the script of a number, and `trial` what comes of playing it. The contract of `play` says that the bytes written are the transcript of the script, when each status comes, and that the
+//! script's group keeps the promises of the headline. The text of a line and of an answer is left to `scenario_text`,
+//! and the group to `group_core`.
 #![tactic(auto)]
 
 mod cut;
-pub mod laws;
+mod deliveries;
+mod entries;
+pub mod make;
 mod next;
+mod page;
 pub mod play;
+mod playing;
 mod read_script;
 pub mod status;
 pub mod tell;
-mod turn_text;
-mod world;
+pub mod trial;
 
 pub use status::Status;

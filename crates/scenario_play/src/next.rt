@@ -1,85 +1,92 @@
-ghost use Rattle.std.specs.Prelude.{◌≡◌, ◌^◌, ◌<◌, [], IfSome, IfOk};
-ghost use Rattle.group_types.specs.Dimensions.{callers};
-ghost use Rattle.group_types.specs.Names.{IsProcess};
+ghost use Rattle.std.specs.Prelude.{◌≡◌, ◌^◌, ◌<◌, ◌≤◌, [], IfSome, IfOk};
 ghost use Rattle.scenario_text.specs.Meaning.{IsLineOf};
-ghost use Rattle.scenario_play.specs.Ends.{HasDone, text_in};
-ghost use Rattle.scenario_play.specs.PlainWorld.{world_in, world_of};
-ghost use Rattle.scenario_play.specs.Script.{next_by, next_of, Goes, Refused};
-ghost use Rattle.scenario_play.specs.World.{CountsAtMost};
+ghost use Rattle.scenario_run.specs.Playing.{first_by, next_of, then_by};
+ghost use Rattle.scenario_play.specs.Ends.{HasBegun, HasDone, IsLight, text_in};
 
-use crate::turn_text::write_turn;
-use crate::world::PlainWorld;
-use group_types::ProcessId;
-use memc_table::Act;
+use crate::playing::Play;
+use group_calls::Event;
 use scenario_text::read_line::read_line;
 use scenario_text::{Line, LineFault};
 use std::alloc::Global;
 
 /// Treats a line: the text that it writes, or none where the script ends.
-#[tactic(auto, unfolding(crate::specs::Script::next_of))]
 pub(crate) fn treat(
     alloc: Global,
-    world: &mut Option<PlainWorld>,
+    play: &mut Option<Play>,
     line: &[u8],
 ) -> Result<Option<Vec<u8>>, LineFault>
-    requires { IfSome (world_in world.old) (CountsAtMost (2 ^ 61)) }
-    ensures { HasDone (next_of (world_in world.old) line.now) (world_in world.new) (text_in result) }
+    requires { IfSome play.old (IsLight (2 ^ 61)) }
+    ensures { HasDone play.old (next_of play.old line.now) play.new (text_in result) }
 {
-    match world {
+    match play {
         None => {
-            *world = begin(alloc, read_line(alloc, None, line)?)?;
+            *play = begin(alloc, read_line(alloc, None, line)?)?;
             Ok(Some(Vec::new(alloc)))
         }
-        Some(world) => {
-            let line = read_line(alloc, Some(world.shape()), line)?;
-            follow(alloc, world, line)
+        Some(play) => {
+            let line = read_line(alloc, Some(play.shape()), line)?;
+            follow(alloc, play, line)
         }
     }
 }
 
-/// The world after a line before which the group was not named.
-fn begin(alloc: Global, line: Line) -> Result<Option<PlainWorld>, LineFault>
-    ensures ok { IfOk result (λ world. next_by None (Some line) ≡ Goes (world_in world) []) }
-    ensures bad { result ≡ Err LineFault.BadLine → next_by None (Some line) ≡ Refused }
+/// The group after a line before which it was not named.
+fn begin(alloc: Global, line: Line) -> Result<Option<Play>, LineFault>
+    requires { IsLineOf None line }
+    ensures { HasBegun (first_by line) result }
 {
     match line {
         Line::Skipped => Ok(None),
-        Line::Group { shape } if shape.m() == 0 => Ok(Some(PlainWorld::new(alloc, shape)?)),
+        Line::Group { shape } => Ok(Some(Play::new(alloc, shape)?)),
         _ => Err(LineFault::BadLine),
     }
 }
 
 /// Treats a line behind the group line.
-fn follow(alloc: Global, world: &mut PlainWorld, line: Line) -> Result<Option<Vec<u8>>, LineFault>
-    requires line { IsLineOf (Some world.old.shape) line }
-    requires counts { CountsAtMost (2 ^ 61) (world_of world.old) }
-    ensures { HasDone (next_by (Some (world_of world.old)) (Some line)) (Some (world_of world.new)) (text_in result) }
+fn follow(alloc: Global, play: &mut Play, line: Line) -> Result<Option<Vec<u8>>, LineFault>
+    requires line { IsLineOf (Some play.old.world.shape) line }
+    requires light { IsLight (2 ^ 61) play.old }
+    ensures { HasDone (Some play.old) (then_by play.old line) (Some play.new) (text_in result) }
 {
-    match line {
-        Line::Skipped => Ok(Some(Vec::new(alloc))),
-        Line::Group { .. } => Err(LineFault::BadLine),
-        Line::Ask { caller, at, act } => ask(alloc, world, caller, at, act),
-        Line::Stop => Ok(None),
-    }
-}
-
-/// Treats an ask, if what it brings still fits.
-fn ask(
-    alloc: Global,
-    world: &mut PlainWorld,
-    caller: u32,
-    at: ProcessId,
-    act: Act,
-) -> Result<Option<Vec<u8>>, LineFault>
-    requires caller { caller < callers }
-    requires process { IsProcess world.old.shape at }
-    requires counts { CountsAtMost (2 ^ 61) (world_of world.old) }
-    ensures { HasDone (next_by (Some (world_of world.old)) (Some (Line.Ask caller at act))) (Some (world_of world.new)) (text_in result) }
-{
-    if !world.fits(at, &act) {
-        return Err(LineFault::BadLine);
-    }
-    let before = world.log().len();
-    let answer = world.ask(caller, at, act)?;
-    Ok(Some(write_turn(alloc, &answer, &world.log()[before..])?))
+    let text = match line {
+        Line::Skipped => Vec::new(alloc),
+        Line::Group { .. } => return Err(LineFault::BadLine),
+        Line::Ask { caller, at, act } => {
+            let op = play.op(act);
+            play.make(alloc, &Event::Ask { caller, op, at })?
+        }
+        Line::Collect { caller, call, at } => {
+            play.make(alloc, &Event::Collect { caller, call, at })?
+        }
+        Line::Deliver { from, to } => play.make(alloc, &Event::Deliver { from, to })?,
+        Line::Fail { at, keep } => play.make(alloc, &Event::Fail { at, keep })?,
+        Line::Flush { at } => play.make(alloc, &Event::Flush { at })?,
+        Line::Trace {
+            caller,
+            call,
+            partition,
+            at,
+        } => {
+            if play.world.asks(caller) <= call {
+                return Err(LineFault::BadLine);
+            }
+            play.make(
+                alloc,
+                &Event::Trace {
+                    caller,
+                    call,
+                    partition,
+                    at,
+                },
+            )?
+        }
+        Line::Drain => play.drain(alloc)?,
+        Line::Show { at, run } => play.show(alloc, at, run)?,
+        Line::Time { moment } => {
+            play.set_moment(moment);
+            Vec::new(alloc)
+        }
+        Line::Stop => return Ok(None),
+    };
+    Ok(Some(text))
 }

@@ -1,16 +1,17 @@
-ghost use Rattle.std.specs.Prelude.{◌≡◌, ◌≢◌, ◌⊎◌, ℕ, ◌≤◌, [], drop, length, IfSome, IfErr, OnOk};
+ghost use Rattle.std.specs.Prelude.{◌≡◌, ◌≢◌, ◌⊎◌, ◌≤◌, [], drop, length, IfSome, IfErr, OnOk};
 ghost use Rattle.std.specs.Io.KnownBytes.{Appends};
 ghost use Rattle.edge_io.specs.Faults.{Rose};
-ghost use Rattle.scenario_play.specs.Ends.{EndsWith, HasEnded, HasPlayed};
-ghost use Rattle.scenario_play.specs.Script.{transcript, KeepsPromises};
-ghost use Rattle.scenario_play.specs.Status.{told, last_line, IsTold};
+ghost use Rattle.scenario_play.specs.Ends.{EndsWith, HasEnded, HasPlayed, IsRefusal, log_len};
+ghost use Rattle.scenario_run.specs.Promises.{KeepsPromises};
+ghost use Rattle.scenario_run.specs.Script.{transcript};
+ghost use Rattle.scenario_play.specs.Status.{told, told_at, last_line, IsTold};
 
 use crate::cut::cut_line;
 use crate::next::treat;
+use crate::playing::Play;
 use crate::read_script::{LONGEST_SCRIPT, read_script};
 use crate::status::Status;
 use crate::tell::tell;
-use crate::world::PlainWorld;
 use edge_io::{Sink, SinkFault, Source, write_all};
 use scenario_text::LineFault;
 use std::alloc::Global;
@@ -25,7 +26,7 @@ pub fn play<S: Source, K: Sink>(alloc: Global, source: &mut S, sink: &mut K) -> 
     ensures too_long_left { result ≡ Status.TooLong → IfSome (S.left source.old) (λ all. S.left source.new ≡ Some (drop 16777217 all)) }
     ensures done_left { result ≡ Status.Done → IfSome (S.left source.old) (λ all. S.left source.new ≡ Some []) }
     ensures done_bytes { result ≡ Status.Done → IfSome (S.left source.old) (λ all. Appends (K.held sink.old) (K.held sink.new) (transcript all)) }
-    ensures bad_line_bytes { (n : ℕ) → result ≡ Status.BadLine n → IfSome (S.left source.old) (λ all. EndsWith (K.held sink.old) (K.held sink.new) (K.faults sink.old) (K.faults sink.new) (transcript all) (last_line (Status.BadLine n))) }
+    ensures refused_bytes { IsRefusal result → IfSome (S.left source.old) (λ all. EndsWith (K.held sink.old) (K.held sink.new) (K.faults sink.old) (K.faults sink.new) (transcript all) (last_line result)) }
     ensures promises { result ≡ Status.Done → IfSome (S.left source.old) KeepsPromises }
 {
     match play_script(alloc, source, sink) {
@@ -39,50 +40,62 @@ fn play_script<S: Source, K: Sink>(
     source: &mut S,
     sink: &mut K,
 ) -> Result<(), Status>
-    ensures end { HasEnded (S.left source.old) (S.left source.new) (S.faults source.old) (S.faults source.new) (K.held sink.old) (K.held sink.new) (K.faults sink.old) (K.faults sink.new) result }
+    ensures end { HasEnded (record { left = S.left source.old; reads = S.faults source.old; held = K.held sink.old; writes = K.faults sink.old }) (record { left = S.left source.new; reads = S.faults source.new; held = K.held sink.new; writes = K.faults sink.new }) result }
     ensures later { K.faults sink.old ≤ K.faults sink.new }
 {
     let text = read_script(alloc, source)?;
-    play_lines(alloc, &text, sink)
+    play_lines(alloc, &text, sink)?;
+    Ok(())
 }
 
-/// Treats the lines of a script up to `stop`, and writes what each line writes behind it.
-fn play_lines<K: Sink>(alloc: Global, text: &[u8], sink: &mut K) -> Result<(), Status>
+/// Treats the lines of a script up to `stop`, and writes what each line writes behind it. Gives the number of entries
+/// that they logged.
+pub(crate) fn play_lines<K: Sink>(alloc: Global, text: &[u8], sink: &mut K) -> Result<usize, Status>
     requires { length text.now ≤ LONGEST_SCRIPT }
     ensures end { HasPlayed (K.held sink.old) (K.held sink.new) (K.faults sink.old) (K.faults sink.new) text.now result }
     ensures later { K.faults sink.old ≤ K.faults sink.new }
 {
-    let mut world: Option<PlainWorld> = None;
+    let mut play: Option<Play> = None;
     let mut number: u64 = 1;
     let mut rest = text;
     'lines: while !rest.is_empty() {
         let (line, after) = cut_line(rest);
-        match treat(alloc, &mut world, line) {
+        match treat(alloc, &mut play, line) {
             Ok(Some(text)) => write_text(sink, &text)?,
-            Ok(None) => return Ok(()),
+            Ok(None) => return Ok(logged_by(&play)),
             Err(fault) => return Err(status_of(fault, number)),
         }
         rest = after;
         number += 1;
     }
-    match world {
-        Some(_) => Ok(()),
+    match play {
+        Some(_) => Ok(logged_by(&play)),
         None => Err(Status::BadLine(number)),
+    }
+}
+
+/// How many entries a script's group has logged.
+fn logged_by(play: &Option<Play>) -> usize
+    ensures { result ≡ log_len play.now }
+{
+    match play {
+        Some(play) => play.world.log().len(),
+        None => 0,
     }
 }
 
 /// The status at a fault of this line.
 fn status_of(fault: LineFault, number: u64) -> Status
-    ensures bad { fault ≡ LineFault.BadLine → result ≡ Status.BadLine number }
-    ensures want { fault ≡ LineFault.Want → result ≡ Status.Want }
+    ensures { result ≡ told_at number fault }
 {
     match fault {
         LineFault::BadLine => Status::BadLine(number),
+        LineFault::BadShape(field) => Status::BadShape(field),
         LineFault::Want => Status::Want,
     }
 }
 
-fn write_text<K: Sink>(sink: &mut K, text: &[u8]) -> Result<(), Status>
+pub(crate) fn write_text<K: Sink>(sink: &mut K, text: &[u8]) -> Result<(), Status>
     ensures whole { OnOk result (Appends (K.held sink.old) (K.held sink.new) text.now) }
     ensures later { K.faults sink.old ≤ K.faults sink.new }
     ensures fault { IfErr result (λ status. ((status ≡ Status.WriteFault) × Rose (K.faults sink.old) (K.faults sink.new)) ⊎ (status ≡ Status.Want)) }

@@ -1,5 +1,8 @@
 ghost use Rattle.std.specs.Prelude.{◌≡◌};
 
+use group_types::Field;
+use std::alloc::AllocError;
+
 /// How a command ended.
 #[derive(Clone, Copy, Debug, PartialEq, Eq)]
 pub enum Status {
@@ -7,8 +10,10 @@ pub enum Status {
     Done,
     /// The words name no command.
     BadWords,
-    /// The number of the first line, from 1, that is no script line.
+    /// The number of the first line, from 1, that is no line of a script.
     BadLine(u64),
+    /// The first field of the group's shape, in the order k, m, block, blocks, that is out of range.
+    BadShape(Field),
     /// The input has more bytes than its limit.
     TooLong,
     /// The source counted a fault.
@@ -45,10 +50,25 @@ impl Status {
             Status::Done => (0, ""),
             Status::BadWords => (1, "fault: words\n"),
             Status::BadLine(_) => (2, "fault: line "),
+            Status::BadShape(Field::K) => (3, "fault: shape k\n"),
+            Status::BadShape(Field::M) => (3, "fault: shape m\n"),
+            Status::BadShape(Field::Block) => (3, "fault: shape block\n"),
+            Status::BadShape(Field::Blocks) => (3, "fault: shape blocks\n"),
             Status::TooLong => (4, "fault: length\n"),
             Status::ReadFault => (6, "fault: read\n"),
             Status::WriteFault => (7, ""),
             Status::Want => (9, "fault: memory\n"),
         }
+    }
+}
+
+impl From<AllocError> for Status {
+    ghost use Rattle.std.specs.Prelude.{◌≡◌};
+    ghost use Rattle.scenario_play.specs.declared.status.Status.TheVariants.{Want};
+
+    ghost from_gives = { λ _ status. status ≡ Want };
+
+    fn from(_: AllocError) -> Status {
+        Status::Want
     }
 }

@@ -57,7 +57,7 @@ draining w = if is_down w then [] else drain_events (load_of w) w
 
 -- what the deliveries of a drain logged, and how many there were
 abbrev pub drained_text : List Turn → List ℕ
-drained_text turns = entries_text (log_of turns) ++ codes "drained " ++ decimal (length turns) ++ codes "\n"
+drained_text turns = entries_text (log_of turns) ++ (codes "drained " ++ (decimal (length turns) ++ codes "\n"))
 
 abbrev pub by_drain : Play → List Event → Next
 by_drain p es = Goes (Some (record { world = world_after p.world es; moment = p.moment })) (turns_from p.world es) (drained_text (turns_from p.world es))

@@ -1,7 +1,7 @@
 use Rattle.std.proofs.Common.{ℕ, ◌+◌, List, ◌∷◌, length, take, sym, ap, ◌∙◌, arith}
 use Rattle.std.proofs.Math.Seq.{drop-length}
 use Rattle.std.proofs.lemmas.List.{take_rest}
-use Rattle.scenario_play.specs.Lines.{lines_of}
+use Rattle.scenario_run.specs.Lines.{lines_of}
 use Rattle.scenario_play.proofs.Cutting.{lines_of-cut, lines_of-last}
 use Rattle.scenario_play.proofs.cut.cut_line.Goals as goal
 

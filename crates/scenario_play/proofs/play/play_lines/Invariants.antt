@@ -1,16 +1,17 @@
-use Rattle.std.proofs.Common.{◌≡◌, ◌+◌, ◌≤◌, length, IfSome}
-use Rattle.scenario_play.specs.Lines.{lines_of}
-use Rattle.scenario_play.specs.PlainWorld.{world_in}
-use Rattle.scenario_play.specs.Script.{fault_from, turns_from, turns_text, first_fault, transcript}
-use Rattle.scenario_play.specs.World.{CountsAtMost}
-use Rattle.scenario_play.proofs.Playing.{Written}
+use Rattle.std.proofs.Common.{◌≡◌, ◌+◌, ◌≤◌, length}
+use Rattle.group_calls.specs.Turns.{log_of}
+use Rattle.scenario_run.specs.Lines.{lines_of}
+use Rattle.scenario_run.specs.Script.{fault_in, first_fault, text_in, transcript, turns_in, turns_of}
+use Rattle.scenario_play.specs.Ends.{log_len}
+use Rattle.scenario_play.proofs.Lines.{Stands, Written}
 use Rattle.scenario_play.proofs.play.play_lines.Given as goal
 
 abbrev pub invariant-lines : goal.invariant-lines
 invariant-lines g l = record {
-  written : Written (g.K.Sink.held l.initial.sink) (g.K.Sink.held l.sink) (turns_text (turns_from (world_in l.world) (lines_of l.rest))) (transcript l.text);
-  fault : fault_from l.number (world_in l.world) (lines_of l.rest) ≡ first_fault l.text;
-  counts : IfSome (world_in l.world) (CountsAtMost l.number);
+  written : Written (g.K.Sink.held l.initial.sink) (g.K.Sink.held l.sink) (text_in l.play (lines_of l.rest)) (transcript l.text);
+  fault : fault_in l.number l.play (lines_of l.rest) ≡ first_fault l.text;
+  stands : Stands l.number l.play;
+  logged : log_len l.play + length (log_of (turns_in l.play (lines_of l.rest))) ≡ length (log_of (turns_of l.text));
   within : l.number + length l.rest ≤ 1 + length l.text;
   later : g.K.Sink.faults l.initial.sink ≤ g.K.Sink.faults l.sink;
 }

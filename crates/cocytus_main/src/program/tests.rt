@@ -1,0 +1,143 @@
+mod rows;
+
+use crate::program::run_program;
+use crate::program::tests::rows::ROWS;
+use edge_io::{FixedClock, MemoryListener, MemorySink, MemorySource};
+use scenario_play::Status;
+use std::alloc::Global;
+use std::sync::Wait;
+use std::test::Fail;
+use std::thread::Threads;
+
+const FIRST: &str = "group 2 0 4 16\nask 0 d0 set a 0 41\nask 0 d0 get a\nstop\n";
+
+const WRITTEN: &str =
+    "reply stored\n= 0.0 set a 0 41 stored\nreply value 0 1 41\n= 0.1 get a value 0 1 41\n";
+
+// Runs the words on a script in pieces of this size, with reads and writes that fail by their number.
+fn run<R: Threads + Wait + Sync>(
+    rt: &R,
+    alloc: Global,
+    words: &[&str],
+    script: &[u8],
+    piece: usize,
+    reads: &[u64],
+    writes: &[u64],
+) -> Result<(Status, Vec<u8>), Fail>
+    requires { 1 ≤ piece }
+{
+    let mut owned = Vec::new(alloc);
+    for word in words {
+        owned.push(String::from_str(alloc, word)?)?;
+    }
+    let mut source = MemorySource::new(alloc, script, reads)?.with_piece(piece);
+    let mut sink = MemorySink::new(alloc, writes)?;
+    let mut listener = MemoryListener::new(alloc, Vec::new(alloc), &[])?;
+    let clock = FixedClock::new(0);
+    let status = run_program(
+        rt,
+        alloc,
+        &owned,
+        &mut source,
+        &mut sink,
+        &mut listener,
+        &clock,
+    );
+    Ok((status, Vec::from_slice(alloc, sink.bytes())?))
+}
+
+#[test]
+fn plays_the_worked_scripts(rt: HostRuntime) -> Result<(), Fail> {
+    for (script, written, status) in ROWS {
+        let told = run(&rt, rt.alloc(), &["play"], script.as_bytes(), 7, &[], &[])?;
+        assert_eq!(rt; told.1.as_slice(), written.as_bytes(), "{script}");
+        assert_eq!(rt; told.0, status, "{script}");
+    }
+    Ok(())
+}
+
+#[test]
+fn refuses_other_words(rt: HostRuntime) -> Result<(), Fail> {
+    for words in [[].as_slice(), &["plays"], &["play", "play"], &[""]] {
+        let told = run(&rt, rt.alloc(), words, FIRST.as_bytes(), 7, &[], &[])?;
+        assert_eq!(rt; told.0, Status::BadWords);
+        assert_eq!(rt; told.0.number(), 1);
+        assert_eq!(rt; told.1.as_slice(), b"fault: words\n".as_slice());
+    }
+    Ok(())
+}
+
+#[test]
+fn tells_each_failing_read(rt: HostRuntime) -> Result<(), Fail> {
+    for (piece, reads) in [(1, 56), (7, 9), (65_536, 2)] {
+        for n in 1..=reads {
+            let told = run(
+                &rt,
+                rt.alloc(),
+                &["play"],
+                FIRST.as_bytes(),
+                piece,
+                &[n],
+                &[],
+            )?;
+            assert_eq!(rt; told.0, Status::ReadFault, "read {n}");
+            assert_eq!(rt; told.1.as_slice(), b"fault: read\n".as_slice(), "read {n}");
+        }
+        let told = run(
+            &rt,
+            rt.alloc(),
+            &["play"],
+            FIRST.as_bytes(),
+            piece,
+            &[reads + 1],
+            &[],
+        )?;
+        assert_eq!(rt; told.0, Status::Done, "in pieces of {piece}");
+    }
+    Ok(())
+}
+
+#[test]
+fn tells_each_failing_write(rt: HostRuntime) -> Result<(), Fail> {
+    let rows = [
+        (FIRST, 1, "", Status::WriteFault),
+        (
+            FIRST,
+            2,
+            "reply stored\n= 0.0 set a 0 41 stored\n",
+            Status::WriteFault,
+        ),
+        (FIRST, 3, WRITTEN, Status::Done),
+        ("group", 1, "", Status::BadLine(1)),
+    ];
+    for (script, n, written, status) in rows {
+        for piece in [1, 7, 65_536] {
+            let told = run(
+                &rt,
+                rt.alloc(),
+                &["play"],
+                script.as_bytes(),
+                piece,
+                &[],
+                &[n],
+            )?;
+            assert_eq!(rt; told.0, status, "write {n}");
+            assert_eq!(rt; told.1.as_slice(), written.as_bytes(), "write {n}");
+        }
+    }
+    Ok(())
+}
+
+#[test]
+fn plays_at_most_its_limit(rt: HostRuntime) -> Result<(), Fail> {
+    let mut script = Vec::from_slice(rt.alloc(), b"group 1 0 1 16\n")?;
+    script.resize(16_777_216, b'#')?;
+    let told = run(&rt, rt.alloc(), &["play"], &script, 65_536, &[], &[])?;
+    assert_eq!(rt; told.0, Status::Done);
+    script.push(b'\n')?;
+    let told = run(&rt, rt.alloc(), &["play"], &script, 65_536, &[], &[])?;
+    assert_eq!(rt; told.0, Status::TooLong);
+    assert_eq!(rt; told.0.number(), 4);
+    assert_eq!(rt; told.1.as_slice(), b"fault: length\n".as_slice());
+    Ok(())
+}

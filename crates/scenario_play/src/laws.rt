@@ -1,6 +1,0 @@
-ghost use Rattle.scenario_play.specs.Rows.{SmallestScript};
-
-/// The transcript of the smallest script.
-pub fn rows()
-    ensures { SmallestScript }
-{}

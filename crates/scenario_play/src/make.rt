@@ -1,0 +1,32 @@
+ghost use Rattle.std.specs.Prelude.{◌≡◌, ◌≤◌, ◌⊎◌, OnOk, IfErr};
+ghost use Rattle.std.specs.Io.KnownBytes.{Appends};
+ghost use Rattle.edge_io.specs.Faults.{Rose};
+ghost use Rattle.scenario_make.specs.Script.{script_text};
+
+use crate::play::write_text;
+use crate::status::Status;
+use crate::tell::tell;
+use edge_io::Sink;
+use scenario_make::make_script;
+use std::alloc::Global;
+
+/// Writes the script that the number makes.
+pub fn make<K: Sink>(alloc: Global, number: u64, sink: &mut K) -> Status
+    ensures done { result ≡ Status.Done → Appends (K.held sink.old) (K.held sink.new) (script_text number) }
+    ensures write { result ≡ Status.WriteFault → Rose (K.faults sink.old) (K.faults sink.new) }
+    ensures others { (result ≡ Status.Done) ⊎ (result ≡ Status.WriteFault) ⊎ (result ≡ Status.Want) }
+{
+    match write_script(alloc, number, sink) {
+        Ok(()) => Status::Done,
+        Err(status) => tell(alloc, sink, status),
+    }
+}
+
+fn write_script<K: Sink>(alloc: Global, number: u64, sink: &mut K) -> Result<(), Status>
+    ensures whole { OnOk result (Appends (K.held sink.old) (K.held sink.new) (script_text number)) }
+    ensures later { K.faults sink.old ≤ K.faults sink.new }
+    ensures fault { IfErr result (λ status. ((status ≡ Status.WriteFault) × Rose (K.faults sink.old) (K.faults sink.new)) ⊎ (status ≡ Status.Want)) }
+{
+    let script = make_script(alloc, number)?;
+    write_text(sink, &script)
+}

@@ -1,0 +1,57 @@
+ghost use Rattle.std.specs.Prelude.{◌≡◌, ◌≤◌, ◌⊎◌, IfOk, IfErr, OnOk};
+ghost use Rattle.std.specs.Io.KnownBytes.{Appends};
+ghost use Rattle.std.specs.String.{string_bytes};
+ghost use Rattle.edge_io.specs.Faults.{Rose};
+ghost use Rattle.scenario_make.specs.Script.{script_text};
+ghost use Rattle.scenario_play.specs.Ends.{TellsOfScript};
+ghost use Rattle.scenario_play.specs.Status.{told};
+ghost use Rattle.scenario_play.specs.Trial.{trial_of, trial_text};
+
+use crate::cut::count_lines;
+use crate::page::Page;
+use crate::play::{play_lines, write_text};
+use crate::read_script::LONGEST_SCRIPT;
+use crate::status::Status;
+use crate::tell::tell;
+use edge_io::Sink;
+use scenario_make::make_script;
+use std::alloc::Global;
+
+/// Plays the script that the number makes, and writes what came of it on a line: how many lines the script has, how
+/// many entries its group logged, and how many bytes its transcript has.
+pub fn trial<K: Sink>(alloc: Global, number: u64, sink: &mut K) -> Status
+    ensures done { result ≡ Status.Done → Appends (K.held sink.old) (K.held sink.new) (trial_text number) }
+    ensures write { result ≡ Status.WriteFault → Rose (K.faults sink.old) (K.faults sink.new) }
+    ensures others { (result ≡ Status.WriteFault) ⊎ (result ≡ Status.Want) ⊎ (result ≡ told (script_text number)) }
+{
+    match write_trial(alloc, number, sink) {
+        Ok(()) => Status::Done,
+        Err(status) => tell(alloc, sink, status),
+    }
+}
+
+fn write_trial<K: Sink>(alloc: Global, number: u64, sink: &mut K) -> Result<(), Status>
+    ensures whole { OnOk result (Appends (K.held sink.old) (K.held sink.new) (trial_text number)) }
+    ensures told { OnOk result (told (script_text number) ≡ Status.Done) }
+    ensures later { K.faults sink.old ≤ K.faults sink.new }
+    ensures fault { IfErr result (λ status. ((status ≡ Status.WriteFault) × Rose (K.faults sink.old) (K.faults sink.new)) ⊎ (status ≡ Status.Want) ⊎ (TellsOfScript status × (status ≡ told (script_text number)))) }
+{
+    let script = make_script(alloc, number)?;
+    let line = trial_line(alloc, number, &script)?;
+    write_text(sink, line.as_bytes())
+}
+
+/// Plays a script, and says what came of it.
+fn trial_line(alloc: Global, number: u64, script: &[u8]) -> Result<String, Status>
+    ensures ok { IfOk result (λ line. string_bytes line ≡ trial_of number script.now) }
+    ensures told { OnOk result (told script.now ≡ Status.Done) }
+    ensures fault { IfErr result (λ status. (status ≡ Status.Want) ⊎ (TellsOfScript status × (status ≡ told script.now))) }
+{
+    if LONGEST_SCRIPT < script.len() {
+        return Err(Status::TooLong);
+    }
+    let mut page = Page::new(alloc);
+    let logged = play_lines(alloc, script, &mut page)?;
+    let (lines, bytes) = (count_lines(script), page.len());
+    Ok(format!(in alloc; "trial {number} lines {lines} logged {logged} bytes {bytes}\n")?)
+}
