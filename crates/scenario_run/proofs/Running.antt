@@ -80,7 +80,6 @@ next-leads s p (Ok l) next turns text led within is = then-leads s p l next turn
 
 pub line-leads : (s : Dimensions) (p : Play) (line : List ℕ) (next : Option Play) (turns : List Turn) (text : List ℕ) → IsLedTo s p.world
     → next_of (Some p) line ≡ Goes next turns text → GoesOn p.world next turns
-unfolding next_of
 line-leads s p line next turns text led is = next-leads s p (line_of (Some p.world.shape) line) next turns text led (λ l reads. line_of-within (Some p.world.shape) line l reads) is
 
 -- the group line, or a line before it
@@ -109,7 +108,6 @@ next-opens (Err fault) next turns text within is = absurd (cc is)
 next-opens (Ok l) next turns text within is = first-opens l next turns text (within l refl) is
 
 pub line-opens : (line : List ℕ) (next : Option Play) (turns : List Turn) (text : List ℕ) → next_of None line ≡ Goes next turns text → Opens next turns text
-unfolding next_of
 line-opens line next turns text is = next-opens (line_of None line) next turns text (λ l reads. line_of-within None line l reads) is
 
 -- before the group line no line is the last
@@ -132,10 +130,4 @@ never-ends-in (Err fault) within is = cc is
 never-ends-in (Ok l) within is = never-ends-by l (within l refl) is
 
 pub never-ends : (line : List ℕ) → next_of None line ≡ Ends → ⊥
-unfolding next_of
 never-ends line is = never-ends-in (line_of None line) (λ l reads. line_of-within None line l reads) is
-
--- what a line does, by how it is read
-pub next-read : (play : Option Play) (line : List ℕ) → next_of play line ≡ next_by play (line_of (shape_in play) line)
-unfolding next_of
-next-read play line = refl

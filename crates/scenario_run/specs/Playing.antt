@@ -101,5 +101,5 @@ abbrev pub shape_in : Option Play → Option Dimensions
 shape_in play = option_map (λ p. p.world.shape) play
 
 -- what a line does
-unfoldable pub next_of : Option Play → List ℕ → Next
+abbrev pub next_of : Option Play → List ℕ → Next
 next_of play line = next_by play (line_of (shape_in play) line)

@@ -1,7 +1,7 @@
 mod rows;
 
 use crate::program::run_program;
-use crate::program::tests::rows::ROWS;
+use crate::program::tests::rows::CHAPTERS;
 use edge_io::{FixedClock, MemoryListener, MemorySink, MemorySource};
 use scenario_play::Status;
 use std::alloc::Global;
@@ -48,22 +48,43 @@ fn run<R: Threads + Wait + Sync>(
 
 #[test]
 fn plays_the_worked_scripts(rt: HostRuntime) -> Result<(), Fail> {
-    for (script, written, status) in ROWS {
-        let told = run(&rt, rt.alloc(), &["play"], script.as_bytes(), 7, &[], &[])?;
-        assert_eq!(rt; told.1.as_slice(), written.as_bytes(), "{script}");
-        assert_eq!(rt; told.0, status, "{script}");
+    for chapter in CHAPTERS {
+        for (script, written, status) in chapter {
+            let told = run(&rt, rt.alloc(), &["play"], script.as_bytes(), 7, &[], &[])?;
+            assert_eq!(rt; told.1.as_slice(), written.as_bytes(), "{script}");
+            assert_eq!(rt; told.0, *status, "{script}");
+        }
     }
     Ok(())
 }
 
 #[test]
 fn refuses_other_words(rt: HostRuntime) -> Result<(), Fail> {
-    for words in [[].as_slice(), &["plays"], &["play", "play"], &[""]] {
+    for words in [
+        [].as_slice(),
+        &["plays"],
+        &["play", "play"],
+        &["--help"],
+        &["session", "1", "0", "4", "16"],
+    ] {
         let told = run(&rt, rt.alloc(), words, FIRST.as_bytes(), 7, &[], &[])?;
         assert_eq!(rt; told.0, Status::BadWords);
-        assert_eq!(rt; told.0.number(), 1);
         assert_eq!(rt; told.1.as_slice(), b"fault: words\n".as_slice());
     }
+    Ok(())
+}
+
+// The lines that begin so were told by another program.
+#[test]
+fn makes_and_tries_scripts(rt: HostRuntime) -> Result<(), Fail> {
+    let made = run(&rt, rt.alloc(), &["make", "0"], &[], 1, &[], &[])?;
+    assert_eq!(rt; made.0, Status::Done);
+    assert!(rt; made.1.starts_with(b"group 3 2 64 64\ndrain\n".as_slice()));
+    let tried = run(&rt, rt.alloc(), &["trial", "0"], &[], 1, &[], &[])?;
+    assert_eq!(rt;
+        tried.1.as_slice(),
+        b"trial 0 lines 4007 logged 2489 bytes 216460\n".as_slice()
+    );
     Ok(())
 }
 
