@@ -1,0 +1,11 @@
+pub mod Holding
+pub mod Waiting
+pub mod Standing
+pub mod Delivering
+pub mod Leading
+pub mod Answering
+pub mod Bringing
+pub mod Making
+pub mod Stepping
+pub mod Counting
+pub mod Living

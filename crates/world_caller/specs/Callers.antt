@@ -1,0 +1,68 @@
+-- A caller of one group, and what its calls make of it.
+use Rattle.std.specs.Prelude.{ℕ, ◌≡◌, ◌≤◌, Bool, true, false, List, Option, Some, None}
+use Rattle.group_types.specs.Names.{IsProcess}
+use Rattle.group_types.specs.declared.process.ProcessId.{ProcessId}
+use Rattle.memc_table.specs.Asked.{Asked}
+use Rattle.memc_proto.specs.declared.end.CallEnd.{CallEnd}
+use Rattle.memc_proto.specs.declared.end.FailEnd.{FailEnd}
+use Rattle.memc_proto.specs.declared.end.FailEnd.TheVariants as ends
+use Rattle.group_calls.specs.declared.event.Answer.{Answer}
+use Rattle.group_calls.specs.declared.event.Answer.TheVariants as says
+use Rattle.group_calls.specs.declared.event.Event.{Event}
+use Rattle.group_calls.specs.declared.event.Event.TheVariants.{Fail}
+use Rattle.group_run.specs.Headline.{IsRunFrom}
+use Rattle.group_run.specs.World.{World, step, world_after}
+use Rattle.world_caller.specs.Calling.{IsCalled, most_events}
+
+-- the group, which of its callers this is, and whether orders that a process fail are taken
+pub record GroupCaller : Type 0 where
+  pub world : World
+  pub caller : ℕ
+  pub control : Bool
+
+-- it is the same caller, under the same rule
+pub record IsSame (before after : GroupCaller) : Type 0 where
+  pub caller : after.caller ≡ before.caller
+  pub control : after.control ≡ before.control
+
+-- a call that was made
+pub record HasCalled (before : GroupCaller) (op : Asked) (end : CallEnd) (after : GroupCaller) : Type 0 where
+  pub same : IsSame before after
+  pub called : IsCalled before.caller op before.world end after.world
+
+-- a run leads from one group to another
+pub record IsReached (w v : World) : Type 0 where
+  pub events : List Event
+  pub run : IsRunFrom w events
+  pub after : v ≡ world_after w events
+
+-- what stands after want of memory: the events that were made before it
+pub record HasGone (before after : GroupCaller) : Type 0 where
+  pub same : IsSame before after
+  pub reached : IsReached before.world after.world
+
+-- such orders are taken, and the group has the process
+pub record IsTaken (c : GroupCaller) (p : ProcessId) : Type 0 where
+  pub control : c.control ≡ true
+  pub process : IsProcess c.world.shape p
+
+-- how an order ends that made its event, by the answer
+abbrev pub failed_to : Answer → Option FailEnd
+failed_to says.Done = Some ends.Made
+failed_to says.AlreadyDead = Some ends.AlreadyDead
+failed_to _ = None
+
+-- the process is ordered to fail, which is one event
+pub record HasFailed (before : GroupCaller) (p : ProcessId) (keep : ℕ) (end : FailEnd) (after : GroupCaller) : Type 0 where
+  pub taken : IsTaken before p
+  pub same : IsSame before after
+  pub world : after.world ≡ (step before.world (Fail p keep)).world
+  pub ends : failed_to (step before.world (Fail p keep)).turn.answer ≡ Some end
+
+-- an order that a process fail, by its end
+abbrev pub IsOrdered : GroupCaller → ProcessId → ℕ → FailEnd → GroupCaller → Type 0
+IsOrdered before p keep ends.Off after = (before.control ≡ false) × (after ≡ before)
+IsOrdered before p keep ends.NoProcess after = (before.control ≡ true) × (¬ (IsProcess before.world.shape p)) × (after ≡ before)
+IsOrdered before p keep ends.Worn after = IsTaken before p × (most_events ≤ before.world.events) × (after ≡ before)
+IsOrdered before p keep ends.Made after = HasFailed before p keep ends.Made after
+IsOrdered before p keep ends.AlreadyDead after = HasFailed before p keep ends.AlreadyDead after

@@ -1,0 +1,4 @@
+pub mod Calling
+pub mod Callers
+pub mod Laws
+pub mod Making
