@@ -1,0 +1,32 @@
+use Rattle.std.proofs.Common.{◌≡◌, ◌≢◌, ℕ, List, [], Option, Result, refl, arith}
+use Rattle.std.proofs.lemmas.List.Elements.{All-nil}
+use Rattle.std.specs.Result.{IsErrAnd}
+use Rattle.group_types.specs.Dimensions.{Dimensions}
+use Rattle.memc_proto.proofs.Texts.{partial-plain}
+use Rattle.memc_proto.specs.Reader.{Kept, HasRead}
+use Rattle.memc_proto.specs.Request.{IsPlain}
+use Rattle.memc_proto.specs.declared.mode.Mode.TheVariants.{InLine}
+use Rattle.front_end.proofs.Serving.{served-early}
+use Rattle.front_end.specs.Answers.{stand}
+use Rattle.front_end.specs.declared.end.ConnectionFault.{ConnectionFault}
+use Rattle.front_end.specs.declared.end.ConnectionFault.TheVariants.{Want}
+use Rattle.front_end.specs.declared.end.End.{End}
+use Rattle.scenario_session.specs.Session.{group_ways, fresh, IsServed}
+
+-- a reader that was fed nothing
+abbrev idle : Kept
+idle = record { mode = InLine; front = [] }
+
+has_read-nothing : HasRead idle [] []
+has_read-nothing = record { rest = []; reads = (refl, partial-plain [] none); stands = (refl, none, omega arith); ended = refl }
+  where
+    none : IsPlain []
+    none = All-nil (λ b. b ≢ 10)
+
+-- there was no memory for the group: nothing was read, and nothing written
+pub served-nothing : (s : Dimensions) (told : Option ℕ) (left held : Option (List ℕ)) (connection : Result End ConnectionFault)
+    → IsErrAnd connection (λ e. e ≡ Want) → IsServed s told left left held held connection
+served-nothing s told left held connection want = record {
+  after = fresh s;
+  served = served-early group_ways told left (stand (fresh s) held) idle connection has_read-nothing want;
+}
