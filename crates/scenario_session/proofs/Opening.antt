@@ -1,4 +1,4 @@
-use Rattle.std.proofs.Common.{◌≡◌, ◌≢◌, ℕ, List, [], Option, Result, refl, arith}
+use Rattle.std.proofs.Common.{◌≡◌, ◌≢◌, ℕ, true, List, [], Option, Result, refl, ap, ◌∙◌, subst, arith}
 use Rattle.std.proofs.lemmas.List.Elements.{All-nil}
 use Rattle.std.specs.Result.{IsErrAnd}
 use Rattle.group_types.specs.Dimensions.{Dimensions}
@@ -6,11 +6,14 @@ use Rattle.memc_proto.proofs.Texts.{partial-plain}
 use Rattle.memc_proto.specs.Reader.{Kept, HasRead}
 use Rattle.memc_proto.specs.Request.{IsPlain}
 use Rattle.memc_proto.specs.declared.mode.Mode.TheVariants.{InLine}
+use Rattle.group_run.specs.World.{World, opening}
 use Rattle.front_end.proofs.Serving.{served-early}
 use Rattle.front_end.specs.Answers.{stand}
+use Rattle.front_end.specs.Connection.{HasServed}
 use Rattle.front_end.specs.declared.end.ConnectionFault.{ConnectionFault}
 use Rattle.front_end.specs.declared.end.ConnectionFault.TheVariants.{Want}
 use Rattle.front_end.specs.declared.end.End.{End}
+use Rattle.world_caller.specs.Callers.{GroupCaller}
 use Rattle.scenario_session.specs.Session.{group_ways, fresh, IsServed}
 
 -- a reader that was fed nothing
@@ -29,4 +32,17 @@ pub served-nothing : (s : Dimensions) (told : Option ℕ) (left held : Option (L
 served-nothing s told left held connection want = record {
   after = fresh s;
   served = served-early group_ways told left (stand (fresh s) held) idle connection has_read-nothing want;
+}
+
+-- the first caller of a group, with orders taken
+abbrev first_of : World → GroupCaller
+first_of w = record { world = w; caller = 0; control = true }
+
+-- the group was made, and its first caller served the connection
+pub served-by : (s : Dimensions) (told : Option ℕ) (left left_now held held_now : Option (List ℕ)) (world : World) (before after : GroupCaller) (connection : Result End ConnectionFault)
+    → world ≡ opening s → before ≡ record { world = world; caller = 0; control = true }
+    → HasServed group_ways told left left_now (stand before held) (stand after held_now) connection → IsServed s told left left_now held held_now connection
+served-by s told left left_now held held_now world before after connection fresh_world made served = record {
+  after = after;
+  served = subst (λ (c : GroupCaller). HasServed group_ways told left left_now (stand c held) (stand after held_now) connection) (made ∙ ap first_of fresh_world) served;
 }
