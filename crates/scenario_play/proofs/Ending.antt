@@ -12,7 +12,7 @@ use Rattle.scenario_text.specs.declared.line.LineFault.TheVariants as line
 use Rattle.scenario_play.specs.Ends.{EndsWith, HasEnded, HasPlayed, HasRead, IsRefusal, Outside, TellsOfScript}
 use Rattle.scenario_play.specs.Status.{IsTold, last_line, longest_script, told, told_at, told_of}
 use Rattle.scenario_play.specs.declared.status.Status.{Status}
-use Rattle.scenario_play.specs.declared.status.Status.TheVariants.{Done, BadWords, BadLine, BadShape, TooLong, ReadFault, WriteFault, Want}
+use Rattle.scenario_play.specs.declared.status.Status.TheVariants.{Done, BadWords, BadLine, BadShape, TooLong, ReadFault, WriteFault, Want, Cut, LineTooLong, Worn}
 
 short : (n : ℕ) → n ≤ longest_script → nat_lt longest_script n ≡ false
 short n within = grind (arith, nat_tests)
@@ -55,6 +55,9 @@ ended-fault a b text WriteFault read within played = played
 ended-fault a b text Want read within played = tt
 ended-fault a b text Done read within played = absurd played.0
 ended-fault a b text BadWords read within played = absurd played.0
+ended-fault a b text Cut read within played = absurd played.0
+ended-fault a b text LineTooLong read within played = absurd played.0
+ended-fault a b text Worn read within played = absurd played.0
 ended-fault a b text TooLong read within played = absurd played.0
 ended-fault a b text ReadFault read within played = absurd played.0
 
@@ -72,6 +75,9 @@ ended-unread a b ReadFault read = read
 ended-unread a b Want read = tt
 ended-unread a b Done read = absurd read
 ended-unread a b BadWords read = absurd read
+ended-unread a b Cut read = absurd read
+ended-unread a b LineTooLong read = absurd read
+ended-unread a b Worn read = absurd read
 ended-unread a b (BadLine n) read = absurd read
 ended-unread a b (BadShape f) read = absurd read
 ended-unread a b WriteFault read = absurd read
@@ -108,6 +114,9 @@ module _ (a b : Outside) where
   told-ended last Want status end (inl is) later = is_any a.left last status (λ wanted. inr (inl is))
   told-ended last Done status end (inl is) later = absurd end.0
   told-ended last BadWords status end (inl is) later = absurd end.0
+  told-ended last Cut status end (inl is) later = absurd end.0
+  told-ended last LineTooLong status end (inl is) later = absurd end.0
+  told-ended last Worn status end (inl is) later = absurd end.0
 
   at : (s status other : Status) → HasEnded a b (Err s) → (status ≡ s) ⊎ (status ≡ Want) → status ≡ other → (other ≡ Want → ⊥) → HasEnded a b (Err other)
   at s status other end is now differs = subst (λ (x : Status). HasEnded a b (Err x)) (came_from s status other is now differs) end
@@ -151,6 +160,9 @@ module _ (a b : Outside) where
   refusal-told held_last last (BadShape f) end refusal later (inl want) = absurd (cc want)
   refusal-told held_last last Done end refusal later line = absurd refusal
   refusal-told held_last last BadWords end refusal later line = absurd refusal
+  refusal-told held_last last Cut end refusal later line = absurd refusal
+  refusal-told held_last last LineTooLong end refusal later line = absurd refusal
+  refusal-told held_last last Worn end refusal later line = absurd refusal
   refusal-told held_last last TooLong end refusal later line = absurd refusal
   refusal-told held_last last ReadFault end refusal later line = absurd refusal
   refusal-told held_last last WriteFault end refusal later line = absurd refusal

@@ -6,7 +6,7 @@ use Rattle.scenario_text.specs.declared.line.LineFault.{LineFault}
 use Rattle.scenario_text.specs.declared.line.LineFault.TheVariants as line
 use Rattle.scenario_run.specs.Script.{Fault, first_fault}
 use Rattle.scenario_play.specs.declared.status.Status.{Status}
-use Rattle.scenario_play.specs.declared.status.Status.TheVariants.{Done, BadWords, BadLine, BadShape, TooLong, ReadFault, WriteFault, Want}
+use Rattle.scenario_play.specs.declared.status.Status.TheVariants.{Done, BadWords, BadLine, BadShape, TooLong, ReadFault, WriteFault, Want, Cut, LineTooLong, Worn}
 
 -- the number with which the program ends
 abbrev pub number_of_status : Status → ℕ
@@ -18,6 +18,9 @@ number_of_status TooLong = 4
 number_of_status ReadFault = 6
 number_of_status WriteFault = 7
 number_of_status Want = 9
+number_of_status Cut = 10
+number_of_status LineTooLong = 11
+number_of_status Worn = 12
 
 -- the last line, of a bad line what stands before its number
 abbrev pub text_of_status : Status → List ℕ
@@ -32,6 +35,9 @@ text_of_status TooLong = codes "fault: length\n"
 text_of_status ReadFault = codes "fault: read\n"
 text_of_status WriteFault = []
 text_of_status Want = codes "fault: memory\n"
+text_of_status Cut = []
+text_of_status LineTooLong = []
+text_of_status Worn = []
 
 -- the last line that is written at a status
 abbrev pub last_line : Status → List ℕ
@@ -43,6 +49,9 @@ last_line TooLong = text_of_status TooLong
 last_line ReadFault = text_of_status ReadFault
 last_line WriteFault = text_of_status WriteFault
 last_line Want = text_of_status Want
+last_line Cut = text_of_status Cut
+last_line LineTooLong = text_of_status LineTooLong
+last_line Worn = text_of_status Worn
 
 -- the most bytes that a script has
 abbrev pub longest_script : ℕ

@@ -22,6 +22,12 @@ pub enum Status {
     WriteFault,
     /// There was no memory.
     Want,
+    /// The connection's input ended inside a request.
+    Cut,
+    /// A line of the connection was longer than a line may be.
+    LineTooLong,
+    /// As many bytes were read as a connection may have.
+    Worn,
 }
 
 impl Status {
@@ -58,6 +64,9 @@ impl Status {
             Status::ReadFault => (6, "fault: read\n"),
             Status::WriteFault => (7, ""),
             Status::Want => (9, "fault: memory\n"),
+            Status::Cut => (10, ""),
+            Status::LineTooLong => (11, ""),
+            Status::Worn => (12, ""),
         }
     }
 }
