@@ -1,9 +1,59 @@
--- A line that is told of wrong words.
-use Rattle.std.proofs.Common.{◌≡◌, ◌⊎◌, inl, inr, sym, ◌∙◌}
+use Rattle.std.proofs.Common.{◌≡◌, ◌≢◌, ℕ, ◌≤◌, ◌⊎◌, inl, inr, [], Option, refl, sym, ◌∙◌, subst, arith}
+use Rattle.edge_io.specs.Faults.{Rose}
+use Rattle.scenario_play.specs.Ends.{EndsWith, Outside}
+use Rattle.scenario_play.specs.Status.{last_line}
 use Rattle.scenario_play.specs.declared.status.Status.{Status}
-use Rattle.scenario_play.specs.declared.status.Status.TheVariants.{BadWords, Want}
+use Rattle.scenario_play.specs.declared.status.Status.TheVariants.{BadWords, ReadFault, WriteFault, Want}
+use Rattle.scenario_session.specs.declared.end.SessionEnd.{SessionEnd}
+use Rattle.scenario_session.specs.declared.end.SessionEnd.TheVariants as end
+use Rattle.cocytus_main.specs.Session.{HasTold, status_of}
 
--- the status of wrong words is not want of memory
-pub told-line : {P : Type 0} (status : Status) → (status ≡ Want) ⊎ P → status ≡ BadWords → P
-told-line status (inl want) is = absurd (cc (sym is ∙ want))
-told-line status (inr line) is = line
+-- what is told by the call that writes the last line
+pub has_told : (wanted asked : Status) (before now : Outside) (status : Status) → asked ≡ wanted → (status ≡ asked) ⊎ (status ≡ Want)
+    → (status ≡ asked → (status ≡ Want) ⊎ EndsWith before.held now.held before.writes now.writes [] (last_line asked)) → HasTold wanted before now status
+has_told wanted asked before now status same (inr want) line = record { is = inr want; line = inl want }
+has_told wanted asked before now status same (inl is) line = record {
+  is = inl (is ∙ same);
+  line = subst (λ (s : Status). (status ≡ Want) ⊎ EndsWith before.held now.held before.writes now.writes [] (last_line s)) (sym is) (line is);
+}
+
+-- a status other than want of memory is the one that was to be told
+came_from : (e : SessionEnd) (status other : Status) → (status ≡ status_of e) ⊎ (status ≡ Want) → status ≡ other → other ≢ Want → status_of e ≡ other
+came_from e status other (inl is) now differs = sym is ∙ now
+came_from e status other (inr want) now differs = absurd (differs (sym now ∙ want))
+
+names_words : (e : SessionEnd) → status_of e ≢ BadWords
+names_words end.Done is = cc is
+names_words end.Cut is = cc is
+names_words end.LineTooLong is = cc is
+names_words end.Worn is = cc is
+names_words end.ReadFault is = cc is
+names_words end.WriteFault is = cc is
+names_words end.Want is = cc is
+
+pub named : (e : SessionEnd) (status : Status) → (status ≡ status_of e) ⊎ (status ≡ Want) → status ≢ BadWords
+named e status is now = names_words e (came_from e status BadWords is now (λ w. cc w))
+
+of_read : (e : SessionEnd) → status_of e ≡ ReadFault → e ≡ end.ReadFault
+of_read end.ReadFault is = refl
+of_read end.Done is = cc is
+of_read end.Cut is = cc is
+of_read end.LineTooLong is = cc is
+of_read end.Worn is = cc is
+of_read end.WriteFault is = cc is
+of_read end.Want is = cc is
+
+of_write : (e : SessionEnd) → status_of e ≡ WriteFault → e ≡ end.WriteFault
+of_write end.WriteFault is = refl
+of_write end.Done is = cc is
+of_write end.Cut is = cc is
+of_write end.LineTooLong is = cc is
+of_write end.Worn is = cc is
+of_write end.ReadFault is = cc is
+of_write end.Want is = cc is
+
+pub was_read : (e : SessionEnd) (status : Status) → (status ≡ status_of e) ⊎ (status ≡ Want) → status ≡ ReadFault → e ≡ end.ReadFault
+was_read e status is now = of_read e (came_from e status ReadFault is now (λ w. cc w))
+
+pub was_write : (e : SessionEnd) (status : Status) → (status ≡ status_of e) ⊎ (status ≡ Want) → status ≡ WriteFault → e ≡ end.WriteFault
+was_write e status is now = of_write e (came_from e status WriteFault is now (λ w. cc w))

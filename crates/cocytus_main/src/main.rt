@@ -4,6 +4,7 @@
 #![tactic(auto)]
 
 mod program;
+mod serving;
 
 use crate::program::run_program;
 use edge_io::{MemoryListener, ReadEdge, SystemClock, WriteEdge};

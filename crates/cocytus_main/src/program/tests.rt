@@ -1,7 +1,9 @@
 mod rows;
+mod sessions;
 
 use crate::program::run_program;
 use crate::program::tests::rows::CHAPTERS;
+use crate::program::tests::sessions::{SESSIONS, page};
 use edge_io::{FixedClock, MemoryListener, MemorySink, MemorySource};
 use scenario_play::Status;
 use std::alloc::Global;
@@ -65,7 +67,7 @@ fn refuses_other_words(rt: HostRuntime) -> Result<(), Fail> {
         &["plays"],
         &["play", "play"],
         &["--help"],
-        &["session", "1", "0", "4", "16"],
+        &["session", "1", "0", "4"],
     ] {
         let told = run(&rt, rt.alloc(), words, FIRST.as_bytes(), 7, &[], &[])?;
         assert_eq!(rt; told.0, Status::BadWords);
@@ -160,5 +162,71 @@ fn plays_at_most_its_limit(rt: HostRuntime) -> Result<(), Fail> {
     assert_eq!(rt; told.0, Status::TooLong);
     assert_eq!(rt; told.0.number(), 4);
     assert_eq!(rt; told.1.as_slice(), b"fault: length\n".as_slice());
+    Ok(())
+}
+
+#[test]
+fn serves_connections(rt: HostRuntime) -> Result<(), Fail> {
+    for (words, input, written, status) in SESSIONS {
+        for piece in [1, 7, 65_536] {
+            let told = run(&rt, rt.alloc(), words, input.as_bytes(), piece, &[], &[])?;
+            assert_eq!(rt; told.1.as_slice(), written.as_bytes(), "{input}");
+            assert_eq!(rt; told.0, status, "{input}");
+        }
+    }
+    Ok(())
+}
+
+#[test]
+fn serves_a_page_of_keys(rt: HostRuntime) -> Result<(), Fail> {
+    let (input, written) = page(rt.alloc())?;
+    let words = ["session", "4", "2", "1024", "4096"];
+    for piece in [1, 7, 65_536] {
+        let told = run(&rt, rt.alloc(), &words, &input, piece, &[], &[])?;
+        assert_eq!(rt; told.1, written, "in pieces of {piece}");
+        assert_eq!(rt; told.0, Status::Done, "in pieces of {piece}");
+    }
+    Ok(())
+}
+
+#[test]
+fn tells_how_a_connection_failed(rt: HostRuntime) -> Result<(), Fail> {
+    let words = ["session", "1", "0", "4", "16"];
+    let mut long = Vec::new(rt.alloc());
+    long.resize(32_769, b'a')?;
+    let thrice = b"version\r\nversion\r\nversion\r\n";
+    let rows: [(&[u8], &[u64], &[u64], &str, Status, u8); 4] = [
+        (
+            thrice,
+            &[],
+            &[3],
+            "VERSION cocytus-1\r\nVERSION cocytus-1\r\n",
+            Status::WriteFault,
+            7,
+        ),
+        (
+            &thrice[..9],
+            &[2],
+            &[],
+            "VERSION cocytus-1\r\nfault: read\n",
+            Status::ReadFault,
+            6,
+        ),
+        (
+            &long,
+            &[],
+            &[],
+            "CLIENT_ERROR line too long\r\n",
+            Status::LineTooLong,
+            11,
+        ),
+        (&thrice[..8], &[], &[], "", Status::Cut, 10),
+    ];
+    for (input, reads, writes, written, status, number) in rows {
+        let told = run(&rt, rt.alloc(), &words, input, 65_536, reads, writes)?;
+        assert_eq!(rt; told.1.as_slice(), written.as_bytes());
+        assert_eq!(rt; told.0, status);
+        assert_eq!(rt; told.0.number(), number);
+    }
     Ok(())
 }

@@ -1,0 +1,45 @@
+-- What comes of the command `session`.
+use Rattle.std.specs.Prelude.{ℕ, ◌≡◌, ◌⊎◌, List, [], Option}
+use Rattle.group_types.specs.Dimensions.{Dimensions}
+use Rattle.group_types.specs.Shape.{IsShape, IsFirstOutOfRange}
+use Rattle.group_types.specs.declared.shape.Field.{Field}
+use Rattle.scenario_play.specs.Ends.{EndsWith, Outside}
+use Rattle.scenario_play.specs.Status.{last_line}
+use Rattle.scenario_play.specs.declared.status.Status.{Status}
+use Rattle.scenario_play.specs.declared.status.Status.TheVariants.{Done, BadShape, ReadFault, WriteFault, Want, Cut, LineTooLong, Worn}
+use Rattle.scenario_session.specs.Session.{HasEnded}
+use Rattle.scenario_session.specs.declared.end.SessionEnd.{SessionEnd}
+use Rattle.scenario_session.specs.declared.end.SessionEnd.TheVariants as end
+
+-- what a source and a sink tell of themselves
+abbrev pub outside : Option (List ℕ) → ℕ → Option (List ℕ) → ℕ → Outside
+outside left reads held writes = record { left = left; reads = reads; held = held; writes = writes }
+
+-- the status of a session that ended so
+abbrev pub status_of : SessionEnd → Status
+status_of end.Done = Done
+status_of end.Cut = Cut
+status_of end.LineTooLong = LineTooLong
+status_of end.Worn = Worn
+status_of end.ReadFault = ReadFault
+status_of end.WriteFault = WriteFault
+status_of end.Want = Want
+
+-- this was to be told: it is the status and its last line is written, or there was no memory
+pub record HasTold (wanted : Status) (before now : Outside) (status : Status) : Type 0 where
+  pub is : (status ≡ wanted) ⊎ (status ≡ Want)
+  pub line : (status ≡ Want) ⊎ EndsWith before.held now.held before.writes now.writes [] (last_line status)
+
+-- a connection was served over a fresh group of this shape, and how it ended was told
+pub record HasServed (s : Dimensions) (moment : Option ℕ) (before now : Outside) (status : Status) : Type 0 where
+  pub end : SessionEnd
+  pub middle : Outside
+  pub ended : HasEnded s moment before.left middle.left before.held middle.held end
+  pub kept : now.left ≡ middle.left
+  pub told : HasTold (status_of end) middle now status
+
+-- a session was asked with these numbers: the first that is out of range is told, or a connection is served
+abbrev pub IsSession : Dimensions → Option ℕ → Outside → Outside → Status → Type 0
+IsSession d moment before now status =
+    ((field : Field) × IsFirstOutOfRange d field × HasTold (BadShape field) before now status)
+    ⊎ (IsShape d × HasServed d moment before now status)

@@ -1,0 +1,101 @@
+// Connections, what is written for each, and how it ends.
+use group_types::Field;
+use scenario_play::Status;
+use std::alloc::Global;
+use std::test::Fail;
+
+pub(crate) type Row = (&'static [&'static str], &'static str, &'static str, Status);
+
+const PLAIN: &[&str] = &["session", "1", "0", "4", "16"];
+
+const SAFE: &[&str] = &["session", "2", "1", "4", "16"];
+
+pub(crate) const SESSIONS: [Row; 13] = [
+    // Sets, and a get that asks a key twice.
+    (
+        &["session", "2", "0", "4", "16"],
+        "set a 5 0 1\r\nA\r\nset b 0 0 2\r\nBB\r\nget a b a\r\n",
+        "STORED\r\nSTORED\r\nVALUE a 5 1\r\nA\r\nVALUE b 0 2\r\nBB\r\nVALUE a 5 1\r\nA\r\nEND\r\n",
+        Status::Done,
+    ),
+    // No request at all, and one that goes unread behind a quit.
+    (PLAIN, "", "", Status::Done),
+    (PLAIN, "quit\r\nversion\r\n", "", Status::Done),
+    // Ends inside a block, and inside a line.
+    (PLAIN, "set a 0 0 5\r\nab", "", Status::Cut),
+    (
+        PLAIN,
+        "version\r\nver",
+        "VERSION cocytus-1\r\n",
+        Status::Cut,
+    ),
+    // Requests that are refused, and a value for which there is no room.
+    (
+        PLAIN,
+        "set a 0 0 1\r\nab\r\n",
+        "CLIENT_ERROR bad data chunk\r\nERROR\r\n",
+        Status::Done,
+    ),
+    (PLAIN, "frob\r\n", "ERROR\r\n", Status::Done),
+    (
+        PLAIN,
+        "set a 0 0 65\r\n\
+        xxxxxxxxxxxxxxxxxxxxxxxxxxxxxxxxxxxxxxxxxxxxxxxxxxxxxxxxxxxxxxxxx\r\n",
+        "SERVER_ERROR out of memory storing object\r\n",
+        Status::Done,
+    ),
+    // Processes that are lost on demand, up to a group that is down.
+    (
+        SAFE,
+        "set a 0 0 1\r\nA\r\ncocytus_fail d0 0\r\nget a\r\ncocytus_fail d0 0\r\ncocytus_fail d1 0\r\nget a\r\n",
+        "STORED\r\nOK\r\nVALUE a 0 1\r\nA\r\nEND\r\nALREADY_DEAD\r\nOK\r\nSERVER_ERROR group down\r\n",
+        Status::Done,
+    ),
+    (
+        SAFE,
+        "cocytus_fail d2 0\r\n",
+        "CLIENT_ERROR no such process\r\n",
+        Status::Done,
+    ),
+    // Numbers that are no shape.
+    (
+        &["session", "17", "5", "4", "24"],
+        "version\r\n",
+        "fault: shape k\n",
+        Status::BadShape(Field::K),
+    ),
+    (
+        &["session", "2", "0", "0", "24"],
+        "version\r\n",
+        "fault: shape block\n",
+        Status::BadShape(Field::Block),
+    ),
+    (
+        &["session", "1", "0", "1025", "65536"],
+        "version\r\n",
+        "fault: shape blocks\n",
+        Status::BadShape(Field::Blocks),
+    ),
+];
+
+/// A page of keys that are set one by one and asked for at once: what is read, and what is written.
+pub(crate) fn page(alloc: Global) -> Result<(Vec<u8>, Vec<u8>), Fail> {
+    let mut block = Vec::new(alloc);
+    block.resize(300, b'x')?;
+    let mut input = Vec::from_slice(alloc, b"set user:1 0 0 300\r\n")?;
+    let mut written = Vec::from_slice(alloc, b"STORED\r\nVALUE user:1 0 300\r\n")?;
+    for text in [&mut input, &mut written] {
+        text.extend_from_slice(&block)?;
+        text.extend_from_slice(b"\r\n")?;
+    }
+    let mut keys = Vec::from_slice(alloc, b"get user:1")?;
+    for i in 0..19u32 {
+        input.extend_from_slice(format!(in alloc; "set n{i} 0 0 1 noreply\r\n7\r\n")?.as_bytes())?;
+        keys.extend_from_slice(format!(in alloc; " n{i}")?.as_bytes())?;
+        written.extend_from_slice(format!(in alloc; "VALUE n{i} 0 1\r\n7\r\n")?.as_bytes())?;
+    }
+    input.extend_from_slice(&keys)?;
+    input.extend_from_slice(b"\r\nversion\r\nquit\r\n")?;
+    written.extend_from_slice(b"END\r\nVERSION cocytus-1\r\n")?;
+    Ok((input, written))
+}
