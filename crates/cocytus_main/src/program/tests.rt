@@ -1,9 +1,11 @@
+ghost use Rattle.std.specs.Prelude.{◌≤◌};
+
 mod rows;
 mod sessions;
 
 use crate::program::run_program;
 use crate::program::tests::rows::CHAPTERS;
-use crate::program::tests::sessions::{SESSIONS, page};
+use crate::program::tests::sessions::SESSIONS;
 use edge_io::{FixedClock, MemoryListener, MemorySink, MemorySource};
 use scenario_play::Status;
 use std::alloc::Global;
@@ -173,18 +175,6 @@ fn serves_connections(rt: HostRuntime) -> Result<(), Fail> {
             assert_eq!(rt; told.1.as_slice(), written.as_bytes(), "{input}");
             assert_eq!(rt; told.0, status, "{input}");
         }
-    }
-    Ok(())
-}
-
-#[test]
-fn serves_a_page_of_keys(rt: HostRuntime) -> Result<(), Fail> {
-    let (input, written) = page(rt.alloc())?;
-    let words = ["session", "4", "2", "1024", "4096"];
-    for piece in [1, 7, 65_536] {
-        let told = run(&rt, rt.alloc(), &words, &input, piece, &[], &[])?;
-        assert_eq!(rt; told.1, written, "in pieces of {piece}");
-        assert_eq!(rt; told.0, Status::Done, "in pieces of {piece}");
     }
     Ok(())
 }

@@ -1,8 +1,6 @@
 // Connections, what is written for each, and how it ends.
 use group_types::Field;
 use scenario_play::Status;
-use std::alloc::Global;
-use std::test::Fail;
 
 pub(crate) type Row = (&'static [&'static str], &'static str, &'static str, Status);
 
@@ -77,25 +75,3 @@ pub(crate) const SESSIONS: [Row; 13] = [
         Status::BadShape(Field::Blocks),
     ),
 ];
-
-/// A page of keys that are set one by one and asked for at once: what is read, and what is written.
-pub(crate) fn page(alloc: Global) -> Result<(Vec<u8>, Vec<u8>), Fail> {
-    let mut block = Vec::new(alloc);
-    block.resize(300, b'x')?;
-    let mut input = Vec::from_slice(alloc, b"set user:1 0 0 300\r\n")?;
-    let mut written = Vec::from_slice(alloc, b"STORED\r\nVALUE user:1 0 300\r\n")?;
-    for text in [&mut input, &mut written] {
-        text.extend_from_slice(&block)?;
-        text.extend_from_slice(b"\r\n")?;
-    }
-    let mut keys = Vec::from_slice(alloc, b"get user:1")?;
-    for i in 0..19u32 {
-        input.extend_from_slice(format!(in alloc; "set n{i} 0 0 1 noreply\r\n7\r\n")?.as_bytes())?;
-        keys.extend_from_slice(format!(in alloc; " n{i}")?.as_bytes())?;
-        written.extend_from_slice(format!(in alloc; "VALUE n{i} 0 1\r\n7\r\n")?.as_bytes())?;
-    }
-    input.extend_from_slice(&keys)?;
-    input.extend_from_slice(b"\r\nversion\r\nquit\r\n")?;
-    written.extend_from_slice(b"END\r\nVERSION cocytus-1\r\n")?;
-    Ok((input, written))
-}
