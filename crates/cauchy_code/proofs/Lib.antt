@@ -1,4 +1,5 @@
 pub mod Terms
+mod Fours
 pub mod Parts
 pub mod Recovery
 pub mod Solutions

@@ -1,5 +1,5 @@
 -- The lost columns as sums of the rows and the known columns.
-use Rattle.std.specs.Prelude.{◌≡◌, ℕ, ◌<◌, List, bit_xor, length, slice_index}
+use Rattle.std.specs.Prelude.{◌≡◌, ℕ, ◌+◌, ◌<◌, List, bit_xor, length, slice_index}
 use Rattle.field_byte.specs.Field.{product}
 use Rattle.field_byte.specs.Vectors.{field_sum}
 use Rattle.field_matrix.specs.Grids.{Grid, HasBytes, IsIdentity, entry, times}
@@ -36,6 +36,22 @@ lost_byte m weights rows known at = bit_xor (pieces_sum (length rows) weights ro
 -- the sum of rows and known columns with their weights, at a place
 abbrev pub parts_sum : Weights → List Piece → List Piece → ℕ → ℕ
 parts_sum w rows known at = bit_xor (pieces_sum (length rows) (slice_index w.rows) rows at) (pieces_sum (length known) (slice_index w.known) known at)
+
+-- the prepared ones are the first two of each
+pub record IsStarted (w : Weights) : Type 0 where
+  pub row : slice_index w.start 0 ≡ slice_index w.rows 0
+  pub next_row : slice_index w.start 1 ≡ slice_index w.rows 1
+  pub column : slice_index w.start 2 ≡ slice_index w.known 0
+  pub next_column : slice_index w.start 3 ≡ slice_index w.known 1
+
+-- what the first two of each have in the sum, at a place
+abbrev pub start_sum : Weights → List Piece → List Piece → ℕ → ℕ
+start_sum w rows known at = bit_xor (pieces_sum 2 (slice_index w.rows) rows at) (pieces_sum 2 (slice_index w.known) known at)
+
+-- where x and the pieces before a number stood, x and all pieces stand
+abbrev pub IsAdded : (ℕ → ℕ) → List Piece → ℕ → ℕ → List ℕ → List ℕ → Type 0
+IsAdded weights pieces from at old new =
+    (k x : ℕ) → k < length old → slice_index old k ≡ bit_xor x (pieces_sum from weights pieces (at + k)) → slice_index new k ≡ bit_xor x (pieces_sum (length pieces) weights pieces (at + k))
 
 -- n bytes that are these sums
 pub record IsSum (n : ℕ) (w : Weights) (rows known : List Piece) (bytes : List ℕ) : Type 0 where

@@ -7,8 +7,8 @@ ghost use Rattle.cauchy_code.specs.Columns.{KeepsOthers, as_columns, columns_of}
 ghost use Rattle.cauchy_code.specs.Solving.{IsSolved};
 
 use crate::column::{are_bytes, write_column};
-use crate::pass::write_two;
 use crate::square::square;
+use crate::two_columns::write_two;
 use crate::weights::weights_of;
 use field_matrix::Square;
 use group_types::{Piece, PieceList, Shape};

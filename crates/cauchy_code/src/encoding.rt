@@ -23,7 +23,7 @@ pub fn add_columns(m: u32, i: u32, j: u32, columns: &PieceList, first: &mut [u8]
     let pieces = columns.pieces();
     let in_first = coefficients(m, i, pieces);
     let in_second = coefficients(m, j, pieces);
-    add_pieces(&in_first, &in_second, pieces, 0, first, second);
+    add_pieces(&in_first, &in_second, pieces, 0, 0, first, second);
 }
 
 fn coefficients(m: u32, i: u32, columns: &[Piece]) -> [u8; 16]

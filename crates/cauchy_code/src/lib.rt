@@ -9,6 +9,7 @@ mod decoding;
 mod encoding;
 mod pass;
 mod square;
+mod two_columns;
 mod weights;
 
 ghost use Rattle.std.specs.Prelude.{◌≡◌, ◌+◌, ◌<◌, ◌≤◌, bit_xor, length};

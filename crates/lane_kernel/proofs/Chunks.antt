@@ -37,7 +37,7 @@ byte_added at old terms now x same within is before =
     byte_written at old (add_bytes old terms) now x within
     (is ∙ (ap (λ y. bit_xor y (get_or terms at 0)) (before.left at (omega arith)) ∙ sym (get_or-add_bytes old terms at same))) before
 
-chunk_left : (at n : ℕ) (old whole now : List ℕ) → at + n ≤ length old → Written at old whole now → chunk at n now ≡ chunk at n old
+pub chunk_left : (at n : ℕ) (old whole now : List ℕ) → at + n ≤ length old → Written at old whole now → chunk at n now ≡ chunk at n old
 chunk_left at n old whole now within before =
     let now_long = length-chunk at n now (omega (arith, before.long)) in
     same_number_lists _ _ (now_long ∙ sym (length-chunk at n old within)) (λ k below.
@@ -58,7 +58,7 @@ vector_done at n whole now sum within same is done k below =
           ∙ (ap (λ l. get_or l (k - at) 0) is ∙ (get_or-chunk at n whole (k - at) 0 lane ∙ ap (λ j. get_or whole j 0) (sym place))))
     ]
 
-vector_written : (at n : ℕ) (old whole now sum : List ℕ) → at + n ≤ length old → length whole ≡ length old → sum ≡ chunk at n whole → Written at old whole now → Written (at + n) old whole (put_chunk at now sum)
+pub vector_written : (at n : ℕ) (old whole now sum : List ℕ) → at + n ≤ length old → length whole ≡ length old → sum ≡ chunk at n whole → Written at old whole now → Written (at + n) old whole (put_chunk at now sum)
 vector_written at n old whole now sum within same is before =
     let wide : length sum ≡ n = ap length is ∙ length-chunk at n whole (omega arith) in
     record {
@@ -97,8 +97,19 @@ module _ (coef : ℕ) (src old : List ℕ) (same : length src ≡ length old) wh
       vector_done end n sums now last (omega (arith, before.long)) (length-sums ∙ sym before.long) (is ∙ sum_of_chunks end n) (λ j earlier. before.done j (omega arith)) k
       (omega (arith, before.long, length-put_chunk end now last)))
 
-abbrev put_mid : ℕ → ℕ → List ℕ → List ℕ → List ℕ
+abbrev pub put_mid : ℕ → ℕ → List ℕ → List ℕ → List ℕ
 put_mid at n xs ys = take at xs ++ (ys ++ drop n (drop at xs))
+
+-- the rest, in one piece
+pub rest_written : (at n : ℕ) (old whole now rest : List ℕ) → at + n ≡ length old → length whole ≡ length old → rest ≡ chunk at n whole → Written at old whole now → put_mid at n now rest ≡ whole
+rest_written at n old whole now rest all same part before =
+    let front : take at now ≡ take at whole = same_number_lists _ _ (omega (arith, length-take at now, length-take at whole, before.long, same)) (λ k below.
+    let early : k < at = omega (arith, length-take at now) in
+    get_or-take at now k 0 early ∙ (before.done k early ∙ sym (get_or-take at whole k 0 early))) in
+    let back : drop n (drop at now) ≡ drop n (drop at whole) =
+    same_number_lists _ _ (omega (arith, length-drop n (drop at now), length-drop n (drop at whole), length-drop at now, length-drop at whole, before.long, same)) (λ k below.
+    absurd (omega (arith, length-drop n (drop at now), length-drop at now, before.long))) in
+    ap₂ (λ x y. x ++ y) front (ap₂ (λ x y. x ++ y) part back) ∙ (ap (λ x. take at whole ++ x) (take-append-drop n (drop at whole)) ∙ take-append-drop at whole)
 
 -- the same of two products
 module _ (p q : ℕ) (xs ys old : List ℕ) (x_same : length xs ≡ length old) (y_same : length ys ≡ length old) where
@@ -121,14 +132,6 @@ module _ (p q : ℕ) (xs ys old : List ℕ) (x_same : length xs ≡ length old) 
       vector_written at n old both now sum within length-both
       (is ∙ (ap (add_two p q (chunk at n xs) (chunk at n ys)) (chunk_left at n old both now within before) ∙ both_of_chunks at n)) before
 
-  -- the rest, in one piece
   pub two_finished : (at n : ℕ) (now rest : List ℕ) → at + n ≡ length old → rest ≡ add_two p q (chunk at n xs) (chunk at n ys) (chunk at n now) → Written at old both now → put_mid at n now rest ≡ both
   two_finished at n now rest all is before =
-      let part : rest ≡ chunk at n both = is ∙ (ap (add_two p q (chunk at n xs) (chunk at n ys)) (chunk_left at n old both now (omega arith) before) ∙ both_of_chunks at n) in
-      let front : take at now ≡ take at both = same_number_lists _ _ (omega (arith, length-take at now, length-take at both, before.long, length-both)) (λ k below.
-      let early : k < at = omega (arith, length-take at now) in
-      get_or-take at now k 0 early ∙ (before.done k early ∙ sym (get_or-take at both k 0 early))) in
-      let back : drop n (drop at now) ≡ drop n (drop at both) =
-      same_number_lists _ _ (omega (arith, length-drop n (drop at now), length-drop n (drop at both), length-drop at now, length-drop at both, before.long, length-both)) (λ k below.
-      absurd (omega (arith, length-drop n (drop at now), length-drop at now, before.long))) in
-      ap₂ (λ x y. x ++ y) front (ap₂ (λ x y. x ++ y) part back) ∙ (ap (λ x. take at both ++ x) (take-append-drop n (drop at both)) ∙ take-append-drop at both)
+      rest_written at n old both now rest all length-both (is ∙ (ap (add_two p q (chunk at n xs) (chunk at n ys)) (chunk_left at n old both now (omega (arith, all)) before) ∙ both_of_chunks at n)) before

@@ -2,6 +2,7 @@
 // table of sixteen.
 ghost use Rattle.std.specs.Prelude.{◌≡◌, length};
 ghost use Rattle.field_byte.specs.Vectors.{add_bytes, scale};
+ghost use Rattle.lane_kernel.specs.Sums.{sum_of_four};
 
 use field_byte::Split;
 use std::simd::prelude::*;
@@ -29,14 +30,44 @@ pub(crate) fn add_product_16(split: &Split, from: u8x16, to: u8x16) -> u8x16
 }
 
 #[inline(always)]
-pub(crate) fn add_product_32(split: &Split, from: u8x32, to: u8x32) -> u8x32
-    ensures { result ≡ add_bytes to (scale split.now from) }
+pub(crate) fn product_32(split: &Split, from: u8x32) -> u8x32
+    ensures { result ≡ scale split.now from }
 {
     let low = split.low().swizzle::<32>(TWICE);
     let high = split.high().swizzle::<32>(TWICE);
     let lows = low.swizzle_dyn_within::<16>(from & u8x32::splat(15));
     let highs = high.swizzle_dyn_within::<16>(from >> u8x32::splat(4));
-    to ^ (lows ^ highs)
+    lows ^ highs
+}
+
+#[inline(always)]
+pub(crate) fn add_product_32(split: &Split, from: u8x32, to: u8x32) -> u8x32
+    ensures { result ≡ add_bytes to (scale split.now from) }
+{
+    to ^ product_32(split, from)
+}
+
+// The sums of four sources, each of which is cut into halves once for both.
+#[inline(always)]
+pub(crate) fn sums_of_four(
+    in_first: &[Split; 4],
+    in_second: &[Split; 4],
+    a: u8x32,
+    b: u8x32,
+    c: u8x32,
+    d: u8x32,
+) -> (u8x32, u8x32)
+    ensures first { result.0 ≡ sum_of_four in_first.now a b c d }
+    ensures second { result.1 ≡ sum_of_four in_second.now a b c d }
+{
+    let (first, second) = (product_32(&in_first[0], a), product_32(&in_second[0], a));
+    let first_b = add_product_32(&in_first[1], b, first);
+    let second_b = add_product_32(&in_second[1], b, second);
+    let first_c = add_product_32(&in_first[2], c, first_b);
+    let second_c = add_product_32(&in_second[2], c, second_b);
+    let first_d = add_product_32(&in_first[3], d, first_c);
+    let second_d = add_product_32(&in_second[3], d, second_c);
+    (first_d, second_d)
 }
 
 #[inline(always)]

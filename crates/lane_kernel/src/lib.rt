@@ -3,6 +3,7 @@
 //! byte by byte, for every length; that vectors do it shows in the speed alone.
 #![tactic(auto)]
 
+mod fours;
 mod lanes;
 mod plain;
 
@@ -11,6 +12,7 @@ ghost use Rattle.field_byte.specs.Vectors.{add_bytes, scale};
 ghost use Rattle.lane_kernel.specs.Sums.{add_two};
 
 use field_byte::Split;
+pub use fours::{mul_add_four_into, mul_four_into};
 use lanes::{add_product_16, add_product_32, add_product_64};
 use std::simd::prelude::*;
 

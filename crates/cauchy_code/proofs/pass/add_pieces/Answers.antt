@@ -1,55 +1,30 @@
-use Rattle.std.proofs.Common.{◌≡◌, ℕ, ◌+◌, ◌<◌, List, length, get_or, bit_xor, sym, ap, ◌∙◌, refl, arith}
-use Rattle.cauchy_code.specs.Solving.{pieces_sum}
-use Rattle.cauchy_code.proofs.Terms.{none_added, one_added, part_at, two_added}
+use Rattle.std.proofs.Common.{◌≡◌, ℕ, ◌+◌, ◌<◌, List, length, get_or, sym, ap, ◌∙◌, arith}
+use Rattle.cauchy_code.proofs.Terms.{part_at}
+use Rattle.cauchy_code.proofs.Fours.{four_added}
 use Rattle.cauchy_code.proofs.pass.add_pieces.Goals as goal
 
-pub pairs-init : goal.pairs-init
-pairs-init c = record {
-  within = omega arith;
-  first = λ k below. none_added (λ a. get_or c.args.in_first.now a 0) c.args.pieces.now (c.args.at + k) _;
-  second = λ k below. none_added (λ a. get_or c.args.in_second.now a 0) c.args.pieces.now (c.args.at + k) _;
-}
-
-pub pairs-preserved : goal.pairs-preserved
-pairs-preserved c =
+pub fours-preserved : goal.fours-preserved
+fours-preserved c =
     let pieces = c.args.pieces.now in
-    let j = c.pairs.j in
+    let j = c.fours.j in
     let a = c.part-a.result.now in
     let b = c.part-b.result.now in
-    let long : length c.pairs.first ≡ length c.args.first.now = c.pairs.auto.first in
-    let other_long : length c.pairs.second ≡ length c.args.first.now = c.pairs.auto.second ∙ c.requires.same in
-    let here = λ (k : ℕ) (below : k < length c.args.first.now). part_at pieces j (c.args.at + k) (get_or a k 0) c.index-pieces-j.result (omega (arith, c.pairs-test.true)) c.index-pieces-j.is (c.part-a.ensures.bytes k below) in
-    let next = λ (k : ℕ) (below : k < length c.args.first.now). part_at pieces (j + 1) (c.args.at + k) (get_or b k 0) c.index-pieces-j-in-pairs.result (omega (arith, c.pairs-test.true)) c.index-pieces-j-in-pairs.is (c.part-b.ensures.bytes k below) in
+    let e = c.part-c.result.now in
+    let d = c.part-d.result.now in
+    let by_first = c.four_of-by_first.result in
+    let by_second = c.four_of-by_second.result in
+    let long : length c.args.first.now ≡ length c.fours.first = sym (c.fours.auto.first) in
+    let other_long : length c.args.first.now ≡ length c.fours.second = sym (c.fours.auto.second ∙ c.requires.same) in
+    let in_a = λ (k : ℕ) (below : k < length c.args.first.now). part_at pieces j (c.args.at + k) (get_or a k 0) c.index-pieces-j.result (omega (arith, c.fours-test.true)) c.index-pieces-j.is (c.part-a.ensures.bytes k below) in
+    let in_b = λ (k : ℕ) (below : k < length c.args.first.now). part_at pieces (j + 1) (c.args.at + k) (get_or b k 0) c.index-pieces-j-in-fours.result (omega (arith, c.fours-test.true)) c.index-pieces-j-in-fours.is (c.part-b.ensures.bytes k below) in
+    let in_c = λ (k : ℕ) (below : k < length c.args.first.now). part_at pieces (j + 2) (c.args.at + k) (get_or e k 0) c.index-pieces-j-in-fours-2.result (omega (arith, c.fours-test.true)) c.index-pieces-j-in-fours-2.is (c.part-c.ensures.bytes k below) in
+    let in_d = λ (k : ℕ) (below : k < length c.args.first.now). part_at pieces (j + 3) (c.args.at + k) (get_or d k 0) c.index-pieces-j-in-fours-3.result (omega (arith, c.fours-test.true)) c.index-pieces-j-in-fours-3.is (c.part-d.ensures.bytes k below) in
     record {
-      within = c.pairs-test.true;
-      first = λ k below. ap (λ (l : List ℕ). get_or l k 0) c.mul_add_two_into.ensures.first
-          ∙ two_added j (λ a. get_or c.args.in_first.now a 0) pieces (c.args.at + k) k (get_or c.args.first.now k 0) _ _ a b c.pairs.first (c.part-a.ensures.length ∙ sym long) (c.part-b.ensures.length ∙ sym long)
-          (c.pairs.invariant.first k below) refl refl (here k below) (next k below);
-      second = λ k below. ap (λ (l : List ℕ). get_or l k 0) c.mul_add_two_into.ensures.second
-          ∙ two_added j (λ a. get_or c.args.in_second.now a 0) pieces (c.args.at + k) k (get_or c.args.second.now k 0) _ _ a b c.pairs.second (c.part-a.ensures.length ∙ sym other_long) (c.part-b.ensures.length ∙ sym other_long)
-          (c.pairs.invariant.second k below) refl refl (here k below) (next k below);
+      within = c.fours-test.true;
+      first = λ k x below is. ap (λ (l : List ℕ). get_or l k 0) c.mul_add_four_into.ensures.first
+          ∙ four_added by_first a b e d c.fours.first (c.part-a.ensures.length ∙ long) (c.part-b.ensures.length ∙ long) (c.part-c.ensures.length ∙ long) (c.part-d.ensures.length ∙ long)
+          j (λ q. get_or c.args.in_first.now q 0) pieces (c.args.at + k) k x (c.fours.invariant.first k x below is) c.four_of-by_first.ensures (in_a k below) (in_b k below) (in_c k below) (in_d k below);
+      second = λ k x below is. ap (λ (l : List ℕ). get_or l k 0) c.mul_add_four_into.ensures.second
+          ∙ four_added by_second a b e d c.fours.second (c.part-a.ensures.length ∙ other_long) (c.part-b.ensures.length ∙ other_long) (c.part-c.ensures.length ∙ other_long) (c.part-d.ensures.length ∙ other_long)
+          j (λ q. get_or c.args.in_second.now q 0) pieces (c.args.at + k) k x (c.fours.invariant.second k x below is) c.four_of-by_second.ensures (in_a k below) (in_b k below) (in_c k below) (in_d k below);
     }
-
-pub returns-then-j-pieces-clause-first : goal.returns-then-j-pieces-clause-first
-returns-then-j-pieces-clause-first c = λ k below.
-    let pieces = c.args.pieces.now in
-    let j = c.pairs.j in
-    let last = c.part-last.result.now in
-    let all : j + 1 ≡ length pieces = omega (arith, c.if-j-pieces.true, c.pairs-test.false) in
-    let same : length last ≡ length c.pairs.first = c.part-last.ensures.length ∙ sym (c.pairs.auto.first) in
-    ap (λ (l : List ℕ). get_or l k 0) c.mul_add_into.ensures
-    ∙ (one_added j (λ a. get_or c.args.in_first.now a 0) pieces (c.args.at + k) k (get_or c.args.first.now k 0) _ last c.pairs.first same (c.pairs.invariant.first k below) refl
-    (part_at pieces j (c.args.at + k) (get_or last k 0) c.index-pieces-j-then-j-pieces.result c.if-j-pieces.true c.index-pieces-j-then-j-pieces.is (c.part-last.ensures.bytes k below))
-    ∙ ap (λ m. bit_xor (get_or c.args.first.now k 0) (pieces_sum m (λ a. get_or c.args.in_first.now a 0) pieces (c.args.at + k))) all)
-
-pub returns-then-j-pieces-clause-second : goal.returns-then-j-pieces-clause-second
-returns-then-j-pieces-clause-second c = λ k below.
-    let pieces = c.args.pieces.now in
-    let j = c.pairs.j in
-    let last = c.part-last.result.now in
-    let all : j + 1 ≡ length pieces = omega (arith, c.if-j-pieces.true, c.pairs-test.false) in
-    let same : length last ≡ length c.pairs.second = c.part-last.ensures.length ∙ sym (c.pairs.auto.second ∙ c.requires.same) in
-    ap (λ (l : List ℕ). get_or l k 0) c.mul_add_into-then-j-pieces.ensures
-    ∙ (one_added j (λ a. get_or c.args.in_second.now a 0) pieces (c.args.at + k) k (get_or c.args.second.now k 0) _ last c.pairs.second same (c.pairs.invariant.second k below) refl
-    (part_at pieces j (c.args.at + k) (get_or last k 0) c.index-pieces-j-then-j-pieces.result c.if-j-pieces.true c.index-pieces-j-then-j-pieces.is (c.part-last.ensures.bytes k below))
-    ∙ ap (λ m. bit_xor (get_or c.args.second.now k 0) (pieces_sum m (λ a. get_or c.args.in_second.now a 0) pieces (c.args.at + k))) all)
