@@ -1,26 +1,29 @@
-use Rattle.std.proofs.Common.{◌≡◌, ◌≢◌, ℕ, ◌≤◌, ◌⊎◌, inl, inr, [], Option, refl, sym, ◌∙◌, subst, arith}
-use Rattle.edge_io.specs.Faults.{Rose}
-use Rattle.scenario_play.specs.Ends.{EndsWith, Outside}
+use Rattle.std.proofs.Common.{◌≡◌, ◌≢◌, ℕ, ◌⊎◌, inl, inr, [], List, Option, Some, None, IfSome, refl, sym, ◌∙◌, subst}
+use Rattle.scenario_play.specs.Outside.{EndsWith, Outside, TellsFront}
+use Rattle.scenario_run.specs.Promises.{KeepsPromises}
+use Rattle.scenario_play.specs.Played.{IsPlayed}
 use Rattle.scenario_play.specs.Status.{last_line}
 use Rattle.scenario_play.specs.declared.status.Status.{Status}
-use Rattle.scenario_play.specs.declared.status.Status.TheVariants.{BadWords, ReadFault, WriteFault, Want}
+use Rattle.scenario_play.specs.declared.status.Status.TheVariants.{BadWords, Done, ReadFault, WriteFault, Want}
 use Rattle.scenario_session.specs.declared.end.SessionEnd.{SessionEnd}
 use Rattle.scenario_session.specs.declared.end.SessionEnd.TheVariants as end
+use Rattle.cocytus_main.specs.Program.{HasStopped}
 use Rattle.cocytus_main.specs.Session.{HasTold, status_of}
 
 -- what is told by the call that writes the last line
 pub has_told : (wanted asked : Status) (before now : Outside) (status : Status) → asked ≡ wanted → (status ≡ asked) ⊎ (status ≡ Want)
-    → (status ≡ asked → (status ≡ Want) ⊎ EndsWith before.held now.held before.writes now.writes [] (last_line asked)) → HasTold wanted before now status
-has_told wanted asked before now status same (inr want) line = record { is = inr want; line = inl want }
-has_told wanted asked before now status same (inl is) line = record {
+    → (status ≡ asked → (status ≡ Want) ⊎ EndsWith before.held now.held before.writes now.writes [] (last_line asked)) → TellsFront before.held now.held status → HasTold wanted before now status
+has_told wanted asked before now status same (inr want) line front = record { is = inr want; line = inl want; front = front }
+has_told wanted asked before now status same (inl is) line front = record {
   is = inl (is ∙ same);
   line = subst (λ (s : Status). (status ≡ Want) ⊎ EndsWith before.held now.held before.writes now.writes [] (last_line s)) (sym is) (line is);
+  front = front;
 }
 
 -- a status other than want of memory is the one that was to be told
-came_from : (e : SessionEnd) (status other : Status) → (status ≡ status_of e) ⊎ (status ≡ Want) → status ≡ other → other ≢ Want → status_of e ≡ other
-came_from e status other (inl is) now differs = sym is ∙ now
-came_from e status other (inr want) now differs = absurd (differs (sym now ∙ want))
+came_from : (wanted status other : Status) → (status ≡ wanted) ⊎ (status ≡ Want) → status ≡ other → other ≢ Want → wanted ≡ other
+came_from wanted status other (inl is) now differs = sym is ∙ now
+came_from wanted status other (inr want) now differs = absurd (differs (sym now ∙ want))
 
 names_words : (e : SessionEnd) → status_of e ≢ BadWords
 names_words end.Done is = cc is
@@ -32,7 +35,7 @@ names_words end.WriteFault is = cc is
 names_words end.Want is = cc is
 
 pub named : (e : SessionEnd) (status : Status) → (status ≡ status_of e) ⊎ (status ≡ Want) → status ≢ BadWords
-named e status is now = names_words e (came_from e status BadWords is now (λ w. cc w))
+named e status is now = names_words e (came_from (status_of e) status BadWords is now (λ w. cc w))
 
 of_read : (e : SessionEnd) → status_of e ≡ ReadFault → e ≡ end.ReadFault
 of_read end.ReadFault is = refl
@@ -53,7 +56,17 @@ of_write end.ReadFault is = cc is
 of_write end.Want is = cc is
 
 pub was_read : (e : SessionEnd) (status : Status) → (status ≡ status_of e) ⊎ (status ≡ Want) → status ≡ ReadFault → e ≡ end.ReadFault
-was_read e status is now = of_read e (came_from e status ReadFault is now (λ w. cc w))
+was_read e status is now = of_read e (came_from (status_of e) status ReadFault is now (λ w. cc w))
 
 pub was_write : (e : SessionEnd) (status : Status) → (status ≡ status_of e) ⊎ (status ≡ Want) → status ≡ WriteFault → e ≡ end.WriteFault
-was_write e status is now = of_write e (came_from e status WriteFault is now (λ w. cc w))
+was_write e status is now = of_write e (came_from (status_of e) status WriteFault is now (λ w. cc w))
+
+-- no memory to read the words
+pub stopped : (before now : Option (List ℕ)) (status : Status) → (status ≡ Want) ⊎ (status ≡ Want) → TellsFront before now status → HasStopped before now status
+stopped before now status (inl want) front = record { want = want; told = subst (TellsFront before now) want front }
+stopped before now status (inr want) front = record { want = want; told = subst (TellsFront before now) want front }
+
+-- a script that was played to its end keeps its promises
+pub promises_of : (left : Option (List ℕ)) (before now : Outside) (status : Status) → IfSome left (λ all. IsPlayed all before now status) → status ≡ Done → IfSome left KeepsPromises
+promises_of None before now status played done = tt
+promises_of (Some all) before now status played done = played.promises done

@@ -1,19 +1,15 @@
 -- What comes of the command `session`.
-use Rattle.std.specs.Prelude.{ℕ, ◌≡◌, ◌⊎◌, List, [], Option}
+use Rattle.std.specs.Prelude.{ℕ, ◌≡◌, ◌⊎◌, [], Option}
 use Rattle.group_types.specs.Dimensions.{Dimensions}
 use Rattle.group_types.specs.Shape.{IsShape, IsFirstOutOfRange}
 use Rattle.group_types.specs.declared.shape.Field.{Field}
-use Rattle.scenario_play.specs.Ends.{EndsWith, Outside}
+use Rattle.scenario_play.specs.Outside.{EndsWith, Outside, TellsFront}
 use Rattle.scenario_play.specs.Status.{last_line}
 use Rattle.scenario_play.specs.declared.status.Status.{Status}
 use Rattle.scenario_play.specs.declared.status.Status.TheVariants.{Done, BadShape, ReadFault, WriteFault, Want, Cut, LineTooLong, Worn}
 use Rattle.scenario_session.specs.Session.{HasEnded}
 use Rattle.scenario_session.specs.declared.end.SessionEnd.{SessionEnd}
 use Rattle.scenario_session.specs.declared.end.SessionEnd.TheVariants as end
-
--- what a source and a sink tell of themselves
-abbrev pub outside : Option (List ℕ) → ℕ → Option (List ℕ) → ℕ → Outside
-outside left reads held writes = record { left = left; reads = reads; held = held; writes = writes }
 
 -- the status of a session that ended so
 abbrev pub status_of : SessionEnd → Status
@@ -29,6 +25,7 @@ status_of end.Want = Want
 pub record HasTold (wanted : Status) (before now : Outside) (status : Status) : Type 0 where
   pub is : (status ≡ wanted) ⊎ (status ≡ Want)
   pub line : (status ≡ Want) ⊎ EndsWith before.held now.held before.writes now.writes [] (last_line status)
+  pub front : TellsFront before.held now.held status
 
 -- a connection was served over a fresh group of this shape, and how it ended was told
 pub record HasServed (s : Dimensions) (moment : Option ℕ) (before now : Outside) (status : Status) : Type 0 where

@@ -1,14 +1,18 @@
 //! The program: it makes the real input, output, listener and clock, and ends with the number of
 //! the status that `run_program` gives. The contract of `run_program` says what is written and when
-//! each status comes. What standard input and output really give and take is left to the system.
+//! each status comes. What standard input and output really give and take is left to the system, and so is
+//! what a person reads on standard error of words, a line or a shape that was refused.
 #![tactic(auto)]
 
+mod help;
 mod program;
 mod serving;
 
+use crate::help::help_at;
 use crate::program::run_program;
-use edge_io::{MemoryListener, ReadEdge, SystemClock, WriteEdge};
+use edge_io::{MemoryListener, ReadEdge, SystemClock, WriteEdge, write_all};
 use scenario_play::Status;
+use scenario_play::tell::tell;
 use std::alloc::AllocError;
 use std::process::ExitCode;
 use std::{env, io};
@@ -34,7 +38,9 @@ fn main(rt: HostRuntime) -> ExitCode {
             &mut listener,
             &SystemClock::new(&rt),
         ),
-        _ => Status::Want,
+        _ => tell(rt.alloc(), &mut WriteEdge::new(rt.stdout()), Status::Want),
     };
+    // What a person is told is no part of the output, and whether it could be written changes nothing.
+    let _ = write_all(&mut WriteEdge::new(rt.stderr()), help_at(status).as_bytes());
     ExitCode::from(status.number())
 }

@@ -2,7 +2,8 @@ ghost use Rattle.std.specs.Prelude.{◌≡◌, ◌≢◌};
 ghost use Rattle.edge_io.specs.Faults.{Rose};
 ghost use Rattle.group_types.specs.Dimensions.{Dimensions};
 ghost use Rattle.group_types.specs.Shape.{IsShape};
-ghost use Rattle.cocytus_main.specs.Session.{HasServed, IsSession, outside, status_of};
+ghost use Rattle.scenario_play.specs.Outside.{outside};
+ghost use Rattle.cocytus_main.specs.Session.{HasServed, IsSession, status_of};
 
 use edge_io::{Clock, Sink, Source};
 use group_types::Shape;
@@ -23,7 +24,9 @@ pub(crate) fn serve_session<S: Source, K: Sink, T: Clock>(
     sink: &mut K,
     clock: &T,
 ) -> Status
-    ensures session { IsSession (record { k = k; m = m; blocks = blocks; block = block }) (T.moment clock.now) (outside (S.left source.old) (S.faults source.old) (K.held sink.old) (K.faults sink.old)) (outside (S.left source.new) (S.faults source.new) (K.held sink.new) (K.faults sink.new)) result }
+    ensures session { IsSession (record { k = k; m = m; blocks = blocks; block = block }) (T.moment clock.now)
+        (outside (S.left source.old) (S.faults source.old) (K.held sink.old) (K.faults sink.old))
+        (outside (S.left source.new) (S.faults source.new) (K.held sink.new) (K.faults sink.new)) result }
     ensures unshaped { let asked : Dimensions = record { k = k; m = m; blocks = blocks; block = block } in ¬ (IsShape asked) → source.new ≡ source.old }
     ensures named { result ≢ Status.BadWords }
     ensures read { result ≡ Status.ReadFault → Rose (S.faults source.old) (S.faults source.new) }
@@ -43,7 +46,9 @@ fn serve_shape<S: Source, K: Sink, T: Clock>(
     sink: &mut K,
     clock: &T,
 ) -> Status
-    ensures served { HasServed shape (T.moment clock.now) (outside (S.left source.old) (S.faults source.old) (K.held sink.old) (K.faults sink.old)) (outside (S.left source.new) (S.faults source.new) (K.held sink.new) (K.faults sink.new)) result }
+    ensures served { HasServed shape (T.moment clock.now)
+        (outside (S.left source.old) (S.faults source.old) (K.held sink.old) (K.faults sink.old))
+        (outside (S.left source.new) (S.faults source.new) (K.held sink.new) (K.faults sink.new)) result }
     ensures named { result ≢ Status.BadWords }
     ensures read { result ≡ Status.ReadFault → Rose (S.faults source.old) (S.faults source.new) }
     ensures write { result ≡ Status.WriteFault → Rose (K.faults sink.old) (K.faults sink.new) }

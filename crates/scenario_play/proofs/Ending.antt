@@ -1,16 +1,19 @@
 -- How a script ends, from how it was read and how it was played.
 use Rattle.std.proofs.Common.{◌≡◌, ℕ, ◌<◌, ◌≤◌, ◌⊎◌, inl, inr, Bool, true, false, if◌then◌else◌, nat_lt, List, [], length, take, drop, Option, Some, None, Result, Ok, Err, IfSome, refl, sym, ap, ◌∙◌, subst, arith}
-use Rattle.std.proofs.KnownBytes.{Appends-trans}
+use Rattle.std.proofs.KnownBytes.{Appends-nil, Appends-trans}
+use Rattle.std.proofs.Math.Seq.{take-length}
 use Rattle.std.proofs.lemmas.Bool.Decides.{nat_tests}
 use Rattle.std.specs.Io.KnownBytes.{Appends}
 use Rattle.edge_io.specs.Faults.{Rose}
-use Rattle.scenario_run.specs.Promises.{KeepsPromises}
+use Rattle.edge_io.specs.Writing.{HasWritten}
 use Rattle.scenario_run.specs.Script.{Fault, first_fault, transcript}
 use Rattle.scenario_run.proofs.Promises.{scripts_keep_promises}
 use Rattle.scenario_text.specs.declared.line.LineFault.{LineFault}
 use Rattle.scenario_text.specs.declared.line.LineFault.TheVariants as line
-use Rattle.scenario_play.specs.Ends.{EndsWith, HasEnded, HasPlayed, HasRead, IsRefusal, Outside, TellsOfScript}
-use Rattle.scenario_play.specs.Status.{IsTold, last_line, longest_script, told, told_at, told_of}
+use Rattle.scenario_play.specs.Ends.{HasEnded, HasPlayed, HasRead}
+use Rattle.scenario_play.specs.Outside.{EndsWith, Outside, TellsFront}
+use Rattle.scenario_play.specs.Played.{IsPlayed, IsWritten}
+use Rattle.scenario_play.specs.Status.{HasFaultOf, IsRefusal, IsTold, IsUnread, TellsOfScript, last_line, longest_script, told, told_at, told_of}
 use Rattle.scenario_play.specs.declared.status.Status.{Status}
 use Rattle.scenario_play.specs.declared.status.Status.TheVariants.{Done, BadWords, BadLine, BadShape, TooLong, ReadFault, WriteFault, Want, Cut, LineTooLong, Worn}
 
@@ -26,173 +29,102 @@ told-short text within = rw (short (length text) within) refl
 pub told-long : (text : List ℕ) → longest_script < length text → told text ≡ TooLong
 told-long text above = rw (long (length text) above) refl
 
--- a script that was read to its end
+-- fronts of a text
+pub nothing-written : (before now : Option (List ℕ)) (text : List ℕ) → now ≡ before → HasWritten before now text
+nothing-written before now text same = record { count = 0; bytes = subst (λ (o : Option (List ℕ)). Appends before o []) (sym same) (Appends-nil before) }
+
+pub all-written : (before now : Option (List ℕ)) (text : List ℕ) → Appends before now text → HasWritten before now text
+all-written before now text bytes = record { count = length text; bytes = subst (Appends before now) (sym (take-length text)) bytes }
+
+pub nothing-told : (held : Option (List ℕ)) (status : Status) → TellsFront held held status
+nothing-told held status = record { said = status; whose = inl refl; written = nothing-written held held (last_line status) refl }
+
+-- a script of these bytes was read to its end
 abbrev WasRead : Outside → Outside → List ℕ → Type 0
 WasRead a b text = IfSome a.left (λ all. (text ≡ all) × (b.left ≡ Some []))
 
--- after a script that was read to its end and played so far
-pub ended-done : (left : Option (List ℕ)) (a b : Outside) (text : List ℕ) (logged : ℕ) → a.left ≡ left → WasRead a b text → length text ≤ longest_script
-    → HasPlayed a.held b.held a.writes b.writes text (Ok logged) → HasEnded a b (Ok tt)
-ended-done None a b text logged is read within played = subst (λ (l : Option (List ℕ)). IfSome l (λ all. (told all ≡ Done) × (b.left ≡ Some []) × Appends a.held b.held (transcript all))) (sym is) tt
-ended-done (Some all) a b text logged is read within played =
-    let whole : (text ≡ all) × (b.left ≡ Some []) = subst (λ (l : Option (List ℕ)). IfSome l (λ all. (text ≡ all) × (b.left ≡ Some []))) is read in
-    subst (λ (l : Option (List ℕ)). IfSome l (λ all. (told all ≡ Done) × (b.left ≡ Some []) × Appends a.held b.held (transcript all))) (sym is)
-    (ap told (sym whole.0) ∙ told-short text within ∙ ap told_of played.0, whole.1, subst (λ (xs : List ℕ). Appends a.held b.held (transcript xs)) whole.0 played.1)
+-- what was read and then played
+module _ (a b : Outside) (text : List ℕ) (within : length text ≤ longest_script) where
+  abbrev Holds : Result (Unit {0}) Status → List ℕ → Type 0
+  Holds result all = HasEnded all a b result
 
-refused : (left : Option (List ℕ)) (a b : Outside) (text : List ℕ) (status : Status) → a.left ≡ left → WasRead a b text → length text ≤ longest_script
-    → (told_of (first_fault text) ≡ status) × Appends a.held b.held (transcript text) → IfSome a.left (λ all. (told all ≡ status) × Appends a.held b.held (transcript all))
-refused None a b text status is read within played = subst (λ (l : Option (List ℕ)). IfSome l (λ all. (told all ≡ status) × Appends a.held b.held (transcript all))) (sym is) tt
-refused (Some all) a b text status is read within played =
-    let whole : (text ≡ all) × (b.left ≡ Some []) = subst (λ (l : Option (List ℕ)). IfSome l (λ all. (text ≡ all) × (b.left ≡ Some []))) is read in
-    subst (λ (l : Option (List ℕ)). IfSome l (λ all. (told all ≡ status) × Appends a.held b.held (transcript all))) (sym is)
-    (ap told (sym whole.0) ∙ told-short text within ∙ played.0, subst (λ (xs : List ℕ). Appends a.held b.held (transcript xs)) whole.0 played.1)
+  by-text : (result : Result (Unit {0}) Status) → ((b.left ≡ Some []) → HasEnded text a b result) → (left : Option (List ℕ)) → IfSome left (λ all. (text ≡ all) × (b.left ≡ Some [])) → IfSome left (Holds result)
+  by-text result holds None read = tt
+  by-text result holds (Some all) read = subst (Holds result) read.0 (holds read.1)
 
-pub ended-fault : (a b : Outside) (text : List ℕ) (status : Status) → WasRead a b text → length text ≤ longest_script
-    → HasPlayed a.held b.held a.writes b.writes text (Err status) → HasEnded a b (Err status)
-ended-fault a b text (BadLine n) read within played = (tt, refused a.left a b text (BadLine n) refl read within (played.1, played.2))
-ended-fault a b text (BadShape f) read within played = (tt, refused a.left a b text (BadShape f) refl read within (played.1, played.2))
-ended-fault a b text WriteFault read within played = played
-ended-fault a b text Want read within played = tt
-ended-fault a b text Done read within played = absurd played.0
-ended-fault a b text BadWords read within played = absurd played.0
-ended-fault a b text Cut read within played = absurd played.0
-ended-fault a b text LineTooLong read within played = absurd played.0
-ended-fault a b text Worn read within played = absurd played.0
-ended-fault a b text TooLong read within played = absurd played.0
-ended-fault a b text ReadFault read within played = absurd played.0
+  pub ended-done : (logged : ℕ) → WasRead a b text → HasPlayed a.held b.held a.writes b.writes text (Ok logged) → IfSome a.left (Holds (Ok tt))
+  ended-done logged read played = by-text (Ok tt) (λ left. (told-short text within ∙ ap told_of played.0, left, played.1)) a.left read
 
--- after a script that was not read
-too_long : (left : Option (List ℕ)) (a b : Outside) → a.left ≡ left → HasRead a.left b.left a.reads b.reads (Err TooLong) → HasEnded a b (Err TooLong)
-too_long None a b is read = subst (λ (l : Option (List ℕ)). IfSome l (λ all. (told all ≡ TooLong) × (b.left ≡ Some (drop 16777217 all)))) (sym is) tt
-too_long (Some all) a b is read =
-    let whole : (longest_script < length all) × (b.left ≡ Some (drop 16777217 all))
-    = subst (λ (l : Option (List ℕ)). IfSome l (λ all. (longest_script < length all) × (b.left ≡ Some (drop 16777217 all)))) is read in
-    subst (λ (l : Option (List ℕ)). IfSome l (λ all. (told all ≡ TooLong) × (b.left ≡ Some (drop 16777217 all)))) (sym is) (told-long all whole.0, whole.1)
+  fault : (status : Status) → HasPlayed a.held b.held a.writes b.writes text (Err status) → HasEnded text a b (Err status)
+  fault (BadLine n) played = (played.0, told-short text within ∙ played.1, played.2)
+  fault (BadShape f) played = (played.0, told-short text within ∙ played.1, played.2)
+  fault WriteFault played = played
+  fault Want played = played
+  fault Done played = absurd played.0
+  fault BadWords played = absurd played.0
+  fault Cut played = absurd played.0
+  fault LineTooLong played = absurd played.0
+  fault Worn played = absurd played.0
+  fault TooLong played = absurd played.0
+  fault ReadFault played = absurd played.0
 
-pub ended-unread : (a b : Outside) (status : Status) → HasRead a.left b.left a.reads b.reads (Err status) → HasEnded a b (Err status)
-ended-unread a b TooLong read = too_long a.left a b refl read
-ended-unread a b ReadFault read = read
-ended-unread a b Want read = tt
-ended-unread a b Done read = absurd read
-ended-unread a b BadWords read = absurd read
-ended-unread a b Cut read = absurd read
-ended-unread a b LineTooLong read = absurd read
-ended-unread a b Worn read = absurd read
-ended-unread a b (BadLine n) read = absurd read
-ended-unread a b (BadShape f) read = absurd read
-ended-unread a b WriteFault read = absurd read
+  pub ended-fault : (status : Status) → WasRead a b text → HasPlayed a.held b.held a.writes b.writes text (Err status) → IfSome a.left (Holds (Err status))
+  ended-fault status read played = by-text (Err status) (λ left. fault status played) a.left read
+
+-- what was not read
+module _ (a b : Outside) (same : b.held ≡ a.held) where
+  unread : (status : Status) (left : Option (List ℕ)) → HasRead left b.left a.reads b.reads (Err status) → IfSome left (λ all. HasEnded all a b (Err status))
+  unread status None read = tt
+  unread TooLong (Some all) read = (same, told-long all read.0, read.1)
+  unread ReadFault (Some all) read = (same, read)
+  unread Want (Some all) read = nothing-written a.held b.held (transcript all) same
+  unread Done (Some all) read = absurd read
+  unread BadWords (Some all) read = absurd read
+  unread Cut (Some all) read = absurd read
+  unread LineTooLong (Some all) read = absurd read
+  unread Worn (Some all) read = absurd read
+  unread (BadLine n) (Some all) read = absurd read
+  unread (BadShape f) (Some all) read = absurd read
+  unread WriteFault (Some all) read = absurd read
+
+  pub ended-unread : (status : Status) → HasRead a.left b.left a.reads b.reads (Err status) → IfSome a.left (λ all. HasEnded all a b (Err status))
+  ended-unread status read = unread status a.left read
+
+-- who counted a fault
+pub read-fault : (left left_now : Option (List ℕ)) (read_before read_now writes : ℕ) (status : Status) → HasRead left left_now read_before read_now (Err status) → HasFaultOf read_before read_now writes writes status
+read-fault left left_now read_before read_now writes ReadFault read = read
+read-fault left left_now read_before read_now writes WriteFault read = absurd read
+read-fault left left_now read_before read_now writes BadWords read = absurd read
+read-fault left left_now read_before read_now writes Done read = tt
+read-fault left left_now read_before read_now writes (BadLine n) read = tt
+read-fault left left_now read_before read_now writes (BadShape f) read = tt
+read-fault left left_now read_before read_now writes TooLong read = tt
+read-fault left left_now read_before read_now writes Want read = tt
+read-fault left left_now read_before read_now writes Cut read = tt
+read-fault left left_now read_before read_now writes LineTooLong read = tt
+read-fault left left_now read_before read_now writes Worn read = tt
+
+pub play-fault : (held held_now : Option (List ℕ)) (read_before read_now written_before written_now : ℕ) (text : List ℕ) (status : Status)
+    → HasPlayed held held_now written_before written_now text (Err status) → HasFaultOf read_before read_now written_before written_now status
+play-fault held held_now read_before read_now written_before written_now text WriteFault played = played.0
+play-fault held held_now read_before read_now written_before written_now text ReadFault played = absurd played.0
+play-fault held held_now read_before read_now written_before written_now text BadWords played = absurd played.0
+play-fault held held_now read_before read_now written_before written_now text Done played = tt
+play-fault held held_now read_before read_now written_before written_now text (BadLine n) played = tt
+play-fault held held_now read_before read_now written_before written_now text (BadShape f) played = tt
+play-fault held held_now read_before read_now written_before written_now text TooLong played = tt
+play-fault held held_now read_before read_now written_before written_now text Want played = tt
+play-fault held held_now read_before read_now written_before written_now text Cut played = tt
+play-fault held held_now read_before read_now written_before written_now text LineTooLong played = tt
+play-fault held held_now read_before read_now written_before written_now text Worn played = tt
 
 -- a status that was told is the one at the end, unless there was no memory
-came_from : (s status other : Status) → (status ≡ s) ⊎ (status ≡ Want) → status ≡ other → (other ≡ Want → ⊥) → s ≡ other
+pub came_from : (s status other : Status) → (status ≡ s) ⊎ (status ≡ Want) → status ≡ other → (other ≡ Want → ⊥) → s ≡ other
 came_from s status other (inl is) now differs = sym is ∙ now
 came_from s status other (inr want) now differs = absurd (differs (sym now ∙ want))
 
-module _ (a b : Outside) where
-  is_told : (left : Option (List ℕ)) (last : ℕ) (s status : Status) → status ≡ s → IfSome left (λ all. told all ≡ s) → IfSome left (λ all. IsTold (told all) a.reads b.reads a.writes last status)
-  is_told None last s status is told_is = tt
-  is_told (Some all) last s status is told_is = inl (is ∙ sym told_is)
-
-  is_any : (left : Option (List ℕ)) (last : ℕ) (status : Status) → ((wanted : Status) → IsTold wanted a.reads b.reads a.writes last status) → IfSome left (λ all. IsTold (told all) a.reads b.reads a.writes last status)
-  is_any None last status any = tt
-  is_any (Some all) last status any = any (told all)
-
-  first : (P Q : List ℕ → Type 0) (left : Option (List ℕ)) → IfSome left (λ all. P all × Q all) → IfSome left P
-  first P Q None both = tt
-  first P Q (Some all) both = both.0
-
-  second : (P Q : List ℕ → Type 0) (left : Option (List ℕ)) → IfSome left (λ all. P all × Q all) → IfSome left Q
-  second P Q None both = tt
-  second P Q (Some all) both = both.1
-
-  pub told-ended : (last : ℕ) (s status : Status) → HasEnded a b (Err s) → (status ≡ s) ⊎ (status ≡ Want) → b.writes ≤ last → IfSome a.left (λ all. IsTold (told all) a.reads b.reads a.writes last status)
-  told-ended last s status end (inr want) later = is_any a.left last status (λ wanted. inr (inl want))
-  told-ended last (BadLine n) status end (inl is) later = is_told a.left last (BadLine n) status is (first _ _ a.left end.1)
-  told-ended last (BadShape f) status end (inl is) later = is_told a.left last (BadShape f) status is (first _ _ a.left end.1)
-  told-ended last TooLong status end (inl is) later = is_told a.left last TooLong status is (first _ _ a.left end)
-  told-ended last ReadFault status end (inl is) later = is_any a.left last status (λ wanted. inr (inr (inl (is, end))))
-  told-ended last WriteFault status end (inl is) later = is_any a.left last status (λ wanted. inr (inr (inr (is, omega (arith, end)))))
-  told-ended last Want status end (inl is) later = is_any a.left last status (λ wanted. inr (inl is))
-  told-ended last Done status end (inl is) later = absurd end.0
-  told-ended last BadWords status end (inl is) later = absurd end.0
-  told-ended last Cut status end (inl is) later = absurd end.0
-  told-ended last LineTooLong status end (inl is) later = absurd end.0
-  told-ended last Worn status end (inl is) later = absurd end.0
-
-  at : (s status other : Status) → HasEnded a b (Err s) → (status ≡ s) ⊎ (status ≡ Want) → status ≡ other → (other ≡ Want → ⊥) → HasEnded a b (Err other)
-  at s status other end is now differs = subst (λ (x : Status). HasEnded a b (Err x)) (came_from s status other is now differs) end
-
-  pub read-ended : (s status : Status) → HasEnded a b (Err s) → (status ≡ s) ⊎ (status ≡ Want) → status ≡ ReadFault → Rose a.reads b.reads
-  read-ended s status end is now = at s status ReadFault end is now (λ e. cc)
-
-  pub write-ended : (last : ℕ) (s status : Status) → HasEnded a b (Err s) → (status ≡ s) ⊎ (status ≡ Want) → b.writes ≤ last → status ≡ WriteFault → Rose a.writes last
-  write-ended last s status end is later now = let rose : Rose a.writes b.writes = at s status WriteFault end is now (λ e. cc) in omega (arith, rose)
-
-  pub too_long-left : (s status : Status) → HasEnded a b (Err s) → (status ≡ s) ⊎ (status ≡ Want) → status ≡ TooLong → IfSome a.left (λ all. b.left ≡ Some (drop 16777217 all))
-  too_long-left s status end is now = second _ _ a.left (at s status TooLong end is now (λ e. cc))
-
-  pub not_done : (s status : Status) → HasEnded a b (Err s) → (status ≡ s) ⊎ (status ≡ Want) → status ≡ Done → ⊥
-  not_done s status end is now = (at s status Done end is now (λ e. cc)).0
-
-  pub not_words : (s status : Status) → HasEnded a b (Err s) → (status ≡ s) ⊎ (status ≡ Want) → status ≡ BadWords → ⊥
-  not_words s status end is now = (at s status BadWords end is now (λ e. cc)).0
-
-  ends_with : (held_last : Option (List ℕ)) (last : ℕ) (text line : List ℕ) → Appends a.held b.held text → a.writes ≤ b.writes → EndsWith b.held held_last b.writes last [] line → EndsWith a.held held_last a.writes last text line
-  ends_with held_last last text line wrote later ends = record {
-    count = ends.count;
-    bytes = Appends-trans a.held b.held held_last text (take ends.count line) wrote ends.bytes;
-    whole = rose_more ends.whole;
-  }
-    where
-      rose_more : (length line ≤ ends.count) ⊎ Rose b.writes last → (length line ≤ ends.count) ⊎ Rose a.writes last
-      rose_more (inl whole) = inl whole
-      rose_more (inr rose) = inr (omega (arith, rose))
-
-  refused-by : (left : Option (List ℕ)) (held_last : Option (List ℕ)) (last : ℕ) (status : Status) → IfSome left (λ all. (told all ≡ status) × Appends a.held b.held (transcript all)) → a.writes ≤ b.writes
-      → EndsWith b.held held_last b.writes last [] (last_line status) → IfSome left (λ all. EndsWith a.held held_last a.writes last (transcript all) (last_line status))
-  refused-by None held_last last status end later line = tt
-  refused-by (Some all) held_last last status end later line = ends_with held_last last (transcript all) (last_line status) end.1 later line
-
-  refusal-told : (held_last : Option (List ℕ)) (last : ℕ) (s : Status) → HasEnded a b (Err s) → IsRefusal s → a.writes ≤ b.writes → (s ≡ Want) ⊎ EndsWith b.held held_last b.writes last [] (last_line s)
-      → IfSome a.left (λ all. EndsWith a.held held_last a.writes last (transcript all) (last_line s))
-  refusal-told held_last last (BadLine n) end refusal later (inr line) = refused-by a.left held_last last (BadLine n) end.1 later line
-  refusal-told held_last last (BadShape f) end refusal later (inr line) = refused-by a.left held_last last (BadShape f) end.1 later line
-  refusal-told held_last last (BadLine n) end refusal later (inl want) = absurd (cc want)
-  refusal-told held_last last (BadShape f) end refusal later (inl want) = absurd (cc want)
-  refusal-told held_last last Done end refusal later line = absurd refusal
-  refusal-told held_last last BadWords end refusal later line = absurd refusal
-  refusal-told held_last last Cut end refusal later line = absurd refusal
-  refusal-told held_last last LineTooLong end refusal later line = absurd refusal
-  refusal-told held_last last Worn end refusal later line = absurd refusal
-  refusal-told held_last last TooLong end refusal later line = absurd refusal
-  refusal-told held_last last ReadFault end refusal later line = absurd refusal
-  refusal-told held_last last WriteFault end refusal later line = absurd refusal
-  refusal-told held_last last Want end refusal later line = absurd refusal
-
-  pub refused-ended : (held_last : Option (List ℕ)) (last : ℕ) (s status : Status) → HasEnded a b (Err s) → (status ≡ s) ⊎ (status ≡ Want) → a.writes ≤ b.writes
-      → (status ≡ s → (status ≡ Want) ⊎ EndsWith b.held held_last b.writes last [] (last_line s)) → IsRefusal status
-      → IfSome a.left (λ all. EndsWith a.held held_last a.writes last (transcript all) (last_line status))
-  refused-ended held_last last s status end (inr want) later line refusal = absurd (subst IsRefusal want refusal)
-  refused-ended held_last last s status end (inl is) later line refusal =
-      subst (λ (x : Status). IfSome a.left (λ all. EndsWith a.held held_last a.writes last (transcript all) (last_line x))) (sym is)
-      (refusal-told held_last last s end (subst IsRefusal is refusal) later (subst (λ (x : Status). (x ≡ Want) ⊎ EndsWith b.held held_last b.writes last [] (last_line s)) is (line is)))
-
-  pub done-told : (done : Unit {0}) → HasEnded a b (Ok done) → IfSome a.left (λ all. IsTold (told all) a.reads b.reads a.writes b.writes Done)
-  done-told done end = by a.left end where
-    by : (left : Option (List ℕ)) → IfSome left (λ all. (told all ≡ Done) × (b.left ≡ Some []) × Appends a.held b.held (transcript all)) → IfSome left (λ all. IsTold (told all) a.reads b.reads a.writes b.writes Done)
-    by None end = tt
-    by (Some all) end = inl (sym end.0)
-
-  pub done-left : (done : Unit {0}) → HasEnded a b (Ok done) → IfSome a.left (λ all. b.left ≡ Some [])
-  done-left done end = by a.left end where
-    by : (left : Option (List ℕ)) → IfSome left (λ all. (told all ≡ Done) × (b.left ≡ Some []) × Appends a.held b.held (transcript all)) → IfSome left (λ all. b.left ≡ Some [])
-    by None end = tt
-    by (Some all) end = end.1
-
-  pub done-bytes : (done : Unit {0}) → HasEnded a b (Ok done) → IfSome a.left (λ all. Appends a.held b.held (transcript all))
-  done-bytes done end = by a.left end where
-    by : (left : Option (List ℕ)) → IfSome left (λ all. (told all ≡ Done) × (b.left ≡ Some []) × Appends a.held b.held (transcript all)) → IfSome left (λ all. Appends a.held b.held (transcript all))
-    by None end = tt
-    by (Some all) end = end.2
+pub fault-told : (r r' w w' : ℕ) (s status other : Status) → HasFaultOf r r' w w' s → (status ≡ s) ⊎ (status ≡ Want) → status ≡ other → (other ≡ Want → ⊥) → HasFaultOf r r' w w' other
+fault-told r r' w w' s status other fault is now differs = subst (HasFaultOf r r' w w') (came_from s status other is now differs) fault
 
 -- a script none of whose lines is refused keeps its promises
 whole : (text : List ℕ) → told text ≡ Done → first_fault text ≡ None
@@ -206,15 +138,178 @@ whole text is = by (nat_lt longest_script (length text)) (first_fault text) refl
     told_not n (line.BadShape field) is = cc is
     told_not n line.Want is = cc is
 
-pub done-promises : (a b : Outside) (done : Unit {0}) → HasEnded a b (Ok done) → IfSome a.left KeepsPromises
-done-promises a b done end = by a.left end where
-  by : (left : Option (List ℕ)) → IfSome left (λ all. (told all ≡ Done) × (b.left ≡ Some []) × Appends a.held b.held (transcript all)) → IfSome left KeepsPromises
+pub played-done : (a b : Outside) (done : Unit {0}) → IfSome a.left (λ all. HasEnded all a b (Ok done)) → IfSome a.left (λ all. IsPlayed all a b Done)
+played-done a b done end = by a.left end where
+  by : (left : Option (List ℕ)) → IfSome left (λ all. HasEnded all a b (Ok done)) → IfSome left (λ all. IsPlayed all a b Done)
   by None end = tt
-  by (Some all) end = scripts_keep_promises all (whole all end.0)
+  by (Some all) end = record {
+    told = inl (sym end.0);
+    done_left = λ is. end.1;
+    done_bytes = λ is. end.2;
+    promises = λ is. scripts_keep_promises all (whole all end.0);
+    refused_bytes = λ refusal. absurd refusal;
+    too_long_left = λ is. absurd (cc is);
+    unread_bytes = λ unread. absurd unread;
+    bytes = record { middle = b.held; written = all-written a.held b.held (transcript all) end.2; told = nothing-told b.held Done };
+  }
 
--- what is wrong with a script is not that all was done
-pub not_done-told : {P : Type 0} (text : List ℕ) (s status : Status) → ((s ≡ WriteFault) × P) ⊎ (s ≡ Want) ⊎ (TellsOfScript s × (s ≡ told text)) → (status ≡ s) ⊎ (status ≡ Want) → status ≡ Done → ⊥
-not_done-told text s status fault (inr want) now = cc (sym now ∙ want)
-not_done-told text s status (inl failed) (inl is) now = cc (sym now ∙ is ∙ failed.0)
-not_done-told text s status (inr (inl want)) (inl is) now = cc (sym now ∙ is ∙ want)
-not_done-told text s status (inr (inr tells)) (inl is) now = subst TellsOfScript (sym is ∙ now) tells.0
+-- a last line was written behind a text
+behind : (before middle now : Option (List ℕ)) (faults_before faults_middle faults_now : ℕ) (text line : List ℕ) → Appends before middle text → faults_before ≤ faults_middle
+    → EndsWith middle now faults_middle faults_now [] line → EndsWith before now faults_before faults_now text line
+behind before middle now faults_before faults_middle faults_now text line wrote later ends = record {
+  count = ends.count;
+  bytes = Appends-trans before middle now text (take ends.count line) wrote ends.bytes;
+  whole = rose_more ends.whole;
+}
+  where
+    rose_more : (length line ≤ ends.count) ⊎ Rose faults_middle faults_now → (length line ≤ ends.count) ⊎ Rose faults_before faults_now
+    rose_more (inl whole) = inl whole
+    rose_more (inr rose) = inr (omega (arith, rose))
+
+-- after the last line was told
+module _ (all : List ℕ) (a b c : Outside) (kept : c.left ≡ b.left) (reads : c.reads ≡ b.reads) (later : a.writes ≤ b.writes) (more : b.writes ≤ c.writes) where
+  is-told : (s : Status) → HasEnded all a b (Err s) → IsTold (told all) a.reads c.reads a.writes c.writes s
+  is-told (BadLine n) end = inl (sym end.1)
+  is-told (BadShape f) end = inl (sym end.1)
+  is-told TooLong end = inl (sym end.1)
+  is-told Want end = inr (inl refl)
+  is-told ReadFault end = let rose : Rose a.reads b.reads = end.1 in inr (inr (inl (refl, omega (arith, rose, reads))))
+  is-told WriteFault end = let rose : Rose a.writes b.writes = end.0 in inr (inr (inr (refl, omega (arith, rose, more))))
+  is-told Done end = absurd end.0
+  is-told BadWords end = absurd end.0
+  is-told Cut end = absurd end.0
+  is-told LineTooLong end = absurd end.0
+  is-told Worn end = absurd end.0
+
+  written : (s : Status) → HasEnded all a b (Err s) → HasWritten a.held b.held (transcript all)
+  written (BadLine n) end = all-written a.held b.held (transcript all) end.2
+  written (BadShape f) end = all-written a.held b.held (transcript all) end.2
+  written TooLong end = nothing-written a.held b.held (transcript all) end.0
+  written ReadFault end = nothing-written a.held b.held (transcript all) end.0
+  written WriteFault end = end.1
+  written Want end = end
+  written Done end = absurd end.0
+  written BadWords end = absurd end.0
+  written Cut end = absurd end.0
+  written LineTooLong end = absurd end.0
+  written Worn end = absurd end.0
+
+  abbrev Tells : Status → Type 0
+  Tells s = EndsWith b.held c.held b.writes c.writes [] (last_line s)
+
+  refused : (s : Status) → HasEnded all a b (Err s) → IsRefusal s → Tells s → EndsWith a.held c.held a.writes c.writes (transcript all) (last_line s)
+  refused (BadLine n) end refusal tells = behind a.held b.held c.held a.writes b.writes c.writes (transcript all) (last_line (BadLine n)) end.2 later tells
+  refused (BadShape f) end refusal tells = behind a.held b.held c.held a.writes b.writes c.writes (transcript all) (last_line (BadShape f)) end.2 later tells
+  refused Done end refusal tells = absurd refusal
+  refused BadWords end refusal tells = absurd refusal
+  refused Cut end refusal tells = absurd refusal
+  refused LineTooLong end refusal tells = absurd refusal
+  refused Worn end refusal tells = absurd refusal
+  refused TooLong end refusal tells = absurd refusal
+  refused ReadFault end refusal tells = absurd refusal
+  refused WriteFault end refusal tells = absurd refusal
+  refused Want end refusal tells = absurd refusal
+
+  alone : (s : Status) → b.held ≡ a.held → Tells s → EndsWith a.held c.held a.writes c.writes [] (last_line s)
+  alone s same tells = behind a.held b.held c.held a.writes b.writes c.writes [] (last_line s) (subst (λ (o : Option (List ℕ)). Appends a.held o []) (sym same) (Appends-nil a.held)) later tells
+
+  unread-told : (s : Status) → HasEnded all a b (Err s) → IsUnread s → Tells s → EndsWith a.held c.held a.writes c.writes [] (last_line s)
+  unread-told TooLong end unread tells = alone TooLong end.0 tells
+  unread-told ReadFault end unread tells = alone ReadFault end.0 tells
+  unread-told Done end unread tells = absurd unread
+  unread-told BadWords end unread tells = absurd unread
+  unread-told (BadLine n) end unread tells = absurd unread
+  unread-told (BadShape f) end unread tells = absurd unread
+  unread-told WriteFault end unread tells = absurd unread
+  unread-told Want end unread tells = absurd unread
+  unread-told Cut end unread tells = absurd unread
+  unread-told LineTooLong end unread tells = absurd unread
+  unread-told Worn end unread tells = absurd unread
+
+  not-done : (s : Status) → HasEnded all a b (Err s) → s ≡ Done → ⊥
+  not-done s end is = (subst (λ (x : Status). HasEnded all a b (Err x)) is end).0
+
+  too-long : (s : Status) → HasEnded all a b (Err s) → s ≡ TooLong → c.left ≡ Some (drop 16777217 all)
+  too-long s end is = kept ∙ (subst (λ (x : Status). HasEnded all a b (Err x)) is end).2
+
+  wanted : (s : Status) → IsTold (told all) a.reads c.reads a.writes c.writes Want
+  wanted s = inr (inl refl)
+
+  -- the status was told as it is
+  same-told : (s : Status) → HasEnded all a b (Err s) → (s ≡ Want) ⊎ Tells s → TellsFront b.held c.held s → IsPlayed all a c s
+  same-told s end tells front = record {
+    told = is-told s end;
+    done_left = λ is. absurd (not-done s end is);
+    done_bytes = λ is. absurd (not-done s end is);
+    promises = λ is. absurd (not-done s end is);
+    refused_bytes = λ refusal. refused s end refusal (surely s tells (λ is. subst IsRefusal is refusal));
+    too_long_left = too-long s end;
+    unread_bytes = λ unread. unread-told s end unread (surely s tells (λ is. subst IsUnread is unread));
+    bytes = record { middle = b.held; written = written s end; told = front };
+  }
+    where
+      surely : (x : Status) → (x ≡ Want) ⊎ Tells x → (x ≡ Want → ⊥) → Tells x
+      surely x (inl want) never = absurd (never want)
+      surely x (inr tells) never = tells
+
+  -- there was no memory to tell it
+  want-told : (s : Status) → HasEnded all a b (Err s) → TellsFront b.held c.held Want → IsPlayed all a c Want
+  want-told s end front = record {
+    told = inr (inl refl);
+    done_left = λ is. absurd (cc is);
+    done_bytes = λ is. absurd (cc is);
+    promises = λ is. absurd (cc is);
+    refused_bytes = λ refusal. absurd refusal;
+    too_long_left = λ is. absurd (cc is);
+    unread_bytes = λ unread. absurd unread;
+    bytes = record { middle = b.held; written = written s end; told = front };
+  }
+
+  pub played-told : (s status : Status) → HasEnded all a b (Err s) → (status ≡ s) ⊎ (status ≡ Want) → (status ≡ s → (status ≡ Want) ⊎ Tells s) → TellsFront b.held c.held status → IsPlayed all a c status
+  played-told s status end (inl is) tells front = subst (IsPlayed all a c) (sym is)
+      (same-told s end (subst (λ (x : Status). (x ≡ Want) ⊎ Tells s) is (tells is)) (subst (TellsFront b.held c.held) is front))
+  played-told s status end (inr want) tells front = subst (IsPlayed all a c) (sym want) (want-told s end (subst (TellsFront b.held c.held) want front))
+
+pub told-ended : (a b c : Outside) → c.left ≡ b.left → c.reads ≡ b.reads → a.writes ≤ b.writes → b.writes ≤ c.writes → (s status : Status) → IfSome a.left (λ all. HasEnded all a b (Err s))
+    → (status ≡ s) ⊎ (status ≡ Want) → (status ≡ s → (status ≡ Want) ⊎ EndsWith b.held c.held b.writes c.writes [] (last_line s)) → TellsFront b.held c.held status → IfSome a.left (λ all. IsPlayed all a c status)
+told-ended a b c kept reads later more s status end is tells front = by a.left end where
+  by : (left : Option (List ℕ)) → IfSome left (λ all. HasEnded all a b (Err s)) → IfSome left (λ all. IsPlayed all a c status)
+  by None end = tt
+  by (Some all) end = played-told all a b c kept reads later more s status end is tells front
+
+-- a text that was written in whole or in part
+pub written-whole : (wanted : Status) (text : List ℕ) (before now : Option (List ℕ)) (faults_before faults_now : ℕ) → wanted ≡ Done → Appends before now text → IsWritten wanted text before now faults_before faults_now Done
+written-whole wanted text before now faults_before faults_now is bytes = record {
+  told = inl (sym is);
+  done_bytes = λ _. bytes;
+  bytes = record { middle = now; written = all-written before now text bytes; told = nothing-told now Done };
+}
+
+-- a fault of the sink, no memory, or what is wrong with a script
+abbrev pub IsFault : Status → ℕ → ℕ → Status → Type 0
+IsFault wanted before now s = ((s ≡ WriteFault) × Rose before now) ⊎ (s ≡ Want) ⊎ (TellsOfScript s × (s ≡ wanted))
+
+pub written-part : (wanted : Status) (text : List ℕ) (before middle now : Option (List ℕ)) (faults_before faults_middle faults_now : ℕ) (s status : Status) → IsFault wanted faults_before faults_middle s
+    → HasWritten before middle text → (status ≡ s) ⊎ (status ≡ Want) → TellsFront middle now status → faults_middle ≤ faults_now → IsWritten wanted text before now faults_before faults_now status
+written-part wanted text before middle now faults_before faults_middle faults_now s status fault written is front more = record {
+  told = which fault is;
+  done_bytes = λ done. absurd (never fault is done);
+  bytes = record { middle = middle; written = written; told = front };
+}
+  where
+    which : IsFault wanted faults_before faults_middle s → (status ≡ s) ⊎ (status ≡ Want) → (status ≡ wanted) ⊎ (status ≡ Want) ⊎ ((status ≡ WriteFault) × Rose faults_before faults_now)
+    which fault (inr want) = inr (inl want)
+    which (inl failed) (inl is) = let rose : Rose faults_before faults_middle = failed.1 in inr (inr (is ∙ failed.0, omega (arith, rose, more)))
+    which (inr (inl want)) (inl is) = inr (inl (is ∙ want))
+    which (inr (inr tells)) (inl is) = inl (is ∙ tells.1)
+
+    never : IsFault wanted faults_before faults_middle s → (status ≡ s) ⊎ (status ≡ Want) → status ≡ Done → ⊥
+    never fault (inr want) now = cc (sym now ∙ want)
+    never (inl failed) (inl is) now = cc (sym now ∙ is ∙ failed.0)
+    never (inr (inl want)) (inl is) now = cc (sym now ∙ is ∙ want)
+    never (inr (inr tells)) (inl is) now = subst TellsOfScript (sym is ∙ now) tells.0
+
+-- a fault where there is no script
+pub fault-alone : (wanted : Status) (before now : ℕ) (s : Status) → ((s ≡ WriteFault) × Rose before now) ⊎ (s ≡ Want) → IsFault wanted before now s
+fault-alone wanted before now s (inl failed) = inl failed
+fault-alone wanted before now s (inr want) = inr (inl want)

@@ -1,20 +1,26 @@
 -- What a script's lines write, where its first fault is, and what they log, line by line.
-use Rattle.std.proofs.Common.{◌≡◌, ℕ, ◌+◌, ◌*◌, ◌≤◌, ◌⊎◌, inl, inr, List, [], ◌∷◌, ◌++◌, length, Option, Some, None, Ok, Err, refl, sym, ap, ◌∙◌, subst, append_assoc, append-nil, length-append, arith}
+use Rattle.std.proofs.Common.{◌≡◌, ℕ, ◌+◌, ◌*◌, ◌≤◌, ◌⊎◌, inl, inr, List, [], ◌∷◌, ◌++◌, length, Option, Some, None, Result, Ok, Err, IsErrAnd, refl, sym, ap, ◌∙◌, subst, append_assoc, append-nil, length-append, take, drop, take-append-drop, arith}
 use Rattle.std.proofs.KnownBytes.{Appends-trans, Appends-nil}
+use Rattle.std.proofs.Math.Seq.{take-append_seam}
 use Rattle.std.specs.Io.KnownBytes.{Appends}
+use Rattle.edge_io.specs.Faults.{Rose}
+use Rattle.edge_io.specs.Writing.{HasWritten}
 use Rattle.group_types.specs.Dimensions.{Dimensions}
 use Rattle.group_types.specs.Shape.{IsShape}
 use Rattle.group_calls.specs.Turns.{Turn, log_of}
 use Rattle.group_calls.specs.declared.entry.Entry.{Entry}
-use Rattle.group_run.specs.World.{World, opening}
+use Rattle.group_run.specs.World.{opening}
 use Rattle.scenario_text.specs.declared.line.LineFault.{LineFault}
 use Rattle.scenario_text.specs.declared.line.LineFault.TheVariants as line
 use Rattle.scenario_run.specs.Playing.{Next, Goes, Ends, Refused, Play, next_of}
-use Rattle.scenario_run.specs.Script.{Fault, fault_in, text_in, turns_in}
+use Rattle.scenario_run.specs.Script.{Fault, fault_in, first_fault, text_in, transcript, turns_in}
 use Rattle.scenario_run.proofs.Draining.{line_burden, load-opening}
 use Rattle.scenario_run.proofs.Leading.{IsLedTo, leads-log, led-on, opened}
-use Rattle.scenario_run.proofs.Running.{GoesOn, Opens, line-leads, line-opens}
-use Rattle.scenario_play.specs.Ends.{HasDone, IsLight, log_len}
+use Rattle.scenario_run.proofs.Running.{GoesOn, line-leads, line-opens}
+use Rattle.scenario_play.specs.Ends.{HasDone, HasPlayed, IsLight, log_len}
+use Rattle.scenario_play.specs.Status.{told_at, told_of}
+use Rattle.scenario_play.specs.declared.status.Status.{Status}
+use Rattle.scenario_play.specs.declared.status.Status.TheVariants.{WriteFault, Want}
 
 -- some of a text was written, and this is the rest
 pub record Written (before now : Option (List ℕ)) (rest all : List ℕ) : Type 0 where
@@ -34,6 +40,26 @@ Written-more before now next text rest all written more = record {
 
 pub Written-all : (before now : Option (List ℕ)) (all : List ℕ) → Written before now [] all → Appends before now all
 Written-all before now all written = subst (Appends before now) (sym (append-nil written.front) ∙ written.whole) written.bytes
+
+-- what was written so far is a front of all
+front_of : (front rest all : List ℕ) → front ++ rest ≡ all → take (length front) all ≡ front
+front_of front rest all whole = ap (take (length front)) (sym whole) ∙ take-append_seam front rest
+
+pub Written-front : (before now : Option (List ℕ)) (rest all : List ℕ) → Written before now rest all → HasWritten before now all
+Written-front before now rest all written = record {
+  count = length written.front;
+  bytes = subst (Appends before now) (sym (front_of written.front rest all written.whole)) written.bytes;
+}
+
+pub Written-part : (before now next : Option (List ℕ)) (text rest all : List ℕ) → Written before now (text ++ rest) all → HasWritten now next text → HasWritten before next all
+Written-part before now next text rest all written part =
+    let more : Appends before next (written.front ++ take part.count text) = Appends-trans before now next written.front (take part.count text) written.bytes part.bytes in
+    let split = append_assoc written.front (take part.count text) (drop part.count text ++ rest) in
+    let cut = ap (λ (xs : List ℕ). written.front ++ xs) (sym (append_assoc (take part.count text) (drop part.count text) rest) ∙ ap (λ (xs : List ℕ). xs ++ rest) (take-append-drop part.count text)) in
+    record {
+      count = length (written.front ++ take part.count text);
+      bytes = subst (Appends before next) (sym (front_of (written.front ++ take part.count text) (drop part.count text ++ rest) all (split ∙ cut ∙ written.whole))) more;
+    }
 
 -- a line that goes on
 pub record Went (before now : Option Play) (bytes text : List ℕ) : Type 0 where
@@ -133,3 +159,34 @@ pub record Stopped (n : ℕ) (play : Option Play) (bytes : List ℕ) (lines : Li
 
 pub stopped : (n : ℕ) (play : Option Play) (bytes : List ℕ) (lines : List (List ℕ)) → next_of play bytes ≡ Ends → Stopped n play bytes lines
 stopped n play bytes lines is = record { fault = fault-line n play bytes lines Ends is; text = text-line play bytes lines Ends is; turns = turns-line play bytes lines Ends is }
+
+-- a line was refused, or there was no memory for it
+module _ (held held_now : Option (List ℕ)) (writes writes_now : ℕ) (all : List ℕ) where
+  by-cause : (n : ℕ) (cause : LineFault) → HasWritten held held_now (transcript all) → (cause ≡ line.Want) ⊎ ((first_fault all ≡ Some (record { number = n; cause = cause })) × Appends held held_now (transcript all))
+      → HasPlayed held held_now writes writes_now all (Err (told_at n cause))
+  by-cause n line.Want part either = part
+  by-cause n line.BadLine part (inl want) = absurd (cc want)
+  by-cause n (line.BadShape field) part (inl want) = absurd (cc want)
+  by-cause n line.BadLine part (inr refused) = (tt, ap told_of refused.0, refused.1)
+  by-cause n (line.BadShape field) part (inr refused) = (tt, ap told_of refused.0, refused.1)
+
+  pub line-refused : (n : ℕ) (before now : Option Play) (bytes : List ℕ) (lines : List (List ℕ)) (cause : LineFault) (status : Status) → status ≡ told_at n cause → HasDone before (next_of before bytes) now (Err cause)
+      → fault_in n before (bytes ∷ lines) ≡ first_fault all → Written held held_now (text_in before (bytes ∷ lines)) (transcript all) → HasPlayed held held_now writes writes_now all (Err status)
+  line-refused n before now bytes lines cause status is done fault written =
+      subst (λ (s : Status). HasPlayed held held_now writes writes_now all (Err s)) (sym is)
+      (by-cause n cause (Written-front held held_now (text_in before (bytes ∷ lines)) (transcript all) written) (which (refused before (next_of before bytes) now cause done)))
+    where
+      which : (cause ≡ line.Want) ⊎ (next_of before bytes ≡ Refused cause) → (cause ≡ line.Want) ⊎ ((first_fault all ≡ Some (record { number = n; cause = cause })) × Appends held held_now (transcript all))
+      which (inl want) = inl want
+      which (inr next) = inr (
+        sym fault ∙ fault-line n before bytes lines (Refused cause) next,
+        Written-all held held_now (transcript all) (subst (λ (xs : List ℕ). Written held held_now xs (transcript all)) (text-line before bytes lines (Refused cause) next) written),
+      )
+
+-- the text of a line was written in part
+pub part-played : (held held_now : Option (List ℕ)) (before middle now : ℕ) (text : List ℕ) (result : Result ℕ Status) (fault : Status) → ((fault ≡ WriteFault) × Rose middle now) ⊎ (fault ≡ Want) → before ≤ middle
+    → HasWritten held held_now (transcript text) → IsErrAnd result (λ e. e ≡ fault) → HasPlayed held held_now before now text result
+part-played held held_now before middle now text (Ok n) fault cause later part is = absurd is
+part-played held held_now before middle now text (Err e) fault (inl failed) later part is =
+    subst (λ (s : Status). HasPlayed held held_now before now text (Err s)) (sym (is ∙ failed.0)) ((let rose : Rose middle now = failed.1 in omega (arith, later, rose)), part)
+part-played held held_now before middle now text (Err e) fault (inr want) later part is = subst (λ (s : Status). HasPlayed held held_now before now text (Err s)) (sym (is ∙ want)) part

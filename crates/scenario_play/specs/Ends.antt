@@ -1,21 +1,17 @@
-use Rattle.std.specs.Prelude.{◌≡◌, ℕ, ◌+◌, ◌<◌, ◌≤◌, List, [], ◌++◌, length, take, drop, Option, Some, None, Result, Ok, Err, ⊤, ◌⊎◌, IfSome, Vec}
+use Rattle.std.specs.Prelude.{◌≡◌, ℕ, ◌+◌, ◌<◌, ◌≤◌, List, [], length, drop, Option, Some, None, Result, Ok, Err, ⊤, IfSome, Vec}
 use Rattle.std.specs.Io.KnownBytes.{Appends}
 use Rattle.edge_io.specs.Faults.{Rose}
+use Rattle.edge_io.specs.Writing.{HasWritten}
 use Rattle.group_calls.specs.Turns.{log_of}
 use Rattle.group_run.specs.Progress.{load_of}
 use Rattle.scenario_text.specs.declared.line.LineFault.{LineFault}
 use Rattle.scenario_text.specs.declared.line.LineFault.TheVariants as line
 use Rattle.scenario_run.specs.Playing.{Next, Goes, Ends, Refused, Play}
 use Rattle.scenario_run.specs.Script.{first_fault, transcript, turns_of}
-use Rattle.scenario_play.specs.Status.{longest_script, told, told_of}
+use Rattle.scenario_play.specs.Outside.{Outside}
+use Rattle.scenario_play.specs.Status.{IsRefusal, longest_script, told, told_of}
 use Rattle.scenario_play.specs.declared.status.Status.{Status}
-use Rattle.scenario_play.specs.declared.status.Status.TheVariants.{Done, BadLine, BadShape, TooLong, ReadFault, WriteFault, Want}
-
--- a text was written, and then a last line, of which a part alone where the sink counted a fault
-pub record EndsWith (before now : Option (List ℕ)) (faults_before faults_now : ℕ) (text line : List ℕ) : Type 0 where
-  pub count : ℕ
-  pub bytes : Appends before now (text ++ take count line)
-  pub whole : (length line ≤ count) ⊎ Rose faults_before faults_now
+use Rattle.scenario_play.specs.declared.status.Status.TheVariants.{Done, TooLong, ReadFault, WriteFault, Want}
 
 -- the events that a group made, and those that can drain it, are at most n
 abbrev pub IsLight : ℕ → Play → Type 0
@@ -49,40 +45,22 @@ HasDone before next now (Err line.Want) = ⊤
 HasDone before (Refused fault) now (Err cause) = cause ≡ fault
 HasDone before next now _ = ⊥
 
--- a status that tells of a line
-abbrev pub IsRefusal : Status → Type 0
-IsRefusal (BadLine _) = ⊤
-IsRefusal (BadShape _) = ⊤
-IsRefusal _ = ⊥
-
--- a status that tells what is wrong with a script
-abbrev pub TellsOfScript : Status → Type 0
-TellsOfScript TooLong = ⊤
-TellsOfScript status = IsRefusal status
-
--- the lines were treated to the end or to the first fault, and their transcript written, or a write failed
+-- the lines were treated to the end or to the first fault, and their transcript written, or a front of it
 abbrev pub HasPlayed : Option (List ℕ) → Option (List ℕ) → ℕ → ℕ → List ℕ → Result ℕ Status → Type 0
 HasPlayed before now faults_before faults_now text (Ok logged) = (first_fault text ≡ None) × Appends before now (transcript text) × (logged ≡ length (log_of (turns_of text)))
-HasPlayed before now faults_before faults_now text (Err WriteFault) = Rose faults_before faults_now
-HasPlayed before now faults_before faults_now text (Err Want) = ⊤
+HasPlayed before now faults_before faults_now text (Err WriteFault) = Rose faults_before faults_now × HasWritten before now (transcript text)
+HasPlayed before now faults_before faults_now text (Err Want) = HasWritten before now (transcript text)
 HasPlayed before now faults_before faults_now text (Err status) = IsRefusal status × (told_of (first_fault text) ≡ status) × Appends before now (transcript text)
 
--- what a source and a sink tell of themselves
-pub record Outside : Type 0 where
-  pub left : Option (List ℕ)
-  pub reads : ℕ
-  pub held : Option (List ℕ)
-  pub writes : ℕ
-
--- a script was read and played: to its end, up to a line that is refused, or until it was known to be
+-- a script of these bytes was read and played: to its end, up to a line that is refused, or until it was known to be
 -- too long, a read or a write failed, or there was no memory
-abbrev pub HasEnded : Outside → Outside → Result (Unit {0}) Status → Type 0
-HasEnded before now (Ok _) = IfSome before.left (λ all. (told all ≡ Done) × (now.left ≡ Some []) × Appends before.held now.held (transcript all))
-HasEnded before now (Err TooLong) = IfSome before.left (λ all. (told all ≡ TooLong) × (now.left ≡ Some (drop (longest_script + 1) all)))
-HasEnded before now (Err ReadFault) = Rose before.reads now.reads
-HasEnded before now (Err WriteFault) = Rose before.writes now.writes
-HasEnded before now (Err Want) = ⊤
-HasEnded before now (Err status) = IsRefusal status × IfSome before.left (λ all. (told all ≡ status) × Appends before.held now.held (transcript all))
+abbrev pub HasEnded : List ℕ → Outside → Outside → Result (Unit {0}) Status → Type 0
+HasEnded all before now (Ok _) = (told all ≡ Done) × (now.left ≡ Some []) × Appends before.held now.held (transcript all)
+HasEnded all before now (Err TooLong) = (now.held ≡ before.held) × (told all ≡ TooLong) × (now.left ≡ Some (drop (longest_script + 1) all))
+HasEnded all before now (Err ReadFault) = (now.held ≡ before.held) × Rose before.reads now.reads
+HasEnded all before now (Err WriteFault) = Rose before.writes now.writes × HasWritten before.held now.held (transcript all)
+HasEnded all before now (Err Want) = HasWritten before.held now.held (transcript all)
+HasEnded all before now (Err status) = IsRefusal status × (told all ≡ status) × Appends before.held now.held (transcript all)
 
 -- the bytes in an answer
 abbrev pub text_in : {E Z : Type 0} → Result (Option (Vec ℕ Z)) E → Result (Option (List ℕ)) E

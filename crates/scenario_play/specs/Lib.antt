@@ -1,3 +1,5 @@
 pub mod Ends
+pub mod Outside
+pub mod Played
 pub mod Status
 pub mod Trial

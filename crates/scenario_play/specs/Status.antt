@@ -1,4 +1,4 @@
-use Rattle.std.specs.Prelude.{◌≡◌, ℕ, nat_lt, List, [], ◌++◌, codes, Option, Some, None, ◌⊎◌, if◌then◌else◌, length}
+use Rattle.std.specs.Prelude.{◌≡◌, ℕ, nat_lt, List, [], ◌++◌, codes, Option, Some, None, ◌⊎◌, if◌then◌else◌, length, ⊤}
 use Rattle.std.specs.Fmt.{decimal}
 use Rattle.edge_io.specs.Faults.{Rose}
 use Rattle.group_types.specs.declared.shape.Field.TheVariants.{K, M, Block, Blocks}
@@ -76,3 +76,27 @@ told text = if nat_lt longest_script (length text) then TooLong else told_of (fi
 abbrev pub IsTold : Status → ℕ → ℕ → ℕ → ℕ → Status → Type 0
 IsTold wanted read_before read_now written_before written_now status =
     (status ≡ wanted) ⊎ (status ≡ Want) ⊎ ((status ≡ ReadFault) × Rose read_before read_now) ⊎ ((status ≡ WriteFault) × Rose written_before written_now)
+
+-- a status that tells of a line
+abbrev pub IsRefusal : Status → Type 0
+IsRefusal (BadLine _) = ⊤
+IsRefusal (BadShape _) = ⊤
+IsRefusal _ = ⊥
+
+-- a status that tells what is wrong with a script
+abbrev pub TellsOfScript : Status → Type 0
+TellsOfScript TooLong = ⊤
+TellsOfScript status = IsRefusal status
+
+-- a status that comes before a line of the script is treated
+abbrev pub IsUnread : Status → Type 0
+IsUnread TooLong = ⊤
+IsUnread ReadFault = ⊤
+IsUnread _ = ⊥
+
+-- where a status tells of a fault of the source or the sink, that one counted it; and it is none of other commands
+abbrev pub HasFaultOf : ℕ → ℕ → ℕ → ℕ → Status → Type 0
+HasFaultOf read_before read_now written_before written_now ReadFault = Rose read_before read_now
+HasFaultOf read_before read_now written_before written_now WriteFault = Rose written_before written_now
+HasFaultOf read_before read_now written_before written_now BadWords = ⊥
+HasFaultOf _ _ _ _ _ = ⊤

@@ -1,7 +1,7 @@
-//! Scripts played: `play` reads a script, treats its lines in order over a group, and writes the transcript; `make` writes
-//! the script of a number, and `trial` what comes of playing it. The contract of `play` says that the bytes written are the transcript of the script, when each status comes, and that the
-//! script's group keeps the promises of the headline. The text of a line and of an answer is left to `scenario_text`,
-//! and the group to `group_core`.
+//! Scripts played: `play` reads a script, treats its lines in order over a group, and writes the transcript; `make`
+//! writes the script of a number, and `trial` what comes of playing it. The contract of `play` says which bytes are written
+//! at each status, when each status comes, and that the script's group keeps the promises of the headline. The text
+//! of a line and of an answer is left to `scenario_text`, and the group to `group_core`.
 #![tactic(auto)]
 
 mod cut;

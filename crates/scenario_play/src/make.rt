@@ -1,7 +1,9 @@
 ghost use Rattle.std.specs.Prelude.{◌≡◌, ◌≤◌, ◌⊎◌, OnOk, IfErr};
 ghost use Rattle.std.specs.Io.KnownBytes.{Appends};
 ghost use Rattle.edge_io.specs.Faults.{Rose};
+ghost use Rattle.edge_io.specs.Writing.{HasWritten};
 ghost use Rattle.scenario_make.specs.Script.{script_text};
+ghost use Rattle.scenario_play.specs.Played.{IsWritten};
 
 use crate::play::write_text;
 use crate::status::Status;
@@ -12,9 +14,7 @@ use std::alloc::Global;
 
 /// Writes the script that the number makes.
 pub fn make<K: Sink>(alloc: Global, number: u64, sink: &mut K) -> Status
-    ensures done { result ≡ Status.Done → Appends (K.held sink.old) (K.held sink.new) (script_text number) }
-    ensures write { result ≡ Status.WriteFault → Rose (K.faults sink.old) (K.faults sink.new) }
-    ensures others { (result ≡ Status.Done) ⊎ (result ≡ Status.WriteFault) ⊎ (result ≡ Status.Want) }
+    ensures { IsWritten Status.Done (script_text number) (K.held sink.old) (K.held sink.new) (K.faults sink.old) (K.faults sink.new) result }
 {
     match write_script(alloc, number, sink) {
         Ok(()) => Status::Done,
@@ -24,6 +24,7 @@ pub fn make<K: Sink>(alloc: Global, number: u64, sink: &mut K) -> Status
 
 fn write_script<K: Sink>(alloc: Global, number: u64, sink: &mut K) -> Result<(), Status>
     ensures whole { OnOk result (Appends (K.held sink.old) (K.held sink.new) (script_text number)) }
+    ensures part { HasWritten (K.held sink.old) (K.held sink.new) (script_text number) }
     ensures later { K.faults sink.old ≤ K.faults sink.new }
     ensures fault { IfErr result (λ status. ((status ≡ Status.WriteFault) × Rose (K.faults sink.old) (K.faults sink.new)) ⊎ (status ≡ Status.Want)) }
 {

@@ -1,10 +1,11 @@
-ghost use Rattle.std.specs.Prelude.{◌≡◌, ◌≢◌, ◌⊎◌, ◌≤◌, [], drop, length, IfSome, IfErr, OnOk};
+ghost use Rattle.std.specs.Prelude.{◌≡◌, ◌≢◌, ◌⊎◌, ◌≤◌, length, IfSome, IfErr, OnOk};
 ghost use Rattle.std.specs.Io.KnownBytes.{Appends};
 ghost use Rattle.edge_io.specs.Faults.{Rose};
-ghost use Rattle.scenario_play.specs.Ends.{EndsWith, HasEnded, HasPlayed, IsRefusal, log_len};
-ghost use Rattle.scenario_run.specs.Promises.{KeepsPromises};
-ghost use Rattle.scenario_run.specs.Script.{transcript};
-ghost use Rattle.scenario_play.specs.Status.{told, told_at, last_line, IsTold};
+ghost use Rattle.edge_io.specs.Writing.{HasWritten};
+ghost use Rattle.scenario_play.specs.Ends.{HasEnded, HasPlayed, log_len};
+ghost use Rattle.scenario_play.specs.Outside.{outside};
+ghost use Rattle.scenario_play.specs.Played.{IsPlayed};
+ghost use Rattle.scenario_play.specs.Status.{HasFaultOf, told_at};
 
 use crate::cut::cut_line;
 use crate::next::treat;
@@ -19,15 +20,12 @@ use std::alloc::Global;
 /// Reads a script from the source to its end, treats its lines in order, and writes their
 /// transcript, and then the last line of the status.
 pub fn play<S: Source, K: Sink>(alloc: Global, source: &mut S, sink: &mut K) -> Status
-    ensures told { IfSome (S.left source.old) (λ all. IsTold (told all) (S.faults source.old) (S.faults source.new) (K.faults sink.old) (K.faults sink.new) result) }
+    ensures played { IfSome (S.left source.old) (λ all. IsPlayed all
+        (outside (S.left source.old) (S.faults source.old) (K.held sink.old) (K.faults sink.old))
+        (outside (S.left source.new) (S.faults source.new) (K.held sink.new) (K.faults sink.new)) result) }
     ensures named { result ≢ Status.BadWords }
     ensures read { result ≡ Status.ReadFault → Rose (S.faults source.old) (S.faults source.new) }
     ensures write { result ≡ Status.WriteFault → Rose (K.faults sink.old) (K.faults sink.new) }
-    ensures too_long_left { result ≡ Status.TooLong → IfSome (S.left source.old) (λ all. S.left source.new ≡ Some (drop 16777217 all)) }
-    ensures done_left { result ≡ Status.Done → IfSome (S.left source.old) (λ all. S.left source.new ≡ Some []) }
-    ensures done_bytes { result ≡ Status.Done → IfSome (S.left source.old) (λ all. Appends (K.held sink.old) (K.held sink.new) (transcript all)) }
-    ensures refused_bytes { IsRefusal result → IfSome (S.left source.old) (λ all. EndsWith (K.held sink.old) (K.held sink.new) (K.faults sink.old) (K.faults sink.new) (transcript all) (last_line result)) }
-    ensures promises { result ≡ Status.Done → IfSome (S.left source.old) KeepsPromises }
 {
     match play_script(alloc, source, sink) {
         Ok(()) => Status::Done,
@@ -40,7 +38,10 @@ fn play_script<S: Source, K: Sink>(
     source: &mut S,
     sink: &mut K,
 ) -> Result<(), Status>
-    ensures end { HasEnded (record { left = S.left source.old; reads = S.faults source.old; held = K.held sink.old; writes = K.faults sink.old }) (record { left = S.left source.new; reads = S.faults source.new; held = K.held sink.new; writes = K.faults sink.new }) result }
+    ensures end { IfSome (S.left source.old) (λ all. HasEnded all
+        (outside (S.left source.old) (S.faults source.old) (K.held sink.old) (K.faults sink.old))
+        (outside (S.left source.new) (S.faults source.new) (K.held sink.new) (K.faults sink.new)) result) }
+    ensures fault { IfErr result (λ status. HasFaultOf (S.faults source.old) (S.faults source.new) (K.faults sink.old) (K.faults sink.new) status) }
     ensures later { K.faults sink.old ≤ K.faults sink.new }
 {
     let text = read_script(alloc, source)?;
@@ -97,6 +98,7 @@ fn status_of(fault: LineFault, number: u64) -> Status
 
 pub(crate) fn write_text<K: Sink>(sink: &mut K, text: &[u8]) -> Result<(), Status>
     ensures whole { OnOk result (Appends (K.held sink.old) (K.held sink.new) text.now) }
+    ensures part { HasWritten (K.held sink.old) (K.held sink.new) text.now }
     ensures later { K.faults sink.old ≤ K.faults sink.new }
     ensures fault { IfErr result (λ status. ((status ≡ Status.WriteFault) × Rose (K.faults sink.old) (K.faults sink.new)) ⊎ (status ≡ Status.Want)) }
 {

@@ -1,5 +1,5 @@
-ghost use Rattle.std.specs.Prelude.{◌≡◌, ◌≤◌, ◌⊎◌, [], ◌∷◌};
-ghost use Rattle.scenario_play.specs.Ends.{EndsWith};
+ghost use Rattle.std.specs.Prelude.{◌≡◌, ◌≤◌, ◌⊎◌, []};
+ghost use Rattle.scenario_play.specs.Outside.{EndsWith, TellsFront};
 ghost use Rattle.scenario_play.specs.Status.{last_line};
 
 use crate::status::Status;
@@ -11,6 +11,7 @@ use std::alloc::{AllocError, Global};
 pub fn tell<K: Sink>(alloc: Global, sink: &mut K, status: Status) -> Status
     ensures status { (result ≡ status) ⊎ (result ≡ Status.Want) }
     ensures line { result ≡ status → result ≡ Status.Want ⊎ EndsWith (K.held sink.old) (K.held sink.new) (K.faults sink.old) (K.faults sink.new) [] (last_line status) }
+    ensures front { TellsFront (K.held sink.old) (K.held sink.new) result }
     ensures later { K.faults sink.old ≤ K.faults sink.new }
 {
     match status {
@@ -23,8 +24,10 @@ pub fn tell<K: Sink>(alloc: Global, sink: &mut K, status: Status) -> Status
 }
 
 fn write_line<K: Sink>(sink: &mut K, status: Status, line: &[u8]) -> Status
+    requires { line.now ≡ last_line status }
     ensures status { (result ≡ status) ⊎ (result ≡ Status.Want) }
-    ensures line { (result ≡ Status.Want) ⊎ EndsWith (K.held sink.old) (K.held sink.new) (K.faults sink.old) (K.faults sink.new) [] line.now }
+    ensures line { (result ≡ Status.Want) ⊎ EndsWith (K.held sink.old) (K.held sink.new) (K.faults sink.old) (K.faults sink.new) [] (last_line status) }
+    ensures front { TellsFront (K.held sink.old) (K.held sink.new) result }
     ensures later { K.faults sink.old ≤ K.faults sink.new }
 {
     match write_all(sink, line) {

@@ -2,9 +2,10 @@ ghost use Rattle.std.specs.Prelude.{◌≡◌, ◌≤◌, ◌⊎◌, IfOk, IfErr
 ghost use Rattle.std.specs.Io.KnownBytes.{Appends};
 ghost use Rattle.std.specs.String.{string_bytes};
 ghost use Rattle.edge_io.specs.Faults.{Rose};
+ghost use Rattle.edge_io.specs.Writing.{HasWritten};
 ghost use Rattle.scenario_make.specs.Script.{script_text};
-ghost use Rattle.scenario_play.specs.Ends.{TellsOfScript};
-ghost use Rattle.scenario_play.specs.Status.{told};
+ghost use Rattle.scenario_play.specs.Played.{IsWritten};
+ghost use Rattle.scenario_play.specs.Status.{TellsOfScript, told};
 ghost use Rattle.scenario_play.specs.Trial.{trial_of, trial_text};
 
 use crate::cut::count_lines;
@@ -20,9 +21,7 @@ use std::alloc::Global;
 /// Plays the script that the number makes, and writes what came of it on a line: how many lines the script has, how
 /// many entries its group logged, and how many bytes its transcript has.
 pub fn trial<K: Sink>(alloc: Global, number: u64, sink: &mut K) -> Status
-    ensures done { result ≡ Status.Done → Appends (K.held sink.old) (K.held sink.new) (trial_text number) }
-    ensures write { result ≡ Status.WriteFault → Rose (K.faults sink.old) (K.faults sink.new) }
-    ensures others { (result ≡ Status.WriteFault) ⊎ (result ≡ Status.Want) ⊎ (result ≡ told (script_text number)) }
+    ensures { IsWritten (told (script_text number)) (trial_text number) (K.held sink.old) (K.held sink.new) (K.faults sink.old) (K.faults sink.new) result }
 {
     match write_trial(alloc, number, sink) {
         Ok(()) => Status::Done,
@@ -32,9 +31,11 @@ pub fn trial<K: Sink>(alloc: Global, number: u64, sink: &mut K) -> Status
 
 fn write_trial<K: Sink>(alloc: Global, number: u64, sink: &mut K) -> Result<(), Status>
     ensures whole { OnOk result (Appends (K.held sink.old) (K.held sink.new) (trial_text number)) }
+    ensures part { HasWritten (K.held sink.old) (K.held sink.new) (trial_text number) }
     ensures told { OnOk result (told (script_text number) ≡ Status.Done) }
     ensures later { K.faults sink.old ≤ K.faults sink.new }
-    ensures fault { IfErr result (λ status. ((status ≡ Status.WriteFault) × Rose (K.faults sink.old) (K.faults sink.new)) ⊎ (status ≡ Status.Want) ⊎ (TellsOfScript status × (status ≡ told (script_text number)))) }
+    ensures fault { IfErr result (λ status. ((status ≡ Status.WriteFault) × Rose (K.faults sink.old) (K.faults sink.new))
+        ⊎ (status ≡ Status.Want) ⊎ (TellsOfScript status × (status ≡ told (script_text number)))) }
 {
     let script = make_script(alloc, number)?;
     let line = trial_line(alloc, number, &script)?;

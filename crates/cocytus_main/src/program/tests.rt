@@ -1,5 +1,8 @@
 ghost use Rattle.std.specs.Prelude.{◌≤◌};
 
+mod cuts;
+mod faults;
+mod limits;
 mod rows;
 mod sessions;
 

@@ -1,22 +1,62 @@
-use Rattle.std.proofs.Common.{rules, ◌≡◌, inr, List, ℕ, map, Some, Global}
+use Rattle.std.proofs.Common.{rules, ◌≡◌, inl, inr, refl, sym, subst, map, Option, Some, None, Global}
 use Rattle.std.specs.String.{string_bytes}
-use Rattle.group_types.specs.Dimensions.{Dimensions}
 use Rattle.command_line.specs.Words.{command_of}
-use Rattle.command_line.specs.declared.command.Command.TheVariants.{Session}
-use Rattle.scenario_play.specs.Ends.{Outside}
-use Rattle.cocytus_main.specs.Session.{IsSession, outside}
-use Rattle.cocytus_main.proofs.Asking.{of_session}
+use Rattle.command_line.specs.declared.command.Command.{Command}
+use Rattle.command_line.specs.declared.command.Command.TheVariants.{Make, Play, Session, Trial}
+use Rattle.scenario_play.specs.Outside.{Outside, outside}
+use Rattle.scenario_play.specs.declared.status.Status.TheVariants.{BadWords}
+use Rattle.cocytus_main.specs.Program.{HasRun}
+use Rattle.cocytus_main.proofs.Telling.{has_told, promises_of, stopped}
 use Rattle.cocytus_main.proofs.program.run_program.Goals as goal
 
-pub returns-in-Ok-Session-clause-session : goal.returns-in-Ok-Session-clause-session
-returns-in-Ok-Session-clause-session g c d asked =
+pub returns-in-Ok-Play-clause-ran : goal.returns-in-Ok-Play-clause-ran
+returns-in-Ok-Play-clause-ran g c =
     let source = c.args.source.now in
     let sink = c.args.sink.now in
-    let after = c.serve_session.new in
     let before : Outside = outside (g.S.Source.left source) (g.S.Source.faults source) (g.K.Sink.held sink) (g.K.Sink.faults sink) in
-    let now : Outside = outside (g.S.Source.left after.source) (g.S.Source.faults after.source) (g.K.Sink.held after.sink) (g.K.Sink.faults after.sink) in
-    let words : List (List ℕ) = map (string_bytes {Z = Global}) c.args.words.now in
-    let s = c.in-Ok-Session in
-    let said : command_of words ≡ Some (Session s.k s.m s.blocks s.block) = search rules in
-    let holds = λ (e : Dimensions). IsSession e (g.T.Clock.moment c.args.clock.now) before now c.serve_session.result in
-    inr (of_session holds d s.k s.m s.blocks s.block (command_of words) said asked c.serve_session.ensures.session)
+    let now : Outside = outside (g.S.Source.left c.play.new.source) (g.S.Source.faults c.play.new.source) (g.K.Sink.held c.play.new.sink) (g.K.Sink.faults c.play.new.sink) in
+    let said : command_of (map (string_bytes {Z = Global}) c.args.words.now) ≡ Some Play = search rules in
+    inl (subst (λ (o : Option Command). HasRun o (g.T.Clock.moment c.args.clock.now) before now c.play.result) (sym said) c.play.ensures.played)
+
+pub returns-in-Ok-Play-clause-promises : goal.returns-in-Ok-Play-clause-promises
+returns-in-Ok-Play-clause-promises g c _ done = promises_of (g.S.Source.left c.args.source.now) _ _ c.play.result c.play.ensures.played done
+
+pub returns-in-Ok-Make-clause-ran : goal.returns-in-Ok-Make-clause-ran
+returns-in-Ok-Make-clause-ran g c =
+    let source = c.args.source.now in
+    let sink = c.args.sink.now in
+    let before : Outside = outside (g.S.Source.left source) (g.S.Source.faults source) (g.K.Sink.held sink) (g.K.Sink.faults sink) in
+    let now : Outside = outside (g.S.Source.left source) (g.S.Source.faults source) (g.K.Sink.held c.make.new.sink) (g.K.Sink.faults c.make.new.sink) in
+    let said : command_of (map (string_bytes {Z = Global}) c.args.words.now) ≡ Some (Make c.in-Ok-Make.number) = search rules in
+    inl (subst (λ (o : Option Command). HasRun o (g.T.Clock.moment c.args.clock.now) before now c.make.result) (sym said) c.make.ensures)
+
+pub returns-in-Ok-Trial-clause-ran : goal.returns-in-Ok-Trial-clause-ran
+returns-in-Ok-Trial-clause-ran g c =
+    let source = c.args.source.now in
+    let sink = c.args.sink.now in
+    let before : Outside = outside (g.S.Source.left source) (g.S.Source.faults source) (g.K.Sink.held sink) (g.K.Sink.faults sink) in
+    let now : Outside = outside (g.S.Source.left source) (g.S.Source.faults source) (g.K.Sink.held c.trial.new.sink) (g.K.Sink.faults c.trial.new.sink) in
+    let said : command_of (map (string_bytes {Z = Global}) c.args.words.now) ≡ Some (Trial c.in-Ok-Trial.number) = search rules in
+    inl (subst (λ (o : Option Command). HasRun o (g.T.Clock.moment c.args.clock.now) before now c.trial.result) (sym said) c.trial.ensures)
+
+pub returns-in-Ok-Session-clause-ran : goal.returns-in-Ok-Session-clause-ran
+returns-in-Ok-Session-clause-ran g c =
+    let source = c.args.source.now in
+    let sink = c.args.sink.now in
+    let before : Outside = outside (g.S.Source.left source) (g.S.Source.faults source) (g.K.Sink.held sink) (g.K.Sink.faults sink) in
+    let now : Outside = outside (g.S.Source.left c.serve_session.new.source) (g.S.Source.faults c.serve_session.new.source) (g.K.Sink.held c.serve_session.new.sink) (g.K.Sink.faults c.serve_session.new.sink) in
+    let said : command_of (map (string_bytes {Z = Global}) c.args.words.now) ≡ Some (Session c.in-Ok-Session.k c.in-Ok-Session.m c.in-Ok-Session.blocks c.in-Ok-Session.block) = search rules in
+    inl (subst (λ (o : Option Command). HasRun o (g.T.Clock.moment c.args.clock.now) before now c.serve_session.result) (sym said) c.serve_session.ensures.session)
+
+pub returns-in-Err-BadWords-clause-ran : goal.returns-in-Err-BadWords-clause-ran
+returns-in-Err-BadWords-clause-ran g c =
+    let source = c.args.source.now in
+    let sink = c.args.sink.now in
+    let before : Outside = outside (g.S.Source.left source) (g.S.Source.faults source) (g.K.Sink.held sink) (g.K.Sink.faults sink) in
+    let now : Outside = outside (g.S.Source.left source) (g.S.Source.faults source) (g.K.Sink.held c.tell.new.sink) (g.K.Sink.faults c.tell.new.sink) in
+    let said : command_of (map (string_bytes {Z = Global}) c.args.words.now) ≡ None = search rules in
+    inl (subst (λ (o : Option Command). HasRun o (g.T.Clock.moment c.args.clock.now) before now c.tell.result) (sym said)
+    (has_told BadWords BadWords before now c.tell.result refl c.tell.ensures.status c.tell.ensures.line c.tell.ensures.front))
+
+pub returns-in-Err-Want-clause-ran : goal.returns-in-Err-Want-clause-ran
+returns-in-Err-Want-clause-ran g c = inr (stopped _ _ c.tell-in-Err-Want.result c.tell-in-Err-Want.ensures.status c.tell-in-Err-Want.ensures.front, refl)

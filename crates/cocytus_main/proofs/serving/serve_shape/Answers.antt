@@ -1,6 +1,6 @@
 use Rattle.std.proofs.Common.{refl}
-use Rattle.scenario_play.specs.Ends.{Outside}
-use Rattle.cocytus_main.specs.Session.{outside, status_of}
+use Rattle.scenario_play.specs.Outside.{Outside, outside}
+use Rattle.cocytus_main.specs.Session.{status_of}
 use Rattle.cocytus_main.proofs.Telling.{has_told}
 use Rattle.cocytus_main.proofs.serving.serve_shape.Goals as goal
 
@@ -16,5 +16,5 @@ returns-clause-served g c =
       middle = served;
       ended = c.session-end.ensures.ended;
       kept = refl;
-      told = tells c.tell.ensures.status c.tell.ensures.line;
+      told = tells c.tell.ensures.status c.tell.ensures.line c.tell.ensures.front;
     }

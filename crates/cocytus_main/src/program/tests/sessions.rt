@@ -8,12 +8,32 @@ const PLAIN: &[&str] = &["session", "1", "0", "4", "16"];
 
 const SAFE: &[&str] = &["session", "2", "1", "4", "16"];
 
-pub(crate) const SESSIONS: [Row; 13] = [
+pub(crate) const SESSIONS: [Row; 16] = [
     // Sets, and a get that asks a key twice.
     (
         &["session", "2", "0", "4", "16"],
         "set a 5 0 1\r\nA\r\nset b 0 0 2\r\nBB\r\nget a b a\r\n",
         "STORED\r\nSTORED\r\nVALUE a 5 1\r\nA\r\nVALUE b 0 2\r\nBB\r\nVALUE a 5 1\r\nA\r\nEND\r\n",
+        Status::Done,
+    ),
+    // A value of no bytes.
+    (
+        PLAIN,
+        "set v 0 0 0\r\n\r\nget v\r\n",
+        "STORED\r\nVALUE v 0 0\r\n\r\nEND\r\n",
+        Status::Done,
+    ),
+    // Exptimes, and a number that starts again.
+    (
+        PLAIN,
+        "set a 0 60 1\r\nA\r\ntouch a 5\r\ntouch b 5\r\n",
+        "STORED\r\nTOUCHED\r\nNOT_FOUND\r\n",
+        Status::Done,
+    ),
+    (
+        PLAIN,
+        "set n 0 0 20\r\n18446744073709551615\r\nincr n 2\r\n",
+        "STORED\r\n1\r\n",
         Status::Done,
     ),
     // No request at all, and one that goes unread behind a quit.

@@ -1,11 +1,8 @@
-use Rattle.std.proofs.Common.{ℕ, ◌≡◌, ◌<◌, ◌+◌, ◌++◌, List, Option, Some, None, option_map, refl, sym, subst, ◌∙◌}
-use Rattle.group_types.specs.declared.process.ProcessId.{ProcessId}
-use Rattle.group_calls.specs.declared.event.Event.{Event}
+use Rattle.std.proofs.Common.{ℕ, ◌<◌, ◌+◌, List, sym, subst}
 use Rattle.group_calls.specs.declared.event.Event.TheVariants.{Deliver}
-use Rattle.group_run.specs.Draining.{next_delivery}
 use Rattle.group_run.specs.Progress.{load_of}
 use Rattle.group_run.specs.World.{World, step}
-use Rattle.scenario_play.proofs.Delivering.{Delivered, Delivered-more, Delivered-none, all-counted, all-delivered, all-written, next-lightens}
+use Rattle.scenario_play.proofs.Delivering.{Delivered, Delivered-more, all-counted, all-delivered, all-written, next-lightens}
 use Rattle.scenario_play.proofs.deliveries.deliver_all.Goals as goal
 
 pub deliver-requires-clause-may : goal.deliver-requires-clause-may

@@ -1,11 +1,12 @@
 use Rattle.std.proofs.Common.{◌≡◌, ℕ, ◌+◌, List, ◌∷◌, length, Option, sym, ap, ◌∙◌, subst, arith}
 use Rattle.std.specs.Io.KnownBytes.{Appends}
+use Rattle.edge_io.specs.Writing.{HasWritten}
 use Rattle.scenario_run.specs.Lines.{lines_of}
 use Rattle.scenario_run.specs.Playing.{Ends, Goes, Play, next_of}
 use Rattle.group_calls.specs.Turns.{Turn, log_of}
 use Rattle.scenario_run.specs.Script.{fault_in, text_in, transcript, turns_in}
 use Rattle.scenario_play.specs.Ends.{log_len}
-use Rattle.scenario_play.proofs.Lines.{Left, Stopped, Went, Written, Written-all, Written-more, ended, fault-line, left, logged-on, stopped, text-line, went}
+use Rattle.scenario_play.proofs.Lines.{Left, Stopped, Went, Written, Written-all, Written-more, Written-part, ended, fault-line, left, line-refused, logged-on, part-played, stopped, text-line, went}
 use Rattle.scenario_play.proofs.play.play_lines.Goals as goal
 
 pub lines-preserved : goal.lines-preserved
@@ -45,3 +46,28 @@ returns-in-Ok-None-clause-end g c =
           (subst (λ (xs : List ℕ). Written (g.K.Sink.held c.args.sink.now) (g.K.Sink.held c.lines.sink) xs (transcript c.args.text.now)) (ap (text_in before) cut ∙ stop.text) c.lines.invariant.written),
       omega (arith, c.logged_by.ensures, same, silent, c.lines.invariant.logged),
     )
+
+pub returns-in_err-write_text-in-Ok-Some-clause-end : goal.returns-in_err-write_text-in-Ok-Some-clause-end
+returns-in_err-write_text-in-Ok-Some-clause-end g c =
+    let before : Option Play = c.lines.play in
+    let line : List ℕ = c.cut_line.result.0.now in
+    let rest : List (List ℕ) = lines_of c.cut_line.result.1.now in
+    let text : List ℕ = c.in-Ok-Some.text.items in
+    let on : Went before c.treat.new.play line text = went before c.treat.new.play line text (rw c.in-Ok-Some.field-0-is at c.in-Ok-Some.ensures) in
+    let cut : lines_of c.lines.rest.now ≡ line ∷ rest = c.cut_line.ensures.lines in
+    let written = ap (text_in before) cut ∙ text-line before line rest (Goes c.treat.new.play on.turns text) on.next in
+    let held = g.K.Sink.held c.args.sink.now in
+    let all = transcript c.args.text.now in
+    let part : HasWritten held (g.K.Sink.held c.write_text.new.sink) all = Written-part held (g.K.Sink.held c.lines.sink) (g.K.Sink.held c.write_text.new.sink) text (text_in c.treat.new.play rest) all
+    (subst (λ (xs : List ℕ). Written held (g.K.Sink.held c.lines.sink) xs all) written c.lines.invariant.written)
+    (subst (HasWritten (g.K.Sink.held c.lines.sink) (g.K.Sink.held c.write_text.new.sink)) c.deref.ensures.value c.write_text.ensures.part) in
+    part-played _ _ _ _ _ c.args.text.now c.from_residual.result _ c.in_err-write_text-in-Ok-Some.ensures.fault c.lines.invariant.later part c.from_residual.ensures.1
+
+pub returns-in-Err-clause-end : goal.returns-in-Err-clause-end
+returns-in-Err-clause-end g c =
+    let before : Option Play = c.lines.play in
+    let rest : List (List ℕ) = lines_of c.cut_line.result.1.now in
+    let cut : lines_of c.lines.rest.now ≡ c.cut_line.result.0.now ∷ rest = c.cut_line.ensures.lines in
+    let fault = sym (ap (fault_in c.lines.number before) cut) ∙ c.lines.invariant.fault in
+    let written = subst (λ (xs : List ℕ). Written (g.K.Sink.held c.args.sink.now) (g.K.Sink.held c.lines.sink) xs (transcript c.args.text.now)) (ap (text_in before) cut) c.lines.invariant.written in
+    line-refused _ _ _ _ c.args.text.now c.lines.number before c.treat.new.play c.cut_line.result.0.now rest c.in-Err.fault c.status_of.result c.status_of.ensures (rw c.in-Err.fault-is at c.in-Err.ensures) fault written

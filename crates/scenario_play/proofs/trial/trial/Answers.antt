@@ -1,8 +1,12 @@
-use Rattle.std.proofs.Common.{◌≡◌, ◌⊎◌, inl, inr, sym, subst, ◌∙◌}
-use Rattle.edge_io.specs.Faults.{Rose}
 use Rattle.scenario_make.specs.Script.{script_text}
-use Rattle.scenario_play.proofs.Ending.{not_done-told}
+use Rattle.scenario_play.specs.Status.{told}
+use Rattle.scenario_play.specs.Trial.{trial_text}
+use Rattle.scenario_play.proofs.Ending.{written-part, written-whole}
 use Rattle.scenario_play.proofs.trial.trial.Goals as goal
 
-pub returns-in-Err-clause-done : goal.returns-in-Err-clause-done
-returns-in-Err-clause-done g c now = absurd (not_done-told (script_text c.args.number) c.in-Err.status c.tell.result c.in-Err.ensures.fault c.tell.ensures.status now)
+pub returns-in-Ok : goal.returns-in-Ok
+returns-in-Ok g c = written-whole (told (script_text c.args.number)) (trial_text c.args.number) _ _ _ _ c.in-Ok.ensures.told c.in-Ok.ensures.whole
+
+pub returns-in-Err : goal.returns-in-Err
+returns-in-Err g c = written-part (told (script_text c.args.number)) (trial_text c.args.number) _ _ _ _ _ _ c.in-Err.status c.tell.result c.in-Err.ensures.fault
+    c.in-Err.ensures.part c.tell.ensures.status c.tell.ensures.front c.tell.ensures.later

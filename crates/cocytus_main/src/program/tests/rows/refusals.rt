@@ -3,7 +3,7 @@ use crate::program::tests::rows::Row;
 use group_types::Field;
 use scenario_play::Status;
 
-pub(crate) const ROWS: [Row; 6] = [
+pub(crate) const ROWS: [Row; 7] = [
     // A group and nothing else.
     ("group 2 1 4 16\n", "", Status::Done),
     // No group.
@@ -25,6 +25,13 @@ pub(crate) const ROWS: [Row; 6] = [
         "group 1 0 1025 65536\n",
         "fault: shape blocks\n",
         Status::BadShape(Field::Blocks),
+    ),
+    // A key whose home is another process.
+    (
+        "group 2 0 4 16\n\
+        ask 0 d1 get a\n",
+        "moved\n",
+        Status::Done,
     ),
     // A process that the group does not have.
     (

@@ -1,4 +1,4 @@
-use Rattle.std.proofs.Common.{◌≡◌, ◌-◌, List, length, drop, ap, subst}
+use Rattle.std.proofs.Common.{◌≡◌, ◌-◌, length, drop, ap, subst}
 use Rattle.group_run.specs.World.{World, step}
 use Rattle.scenario_run.specs.Playing.{Play, turn_text}
 use Rattle.scenario_play.proofs.Delivering.{last-of, turn-written}

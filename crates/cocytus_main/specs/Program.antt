@@ -1,0 +1,25 @@
+-- What comes of the command that the words say.
+use Rattle.std.specs.Prelude.{◌≡◌, ℕ, List, Option, Some, None, IfSome}
+use Rattle.command_line.specs.declared.command.Command.{Command}
+use Rattle.command_line.specs.declared.command.Command.TheVariants.{Play, Make, Session, Trial}
+use Rattle.scenario_make.specs.Script.{script_text}
+use Rattle.scenario_play.specs.Outside.{Outside, TellsFront}
+use Rattle.scenario_play.specs.Played.{IsPlayed, IsWritten}
+use Rattle.scenario_play.specs.Status.{told}
+use Rattle.scenario_play.specs.Trial.{trial_text}
+use Rattle.scenario_play.specs.declared.status.Status.{Status}
+use Rattle.scenario_play.specs.declared.status.Status.TheVariants.{BadWords, Done, Want}
+use Rattle.cocytus_main.specs.Session.{HasTold, IsSession}
+
+-- what comes of a command, which is none where the words say none
+abbrev pub HasRun : Option Command → Option ℕ → Outside → Outside → Status → Type 0
+HasRun None moment before now status = HasTold BadWords before now status
+HasRun (Some Play) moment before now status = IfSome before.left (λ all. IsPlayed all before now status)
+HasRun (Some (Make n)) moment before now status = IsWritten Done (script_text n) before.held now.held before.writes now.writes status
+HasRun (Some (Trial n)) moment before now status = IsWritten (told (script_text n)) (trial_text n) before.held now.held before.writes now.writes status
+HasRun (Some (Session k m blocks block)) moment before now status = IsSession (record { k = k; m = m; blocks = blocks; block = block }) moment before now status
+
+-- there was no memory to read the words
+pub record HasStopped (before now : Option (List ℕ)) (status : Status) : Type 0 where
+  pub want : status ≡ Want
+  pub told : TellsFront before now Want
