@@ -9,6 +9,13 @@ use group_types::{CALLERS, ProcessId, Shape};
 use memc_table::Act;
 
 impl World {
+    /// Whether the group has the process.
+    pub fn has(&self, name: ProcessId) -> bool
+        ensures { IsTrue result ↔ IsProcess self.now.shape name }
+    {
+        is_process(self.shape(), name)
+    }
+
     /// Whether an event may come: callers and processes are of the group, a message goes between two, and the call
     /// that is traced was asked.
     pub fn may_come(&self, event: &Event) -> bool
@@ -17,7 +24,7 @@ impl World {
         let shape = self.shape();
         match event {
             Event::Ask { caller, op, at } => {
-                read_value(op.act());
+                values_are_bytes(op.act());
                 *caller < CALLERS && is_process(shape, *at)
             }
             Event::Collect { caller, at, .. } => *caller < CALLERS && is_process(shape, *at),
@@ -50,8 +57,8 @@ fn is_process(shape: Shape, name: ProcessId) -> bool
     }
 }
 
-// A value consists of bytes.
-fn read_value(act: &Act)
+/// A value consists of bytes.
+pub fn values_are_bytes(act: &Act)
     ensures { All (λ b. b < 256) (value_of act.now) }
 {
     match act {

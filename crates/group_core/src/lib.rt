@@ -15,4 +15,5 @@ mod tests;
 mod turning;
 mod world;
 
+pub use coming::values_are_bytes;
 pub use world::World;

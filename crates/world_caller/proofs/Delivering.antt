@@ -24,7 +24,7 @@ use Rattle.world_caller.specs.Laws.{DeliversAlways, IsTicketed, Stands}
 use Rattle.world_caller.specs.declared.stage.Stage.{Stage}
 use Rattle.world_caller.specs.declared.stage.Stage.TheVariants.{Asks, Collects}
 use Rattle.world_caller.proofs.Standing.{ticket-stays}
-use Rattle.world_caller.proofs.Waiting.{none-waits}
+use Rattle.group_core.proofs.Waiting.{none-waits}
 
 pub isdown : (w : World) → is_down w ≡ true → IsDown w
 isdown w is = grind (arith, nat_tests)

@@ -1,5 +1,4 @@
 pub mod Holding
-pub mod Waiting
 pub mod Standing
 pub mod Delivering
 pub mod Leading

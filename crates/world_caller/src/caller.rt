@@ -4,7 +4,6 @@ ghost use Rattle.group_run.specs.Replica.{callers};
 use crate::calling::make_call;
 use crate::drain::MOST_EVENTS;
 use crate::failing::fail_one;
-use crate::serving::is_process;
 use front_end::Caller;
 use group_core::World;
 use group_types::ProcessId;
@@ -71,7 +70,7 @@ impl Caller for WorldCaller {
         if !self.control {
             return Ok(FailEnd::Off);
         }
-        if !is_process(self.world.shape(), at) {
+        if !self.world.has(at) {
             return Ok(FailEnd::NoProcess);
         }
         if MOST_EVENTS <= self.world.events() {

@@ -9,10 +9,10 @@ ghost use Rattle.world_caller.specs.Making.{IsMade};
 use crate::drain::drain;
 use crate::event::make;
 use crate::laws::{asks_are_few, asks_lead_on, collects_lead_on};
-use crate::serving::{read_value, server};
+use crate::serving::server;
 use crate::stage::{Next, Stage, after_ask, after_collect};
 use group_calls::Event;
-use group_core::World;
+use group_core::{World, values_are_bytes};
 use group_types::{ProcessId, home};
 use memc_proto::CallEnd;
 use memc_table::Op;
@@ -61,7 +61,7 @@ fn ask(world: &mut World, caller: u32, op: &Op) -> Result<Next, AllocError>
 {
     world.run();
     asks_lead_on();
-    read_value(op.act());
+    values_are_bytes(op.act());
     let call = world.asks(caller);
     let at = server(world, home(op.act().key(), world.shape().k()));
     let event = Event::Ask {

@@ -1,3 +1,5 @@
+mod losses;
+
 use super::*;
 use group_types::{Key, Payload, Shape};
 use memc_table::{Act, Op, Reply};

@@ -16,7 +16,7 @@ returns-clause-made c =
     let home : c.home.result.0 ≡ home_in c.args.world.now c.args.op.now = cc (c.home.ensures.value, c.key.ensures, c.act-2.ensures, c.k.ensures.value, c.shape.ensures) in
     ask-made c.args.world.now c.make.new.world c.args.caller c.asks-call.result c.args.op.now c.server-at.result c.in_ok-make.field-0 c.in-Some.next c.asks_lead_on.ensures c.run.ensures
     c.requires.due c.requires.counted
-    (c.requires.caller, c.server-at.ensures.inside, subst (λ (a : Act). All (λ b. b < 256) (value_of a)) c.act.ensures c.read_value.ensures)
+    (c.requires.caller, c.server-at.ensures.inside, subst (λ (a : Act). All (λ b. b < 256) (value_of a)) c.act.ensures c.values_are_bytes.ensures)
     (subst (λ d. Serves c.args.world.now d c.server-at.result) home c.server-at.ensures.serves)
     (c.in_ok-make.ensures.world ∙ ap (λ (op : Asked). (step c.args.world.now (Ask c.args.caller op c.server-at.result)).world) same)
     (c.in_ok-make.ensures.answer ∙ ap (λ (op : Asked). (step c.args.world.now (Ask c.args.caller op c.server-at.result)).turn.answer) same)
