@@ -8,26 +8,16 @@ program=${1:-$top/crates/cocytus_main/out/cocytus_main}
 work=$(mktemp -d)
 trap 'rm -rf "$work"' EXIT
 
-# Two sets of 100 bytes to one get, and a drain every tenth line. With four data processes the home of a key is told by
-# the two lowest bits of its hash alone.
+# Two sets of 100 bytes to one get, and a drain every tenth line.
 script() {
-    awk -v lines="$1" -v k="$2" -v m="$3" '
-    function home(key,  h, i, b) {
-        h = 1
-        for (i = 1; i <= length(key); i++) {
-            b = index("0123456789", substr(key, i, 1)); b = b ? (b - 1) % 4 : 3
-            h = xor2[h * 4 + b] * 3 % 4
-        }
-        return k == 1 ? 0 : h
-    }
+    awk -v lines="$1" -v k="$2" -v m="$3" "$(cat "$top/bench/home.awk")"'
     BEGIN {
-        for (x = 0; x < 4; x++) for (y = 0; y < 4; y++) xor2[x * 4 + y] = (x % 2 != y % 2) + 2 * (int(x / 2) != int(y / 2))
         print "group", k, m, 1024, 65536 / (k > 1 ? 4 : 1)
         for (i = 0; i < lines; i++) {
             key = "k" (i * 7919 % 1000)
             if (i % 10 == 9) print "drain"
-            else if (i % 3 == 2) print "ask", i % 256, "d" home(key), "get", key
-            else print "ask", i % 256, "d" home(key), "set", key, 7, "*100*61"
+            else if (i % 3 == 2) print "ask", i % 256, "d" (k == 1 ? 0 : home(key)), "get", key
+            else print "ask", i % 256, "d" (k == 1 ? 0 : home(key)), "set", key, 7, "*100*61"
         }
         print "drain"
         print "stop"
