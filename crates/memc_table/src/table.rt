@@ -229,24 +229,47 @@ mod tests {
         }
     }
 
+    fn act_of(alloc: Global, key: Key, row: &Row) -> Result<Act, AllocError> {
+        let (_, op, _, number, text, _) = row;
+        if text.is_empty() {
+            return Ok(change(op, key, *number));
+        }
+        let value = Payload::of(alloc, text.as_bytes())?;
+        Ok(store(op, key, *number, value))
+    }
+
+    fn op_of(alloc: Global, row: &Row) -> Result<Option<Op>, AllocError> {
+        let Ok(key) = Key::read(alloc, row.2.as_bytes()) else {
+            return Ok(None);
+        };
+        let act = act_of(alloc, key, row)?;
+        Ok(Some(Op::new(row.0.min(1 << 62), act)))
+    }
+
+    fn is_answered(
+        table: &mut Table,
+        op: &Op,
+        told_as: (&str, u64, &str),
+    ) -> Result<bool, AllocError> {
+        if table.count(op.act().key()) >= 1 << 62 {
+            return Ok(false);
+        }
+        let given = table.apply(op)?;
+        Ok(told(&given) == (told_as.0, told_as.1, told_as.2.as_bytes()))
+    }
+
+    fn is_right(alloc: Global, table: &mut Table, row: &Row) -> Result<bool, AllocError> {
+        match op_of(alloc, row)? {
+            Some(op) => is_answered(table, &op, row.5),
+            None => Ok(false),
+        }
+    }
+
     // Asks the rows of one table in turn, and gives the number of the first whose reply differs.
     fn first_wrong(alloc: Global, rows: &[Row]) -> Result<Option<usize>, AllocError> {
         let mut table = Table::new(alloc, 1)?;
-        for (at, (now, op, key, number, text, reply)) in rows.iter().enumerate() {
-            let Ok(key) = Key::read(alloc, key.as_bytes()) else {
-                return Ok(Some(at));
-            };
-            let act = if text.is_empty() {
-                change(op, key, *number)
-            } else {
-                store(op, key, *number, Payload::of(alloc, text.as_bytes())?)
-            };
-            let op = Op::new((*now).min(1 << 62), act);
-            if table.count(op.act().key()) >= 1 << 62 {
-                return Ok(Some(at));
-            }
-            let given = table.apply(&op)?;
-            if told(&given) != (reply.0, reply.1, reply.2.as_bytes()) {
+        for (at, row) in rows.iter().enumerate() {
+            if !is_right(alloc, &mut table, row)? {
                 return Ok(Some(at));
             }
         }
