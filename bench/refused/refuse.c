@@ -1,5 +1,4 @@
-/* Refuses one allocation of a program, or all from it on: the one whose number from 1 is in REFUSE, alone, or with REFUSE_ALL set and all behind it.
-   Writes how many there were to the file that COUNT names. */
+/* Refuses one allocation of a program, the one whose number from 1 is in REFUSE. Writes how many there were to the file that COUNT names. */
 #define _GNU_SOURCE
 #include <dlfcn.h>
 #include <errno.h>
@@ -7,11 +6,9 @@
 #include <stdlib.h>
 
 static unsigned long count, refused;
-static int all;
 
 __attribute__((constructor)) static void begin(void) {
     const char *number = getenv("REFUSE");
-    all = getenv("REFUSE_ALL") != NULL;
     count = 0;
     refused = number ? strtoul(number, NULL, 10) : 0;
 }
@@ -29,7 +26,7 @@ __attribute__((destructor)) static void end(void) {
 
 static int refuses(void) {
     count++;
-    return refused && (all ? count >= refused : count == refused);
+    return count == refused;
 }
 
 void *malloc(size_t size) {

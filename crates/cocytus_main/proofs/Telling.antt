@@ -7,6 +7,7 @@ use Rattle.scenario_play.specs.declared.status.Status.{Status}
 use Rattle.scenario_play.specs.declared.status.Status.TheVariants.{BadWords, Done, ReadFault, WriteFault, Want}
 use Rattle.scenario_session.specs.declared.end.SessionEnd.{SessionEnd}
 use Rattle.scenario_session.specs.declared.end.SessionEnd.TheVariants as end
+use Rattle.scenario_play.proofs.Ending.{came_from}
 use Rattle.cocytus_main.specs.Program.{HasStopped}
 use Rattle.cocytus_main.specs.Session.{HasTold, status_of}
 
@@ -19,11 +20,6 @@ has_told wanted asked before now status same (inl is) line front = record {
   line = subst (λ (s : Status). (status ≡ Want) ⊎ EndsWith before.held now.held before.writes now.writes [] (last_line s)) (sym is) (line is);
   front = front;
 }
-
--- a status other than want of memory is the one that was to be told
-came_from : (wanted status other : Status) → (status ≡ wanted) ⊎ (status ≡ Want) → status ≡ other → other ≢ Want → wanted ≡ other
-came_from wanted status other (inl is) now differs = sym is ∙ now
-came_from wanted status other (inr want) now differs = absurd (differs (sym now ∙ want))
 
 names_words : (e : SessionEnd) → status_of e ≢ BadWords
 names_words end.Done is = cc is

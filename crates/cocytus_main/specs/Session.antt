@@ -1,5 +1,5 @@
 -- What comes of the command `session`.
-use Rattle.std.specs.Prelude.{ℕ, ◌≡◌, ◌⊎◌, [], Option}
+use Rattle.std.specs.Prelude.{ℕ, ◌≡◌, ◌⊎◌, ◌≤◌, [], Option}
 use Rattle.group_types.specs.Dimensions.{Dimensions}
 use Rattle.group_types.specs.Shape.{IsShape, IsFirstOutOfRange}
 use Rattle.group_types.specs.declared.shape.Field.{Field}
@@ -33,6 +33,7 @@ pub record HasServed (s : Dimensions) (moment : Option ℕ) (before now : Outsid
   pub middle : Outside
   pub ended : HasEnded s moment before.left middle.left before.held middle.held end
   pub kept : now.left ≡ middle.left
+  pub later : before.writes ≤ middle.writes
   pub told : HasTold (status_of end) middle now status
 
 -- a session was asked with these numbers: the first that is out of range is told, or a connection is served

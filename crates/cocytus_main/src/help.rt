@@ -1,4 +1,6 @@
+use group_types::BadShape;
 use scenario_play::Status;
+use std::alloc::{AllocError, Global};
 
 const COMMANDS: &str = "usage: cocytus_main play < SCRIPT
        cocytus_main session <k> <m> <blocks> <block>
@@ -25,19 +27,15 @@ stop
 A process is d<n> or p<n>; a value is -, hexadecimal digits, or *<len>*<hh>.
 ";
 
-const SHAPES: &str = "expected k from 1 to 16, m from 0 to 4, block a power of two from 16 to 65536,
-and at least one of blocks, with blocks * block at most 67108864
-";
-
 const LENGTH: &str = "a script has at most 16777216 bytes\n";
 
 /// What a person is told beside the last line: what was expected there.
-pub(crate) fn help_at(status: Status) -> &'static str {
+pub(crate) fn help_at(alloc: Global, status: Status) -> Result<String, AllocError> {
     match status {
-        Status::BadWords => COMMANDS,
-        Status::BadLine(_) => LINES,
-        Status::BadShape(_) => SHAPES,
-        Status::TooLong => LENGTH,
-        _ => "",
+        Status::BadWords => COMMANDS.to_string(alloc),
+        Status::BadLine(_) => LINES.to_string(alloc),
+        Status::BadShape(field) => format!(in alloc; "{}\n", BadShape { field }),
+        Status::TooLong => LENGTH.to_string(alloc),
+        _ => Ok(String::new(alloc)),
     }
 }

@@ -41,6 +41,8 @@ fn main(rt: HostRuntime) -> ExitCode {
         _ => tell(rt.alloc(), &mut WriteEdge::new(rt.stdout()), Status::Want),
     };
     // What a person is told is no part of the output, and whether it could be written changes nothing.
-    let _ = write_all(&mut WriteEdge::new(rt.stderr()), help_at(status).as_bytes());
+    if let Ok(help) = help_at(rt.alloc(), status) {
+        let _ = write_all(&mut WriteEdge::new(rt.stderr()), help.as_bytes());
+    }
     ExitCode::from(status.number())
 }

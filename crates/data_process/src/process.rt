@@ -225,6 +225,3 @@ impl DataProcess {
         Ok(Step { sent, settled })
     }
 }
-
-#[cfg(test)]
-mod tests;

@@ -10,8 +10,6 @@ mod draining;
 mod failing;
 mod nodes;
 mod reading;
-#[cfg(test)]
-mod tests;
 mod turning;
 mod world;
 

@@ -10,8 +10,6 @@ mod node;
 mod process;
 mod reading;
 mod sending;
-#[cfg(test)]
-mod tests;
 
 pub use delivery::deliver_between;
 pub use node::{Node, NodeOut};

@@ -15,6 +15,7 @@ use Rattle.scenario_text.specs.declared.line.LineFault.TheVariants as line
 use Rattle.scenario_run.specs.Playing.{Next, Goes, Ends, Refused, Play, next_of}
 use Rattle.scenario_run.specs.Script.{Fault, fault_in, first_fault, text_in, transcript, turns_in}
 use Rattle.scenario_run.proofs.Draining.{line_burden, load-opening}
+use Rattle.scenario_run.proofs.Following.{fault-line, text-line, turns-line}
 use Rattle.scenario_run.proofs.Leading.{IsLedTo, leads-log, led-on, opened}
 use Rattle.scenario_run.proofs.Running.{GoesOn, line-leads, line-opens}
 use Rattle.scenario_play.specs.Ends.{HasDone, HasPlayed, IsLight, log_len}
@@ -87,26 +88,6 @@ refused before (Goes play turns text) now line.BadLine done = absurd done
 refused before (Goes play turns text) now (line.BadShape field) done = absurd done
 refused before Ends now line.BadLine done = absurd done
 refused before Ends now (line.BadShape field) done = absurd done
-
--- what follows a line, by what it does
-abbrev turns_after : Next → List (List ℕ) → List Turn
-turns_after next lines = elim next [ Goes play turns text ↦ turns ++ turns_in play lines | Ends ↦ [] | Refused fault ↦ [] ]
-
-abbrev text_after : Next → List (List ℕ) → List ℕ
-text_after next lines = elim next [ Goes play turns text ↦ text ++ text_in play lines | Ends ↦ [] | Refused fault ↦ [] ]
-
-abbrev fault_after : ℕ → Next → List (List ℕ) → Option Fault
-fault_after n next lines = elim next [ Goes play turns text ↦ fault_in (n + 1) play lines | Ends ↦ None | Refused fault ↦ Some (record { number = n; cause = fault }) ]
-
-pub text-line : (before : Option Play) (bytes : List ℕ) (lines : List (List ℕ)) (next : Next) → next_of before bytes ≡ next → text_in before (bytes ∷ lines) ≡ text_after next lines
-text-line before bytes lines next is = ap (λ (n : Next). text_after n lines) is
-
-pub fault-line : (n : ℕ) (before : Option Play) (bytes : List ℕ) (lines : List (List ℕ)) (next : Next) → next_of before bytes ≡ next → fault_in n before (bytes ∷ lines) ≡ fault_after n next lines
-fault-line n None bytes lines next is = ap (λ (x : Next). fault_after n x lines) is
-fault-line n (Some p) bytes lines next is = ap (λ (x : Next). fault_after n x lines) is
-
-pub turns-line : (before : Option Play) (bytes : List ℕ) (lines : List (List ℕ)) (next : Next) → next_of before bytes ≡ next → turns_in before (bytes ∷ lines) ≡ turns_after next lines
-turns-line before bytes lines next is = ap (λ (n : Next). turns_after n lines) is
 
 -- the group of a script whose next line has the number n: a run led to it, and it made few events
 abbrev pub Stands : ℕ → Option Play → Type 0

@@ -21,17 +21,12 @@ use Rattle.scenario_run.specs.Lines.{lines_of}
 use Rattle.scenario_run.specs.Playing.{Ends, Goes, Next, Play, Refused, next_of, shape_in}
 use Rattle.scenario_run.specs.Promises.{AreTrueLines, IsTrueLine, KeepsPromises, ScriptsKeepPromises}
 use Rattle.scenario_run.specs.Script.{Fault, events_of, fault_in, first_fault, shape_from, shape_of, turns_in, turns_of}
+use Rattle.scenario_run.proofs.Following.{fault_after, fault-line, turns_after, turns-line}
 use Rattle.scenario_run.proofs.Leading.{IsLedTo, Leads, leads-then, led-on, opened}
 use Rattle.scenario_run.proofs.Running.{GoesOn, Opens, line-leads, line-opens, never-ends}
 use Rattle.scenario_run.proofs.Truth.{shows-truth}
 
 -- what follows a line, by what it does
-abbrev turns_after : Next → List (List ℕ) → List Turn
-turns_after next lines = elim next [ Goes play turns text ↦ turns ++ turns_in play lines | Ends ↦ [] | Refused fault ↦ [] ]
-
-abbrev fault_after : ℕ → Next → List (List ℕ) → Option Fault
-fault_after n next lines = elim next [ Goes play turns text ↦ fault_in (n + 1) play lines | Ends ↦ None | Refused fault ↦ Some (record { number = n; cause = fault }) ]
-
 abbrev TrueAfter : Next → List (List ℕ) → Type 0
 TrueAfter next lines = elim next [ Goes play turns text ↦ AreTrueLines play lines | Ends ↦ Unit {0} | Refused fault ↦ Unit {0} ]
 

@@ -18,6 +18,23 @@ fn an_update_reaches_the_space_and_a_copy(rt: HostRuntime) -> Result<(), Fail> {
     Ok(())
 }
 
+#[test]
+fn keeps_no_value_beside_its_parts(rt: HostRuntime) -> Result<(), Fail> {
+    let ParityBytes {
+        shape,
+        number,
+        space,
+        rows,
+        sessions,
+    } = two_blocks(rt.alloc())?;
+    let _: Shape = shape;
+    let _: u32 = number;
+    let _: ParitySpace = space;
+    let _: Rows = rows;
+    let _: Sessions = sessions;
+    Ok(())
+}
+
 fn two_blocks(alloc: Global) -> Result<ParityBytes, Fail>
     ensures { IfOk result (λ bytes. bytes.shape ≡ record { k = 2; m = 1; blocks = 2; block = 16 }) }
 {

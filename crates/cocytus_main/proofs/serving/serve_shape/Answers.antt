@@ -16,5 +16,6 @@ returns-clause-served g c =
       middle = served;
       ended = c.session-end.ensures.ended;
       kept = refl;
+      later = c.session-end.ensures.later;
       told = tells c.tell.ensures.status c.tell.ensures.line c.tell.ensures.front;
     }

@@ -6,7 +6,8 @@ use Rattle.scenario_run.specs.Playing.{Ends, Goes, Play, next_of}
 use Rattle.group_calls.specs.Turns.{Turn, log_of}
 use Rattle.scenario_run.specs.Script.{fault_in, text_in, transcript, turns_in}
 use Rattle.scenario_play.specs.Ends.{log_len}
-use Rattle.scenario_play.proofs.Lines.{Left, Stopped, Went, Written, Written-all, Written-more, Written-part, ended, fault-line, left, line-refused, logged-on, part-played, stopped, text-line, went}
+use Rattle.scenario_run.proofs.Following.{fault-line, text-line}
+use Rattle.scenario_play.proofs.Lines.{Left, Stopped, Went, Written, Written-all, Written-more, Written-part, ended, left, line-refused, logged-on, part-played, stopped, went}
 use Rattle.scenario_play.proofs.play.play_lines.Goals as goal
 
 pub lines-preserved : goal.lines-preserved

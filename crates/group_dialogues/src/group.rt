@@ -1,82 +1,47 @@
 // Whole runs, event by event: what is answered, and how many entries are logged.
-use crate::world::World;
+mod heads;
+mod rows;
+mod sessions;
+
 use group_calls::{Answer, Cause, Event, Out};
+use group_core::World;
 use group_types::{Key, Partition, Payload, ProcessId, Run, Shape};
+use heads::{A_LATE_UPDATE, THE_OTHER_HAD_MORE};
 use memc_table::{Act, Op, Reply};
+use rows::{
+    A_DATA_PROCESS_DIES, A_SET_AND_ITS_DELIVERY, FIRST, KEPT, PARITY, Row, SECOND,
+    THE_PARITY_PROCESS_DIES, TWO_SETS, What,
+};
+use sessions::{
+    A_COPY_OF_A_CEASED_SESSION, A_MARK_BETWEEN_TWO_UPDATES, A_SESSION_LOSES_ITS_OTHER_BLOCK,
+    BOTH_BLOCKS_ARE_LOST, BOTH_SET,
+};
 use std::alloc::{AllocError, Global};
 use std::test::Fail;
-
-const FIRST: ProcessId = ProcessId::DataNode(0);
-
-const SECOND: ProcessId = ProcessId::DataNode(1);
-
-const PARITY: ProcessId = ProcessId::ParityNode(0);
-
-// What happens at a process: a caller's set or get, the collect of a caller's call, a delivery from another
-// process, or a failure that keeps this many messages.
-#[derive(Clone, Copy)]
-enum What {
-    Set(u32, &'static str, &'static str),
-    Get(u32, &'static str),
-    Collect(u32, u64),
-    From(ProcessId),
-    Fail(u32),
-}
-
-// What happens, where, the answer, and how many entries are logged.
-type Row = (What, ProcessId, &'static str, u64);
-
-const A_SET_AND_ITS_DELIVERY: [Row; 10] = [
-    (What::Set(0, "a", "1"), FIRST, "ticket 1", 0),
-    (What::Set(1, "a", "2"), FIRST, "pending 1", 0),
-    (What::Get(1, "a"), FIRST, "miss", 1),
-    (What::Collect(0, 0), FIRST, "not yet", 0),
-    (What::From(FIRST), PARITY, "done", 0),
-    (What::From(PARITY), FIRST, "done", 1),
-    (What::Collect(0, 0), FIRST, "stored", 0),
-    (What::Collect(0, 0), FIRST, "stranger", 0),
-    (What::From(FIRST), PARITY, "idle", 0),
-    (What::Set(1, "a", "2"), FIRST, "ticket 2", 0),
-];
-
-const THE_PARITY_PROCESS_DIES: [Row; 9] = [
-    (What::Set(0, "a", "1"), FIRST, "ticket 1", 0),
-    (What::Fail(0), PARITY, "done", 0),
-    (What::From(PARITY), FIRST, "done", 1),
-    (What::Set(0, "b", "2"), FIRST, "stored", 1),
-    (What::Fail(0), PARITY, "already dead", 0),
-    (What::Fail(0), FIRST, "done", 0),
-    (What::Get(0, "a"), FIRST, "down", 0),
-    (What::Collect(0, 0), FIRST, "down", 0),
-    (What::From(FIRST), PARITY, "down", 0),
-];
-
-const A_DATA_PROCESS_DIES: [Row; 11] = [
-    (What::Set(0, "a", "A"), FIRST, "ticket 1", 0),
-    (What::Fail(9), FIRST, "done", 0),
-    (What::From(FIRST), SECOND, "done", 0),
-    (What::From(FIRST), PARITY, "done", 0),
-    (What::From(FIRST), PARITY, "done", 1),
-    (What::Collect(0, 0), FIRST, "lost", 0),
-    (What::Get(1, "a"), PARITY, "block 0", 0),
-    (What::From(PARITY), SECOND, "done", 0),
-    (What::From(SECOND), PARITY, "done", 0),
-    (What::From(SECOND), PARITY, "done", 0),
-    (What::Get(1, "a"), PARITY, "value", 1),
-];
 
 #[test]
 fn a_set_is_logged_once_it_is_acknowledged(rt: HostRuntime) -> Result<(), Fail> {
     let mut world = World::new(rt.alloc(), Shape::new(1, 1, 1, 16)?)?;
     assert!(rt; all_answer(rt.alloc(), &mut world, &A_SET_AND_ITS_DELIVERY)?);
-    assert!(rt; shows(&world, FIRST, &[1], b"1")? && shows(&world, PARITY, &[0], b"\0")?);
+    assert!(rt; shows(&world, FIRST, &[1], b"1")? && shows(&world, PARITY, &[1], b"1")?);
     Ok(())
 }
 
 #[test]
 fn without_parity_processes_an_update_is_settled_at_once(rt: HostRuntime) -> Result<(), Fail> {
-    let mut world = World::new(rt.alloc(), Shape::new(1, 1, 1, 16)?)?;
-    assert!(rt; all_answer(rt.alloc(), &mut world, &THE_PARITY_PROCESS_DIES)?);
+    assert!(rt; plays(rt.alloc(), 1, 1, &[&THE_PARITY_PROCESS_DIES])?);
+    Ok(())
+}
+
+#[test]
+fn the_first_messages_are_kept_before_the_notice(rt: HostRuntime) -> Result<(), Fail> {
+    for row in KEPT {
+        assert!(rt;
+            comes_to_the_parity_process(rt.alloc(), row)?,
+            "where {} are kept",
+            row.0
+        );
+    }
     Ok(())
 }
 
@@ -86,6 +51,78 @@ fn a_parity_process_takes_over(rt: HostRuntime) -> Result<(), Fail> {
     assert!(rt; all_answer(rt.alloc(), &mut world, &A_DATA_PROCESS_DIES)?);
     assert!(rt; shows(&world, SECOND, &[0], b"\0")? && shows(&world, PARITY, &[1, 0], b"A")?);
     Ok(())
+}
+
+#[test]
+fn a_call_is_gone_once_the_other_has_adopted_the_log(rt: HostRuntime) -> Result<(), Fail> {
+    assert!(rt; plays(rt.alloc(), 1, 2, &[&THE_OTHER_HAD_MORE])?);
+    Ok(())
+}
+
+#[test]
+fn what_a_head_before_sent_is_dropped(rt: HostRuntime) -> Result<(), Fail> {
+    assert!(rt; plays(rt.alloc(), 1, 2, &[&A_LATE_UPDATE])?);
+    Ok(())
+}
+
+#[test]
+fn two_lost_blocks_are_rebuilt_from_two_rows(rt: HostRuntime) -> Result<(), Fail> {
+    assert!(rt; plays(rt.alloc(), 2, 2, &[&BOTH_SET, &BOTH_BLOCKS_ARE_LOST])?);
+    Ok(())
+}
+
+#[test]
+fn a_session_that_loses_a_block_is_begun_anew(rt: HostRuntime) -> Result<(), Fail> {
+    assert!(rt;
+        plays(
+            rt.alloc(),
+            2,
+            2,
+            &[&BOTH_SET, &A_SESSION_LOSES_ITS_OTHER_BLOCK]
+        )?
+    );
+    Ok(())
+}
+
+#[test]
+fn a_mark_between_two_updates_takes_the_first(rt: HostRuntime) -> Result<(), Fail> {
+    assert!(rt; plays(rt.alloc(), 2, 2, &[&BOTH_SET, &A_MARK_BETWEEN_TWO_UPDATES])?);
+    Ok(())
+}
+
+#[test]
+fn a_copy_of_a_ceased_session_is_forgotten(rt: HostRuntime) -> Result<(), Fail> {
+    assert!(rt; plays(rt.alloc(), 3, 3, &[&A_COPY_OF_A_CEASED_SESSION])?);
+    Ok(())
+}
+
+// Whether each row is answered so, in a fresh group whose spaces have four blocks of 16 bytes.
+fn plays(alloc: Global, k: u32, m: u32, lists: &[&[Row]]) -> Result<bool, Fail> {
+    let mut world = World::new(alloc, Shape::new(k, m, 4, 16)?)?;
+    'lists: for rows in lists {
+        if !all_answer(alloc, &mut world, rows)? {
+            return Ok(false);
+        }
+    }
+    Ok(true)
+}
+
+// Whether the parity process inherits so many updates with the notice, and nothing comes behind it.
+fn comes_to_the_parity_process(alloc: Global, row: (u32, u64)) -> Result<bool, Fail> {
+    let (keep, kept) = row;
+    let mut world = World::new(alloc, Shape::new(1, 1, 1, 16)?)?;
+    let set = all_answer(alloc, &mut world, &TWO_SETS)?;
+    let mut comes = happens(alloc, &mut world, &(What::Fail(keep), FIRST, "done", 0))? && set;
+    'updates: for _ in 0..kept {
+        comes = happens(alloc, &mut world, &(What::From(FIRST), PARITY, "done", 0))? && comes;
+    }
+    let notice = happens(
+        alloc,
+        &mut world,
+        &(What::From(FIRST), PARITY, "done", kept),
+    )?;
+    let idle = happens(alloc, &mut world, &(What::From(FIRST), PARITY, "idle", 0))?;
+    Ok(comes && notice && idle)
 }
 
 // Whether each row is answered so.
@@ -136,12 +173,23 @@ fn event(alloc: Global, what: What, at: ProcessId) -> Result<Event, Fail> {
             let act = set(alloc, key, value)?;
             Ok(ask(caller, act, at))
         }
+        What::Touch(caller, key) => {
+            let key = Key::read(alloc, key.as_bytes())?;
+            Ok(ask(caller, Act::Touch { key, expiry: 0 }, at))
+        }
         What::Get(caller, key) => {
             let key = Key::read(alloc, key.as_bytes())?;
             Ok(ask(caller, Act::Get { key }, at))
         }
         What::Collect(caller, call) => Ok(Event::Collect { caller, call, at }),
+        What::Trace(caller, call) => Ok(Event::Trace {
+            caller,
+            call,
+            partition: Partition(0),
+            at,
+        }),
         What::From(from) => Ok(Event::Deliver { from, to: at }),
+        What::Flush => Ok(Event::Flush { at }),
         What::Fail(keep) => Ok(Event::Fail { at, keep }),
     }
 }
@@ -175,6 +223,7 @@ fn word(answer: &Answer) -> &str {
         Answer::Moved => "moved",
         Answer::Lost => "lost",
         Answer::Down => "down",
+        Answer::Gone => "gone",
         Answer::Idle => "idle",
         Answer::Stranger => "stranger",
         Answer::Done => "done",
@@ -197,6 +246,7 @@ fn cause_word(cause: &Cause) -> &str {
 fn reply_word(reply: &Reply) -> &str {
     match reply {
         Reply::Stored => "stored",
+        Reply::Touched => "touched",
         Reply::Miss => "miss",
         Reply::Value(item) if item.value.bytes() == b"A".as_slice() => "value",
         _ => "other",

@@ -1,9 +1,10 @@
+// A data process beside two parity processes.
 ghost use Rattle.std.specs.Prelude.{◌≡◌, ◌<◌, ◌^◌, ℕ, All, IfOk};
 ghost use Rattle.group_run.specs.Replica.{last_of};
 ghost use Rattle.group_types.specs.declared.process.ProcessId.TheVariants.{ParityNode};
 ghost use Rattle.data_process.specs.Steps.{ComesToData};
 
-use super::DataProcess;
+use data_process::DataProcess;
 use group_calls::Answer;
 use group_message::{Message, RowList, Session};
 use group_types::{Key, Partition, Payload, ProcessId, Rank, Run, Shape};
@@ -31,11 +32,18 @@ const ROWS: [Row; 5] = [
     (Turn::Flush, &[("stable", 0, 0), ("stable", 1, 0)], 0),
     (Turn::Acked(0, 1), &[], 0),
     (Turn::Acked(1, 1), &[], 1),
-    (Turn::Read, &[("block", 1, 1), ("mark", 0, 1)], 0),
+    (
+        Turn::Read,
+        &[("block", 1, 1), ("mark", 0, 1), ("mark", 1, 1)],
+        0,
+    ),
     (Turn::Flush, &[("stable", 0, 1), ("stable", 1, 1)], 0),
 ];
 
 const ROWS_OF_A_DEATH: [Row; 2] = [(Turn::Acked(0, 1), &[], 0), (Turn::Died(1), &[], 1)];
+
+// A value of more than one block.
+const CART: &[u8] = b"two apples and a pear";
 
 const CALL: Call = Call {
     caller: 3,
@@ -51,7 +59,7 @@ fn a_set_settles_once_both_have_acknowledged_it(rt: HostRuntime) -> Result<(), F
     }
     assert!(rt; desk.has_settled());
     assert!(rt; desk.collects("stored") && desk.collects("other"));
-    assert!(rt; desk.holds(b"cart")? && desk.shows_cart()?);
+    assert!(rt; desk.holds_cart()? && desk.shows_cart()?);
     Ok(())
 }
 
@@ -160,7 +168,7 @@ impl Desk {
                 number: 5,
             },
             block: 0,
-            rows: RowList::from(Vec::from_slice(self.alloc, &[0])?),
+            rows: RowList::from(Vec::from_slice(self.alloc, &[0, 1])?),
         };
         self.takes(1, &message, lines, settled)
     }
@@ -184,13 +192,13 @@ impl Desk {
         Ok(are(&sent, lines))
     }
 
-    // Whether the first update of partition 0 is settled, over one page.
+    // Whether the first update of partition 0 is settled, over two pages.
     fn has_settled(&self) -> bool {
         let fate = self.process.fate(CALL.caller, CALL.number, Partition(0));
         word(&fate) == "stored"
             && self.process.name() == ProcessId::DataNode(0)
             && self.process.stamp() == 1
-            && self.process.made() == 1
+            && self.process.made() == 2
     }
 
     fn collects(&mut self, answer: &str) -> bool {
@@ -205,10 +213,10 @@ impl Desk {
         Ok(self.asks(&op, "cart", &[])?)
     }
 
-    // Whether these are the first four bytes of the space.
-    fn holds(&self, bytes: &[u8]) -> Result<bool, AllocError> {
-        let found = self.process.bytes(Run { at: 0, len: 4 })?;
-        Ok(found.bytes() == bytes)
+    // Whether the value stands at the start of the space.
+    fn holds_cart(&self) -> Result<bool, AllocError> {
+        let found = self.process.bytes(Run { at: 0, len: 21 })?;
+        Ok(found.bytes() == CART)
     }
 }
 
@@ -217,7 +225,7 @@ fn set(alloc: Global) -> Result<Op, Fail> {
         key: Key::read(alloc, b"a")?,
         flags: 0,
         expiry: 0,
-        value: Payload::of(alloc, b"cart")?,
+        value: Payload::of(alloc, CART)?,
     };
     Ok(Op::new(100, act))
 }
@@ -232,7 +240,7 @@ fn word(answer: &Answer) -> &str {
         Answer::Ticket(1) => "ticket",
         Answer::Reply(Reply::Miss) => "miss",
         Answer::Reply(Reply::Stored) => "stored",
-        Answer::Reply(Reply::Value(item)) if item.value.bytes() == b"cart".as_slice() => "cart",
+        Answer::Reply(Reply::Value(item)) if item.value.bytes() == CART => "cart",
         _ => "other",
     }
 }
@@ -255,7 +263,7 @@ fn line_of(sent: &Sent) -> Line {
     match &sent.message {
         Message::Update { update, .. } => ("update", to, update.number),
         Message::Stable { number, .. } => ("stable", to, *number),
-        Message::Block { bytes, number, .. } if bytes.bytes().starts_with(b"cart\0") => {
+        Message::Block { bytes, number, .. } if bytes.bytes() == b"two apples and a".as_slice() => {
             ("block", to, *number)
         }
         Message::Mark { number, .. } => ("mark", to, *number),
