@@ -1,4 +1,6 @@
-ghost use Rattle.std.specs.Prelude.{◌≡◌, ◌<◌, true, IfOk};
+ghost use Rattle.std.specs.Prelude.{◌≡◌, ◌<◌, true, Contains, IfOk, Some, None, length};
+ghost use Rattle.group_types.specs.Dimensions.{Dimensions};
+ghost use Rattle.group_types.specs.Lists.{put};
 ghost use Rattle.group_run.specs.Leaders.{is_complete};
 ghost use Rattle.block_sessions.specs.Opened.{AreLost, IsDecoded, IsOpen, gathering_of, known_of, new_session};
 
@@ -43,6 +45,26 @@ impl OpenSession {
             out: PieceList::new(alloc, &lost, shape.block())?,
             lost,
         })
+    }
+
+    /// A block of data process `d` comes in. It takes no memory.
+    pub(crate) fn block(&mut self, d: u32, bytes: &[u8])
+        requires awaited { Contains self.old.known.numbers d }
+        requires whole { length bytes.now ≡ self.old.known.block }
+        ensures gathering { gathering_of self.new ≡ record (gathering_of self.old) { blocks_in = put None self.old.known.parts d (Some bytes.now) } }
+        ensures sound { (s : Dimensions) → IsOpen s self.old → IsOpen s self.new }
+    {
+        self.known.put(d, bytes);
+    }
+
+    /// A block of row `i`'s code comes in. It takes no memory.
+    pub(crate) fn row(&mut self, i: u32, bytes: &[u8])
+        requires awaited { Contains self.old.coded.numbers i }
+        requires whole { length bytes.now ≡ self.old.coded.block }
+        ensures gathering { gathering_of self.new ≡ record (gathering_of self.old) { rows_in = put None self.old.coded.parts i (Some bytes.now) } }
+        ensures sound { (s : Dimensions) → IsOpen s self.old → IsOpen s self.new }
+    {
+        self.coded.put(i, bytes);
     }
 
     /// Whether all is in.

@@ -2,7 +2,7 @@ ghost use Rattle.std.specs.Prelude.{◌≡◌, ℕ, ◌-◌, ◌<◌, ◌==◌, 
 ghost use Rattle.std.specs.List.{list_any, position, slice_index_or};
 ghost use Rattle.group_run.specs.Fitting.{Writes};
 ghost use Rattle.group_run.specs.Leaders.{block_gathered, gathered, is_complete, open_session, row_gathered, with_decoded};
-ghost use Rattle.group_run.specs.Process.{LeaderState, no_leader_state};
+ghost use Rattle.group_run.specs.Process.{Gathering, LeaderState, no_leader_state};
 ghost use Rattle.block_sessions.specs.Leading.{AreParts, holding, state_of};
 ghost use Rattle.block_sessions.specs.Opened.{AreLost, IsOpen, gathering_of};
 ghost use Rattle.block_sessions.specs.Rebuilt.{AreRebuilt};
@@ -25,8 +25,8 @@ impl Sessions {
         ensures partitions { length self.new.state.rebuilt ≡ length self.old.state.rebuilt }
     {
         if let Some(place) = place_of(&self.sessions, number) {
-            self.sessions[place].known.put(d, bytes.bytes());
-            gather(self.shape, &mut self.sessions, place, &mut self.rebuilt);
+            self.sessions[place].block(d, bytes.bytes());
+            self.gather(place);
         }
     }
 
@@ -40,8 +40,21 @@ impl Sessions {
         ensures partitions { length self.new.state.rebuilt ≡ length self.old.state.rebuilt }
     {
         if let Some(place) = place_of(&self.sessions, number) {
-            self.sessions[place].coded.put(i, bytes);
-            gather(self.shape, &mut self.sessions, place, &mut self.rebuilt);
+            self.sessions[place].row(i, bytes);
+            self.gather(place);
+        }
+    }
+
+    // Something came in for the session at this place: once all is in, it is decoded and closed.
+    fn gather(&mut self, place: usize)
+        requires { place < length self.old.state.sessions }
+        ensures shape { self.new.shape ≡ self.old.shape }
+        ensures state { (g : Gathering) → self.new.state ≡ gathered self.old.shape (slice_index_or self.old.state.sessions place g) self.old.state }
+        ensures partitions { length self.new.state.rebuilt ≡ length self.old.state.rebuilt }
+    {
+        if self.sessions[place].is_complete(self.shape) {
+            let session = self.sessions.remove(place);
+            keep_all(self.shape, session, &mut self.rebuilt);
         }
     }
 }
@@ -51,22 +64,6 @@ fn place_of(sessions: &[OpenSession], number: u64) -> Option<usize>
     ensures { result ≡ position (λ g. g.number == number) sessions.now }
 {
     sessions.iter().position(|session| session.number == number)
-}
-
-// Something came in for the session at this place: once all is in, it is decoded and closed.
-fn gather(shape: Shape, sessions: &mut Vec<OpenSession>, place: usize, rebuilt: &mut [Pages])
-    requires place { place < length sessions.old.items }
-    requires sound { All (IsOpen shape) sessions.old.items }
-    requires rising { AllPairs (λ g h. g.number < h.number) sessions.old.items }
-    requires rebuilt { AreRebuilt shape (length sessions.old.items) rebuilt.old }
-    ensures state { (d : OpenSession) (last : ℕ) → state_of sessions.new.items last rebuilt.new
-        ≡ gathered shape (gathering_of (slice_index_or sessions.old.items place d)) (state_of sessions.old.items last rebuilt.old) }
-    ensures parts { (last : ℕ) → AreParts shape sessions.old.items last rebuilt.old → AreParts shape sessions.new.items last rebuilt.new }
-{
-    if sessions[place].is_complete(shape) {
-        let session = sessions.remove(place);
-        keep_all(shape, session, rebuilt);
-    }
 }
 
 // Decodes the blocks that a session gives, and keeps those that weren't rebuilt before.
