@@ -1,5 +1,5 @@
 -- The place of the only element of a list that has a number.
-use Rattle.std.proofs.Common.{◌≡◌, ◌≢◌, ℕ, zero, suc, ◌<◌, ◌==◌, not, List, [], ◌∷◌, length, map, set, get_or, filter, find, Some, refl, sym, ap, ap₂, ◌∙◌, eq-eqb, ne_eqb, arith}
+use Rattle.std.proofs.Common.{◌≡◌, ◌≢◌, ℕ, zero, suc, ◌<◌, ◌==◌, not, List, [], ◌∷◌, length, map, set, get_or, filter, refl, sym, ap, ap₂, ◌∙◌, eq-eqb, ne_eqb, arith}
 use Rattle.std.specs.Prelude.{if◌then◌else◌}
 use Rattle.std.specs.List.{remove}
 

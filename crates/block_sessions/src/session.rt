@@ -6,7 +6,7 @@ ghost use Rattle.block_sessions.specs.Opened.{AreLost, IsDecoded, IsOpen, gather
 
 use crate::arrivals::Arrivals;
 use cauchy_code::decode;
-use group_types::{PieceList, Shape};
+use group_types::{ByteList, PieceList, Shape};
 use std::alloc::{AllocError, Global};
 
 /// An open session: what came in of the known partitions' blocks and of the rows, and where the
@@ -48,13 +48,13 @@ impl OpenSession {
     }
 
     /// A block of data process `d` comes in. It takes no memory.
-    pub(crate) fn block(&mut self, d: u32, bytes: &[u8])
+    pub(crate) fn block(&mut self, d: u32, bytes: &ByteList)
         requires awaited { Contains self.old.known.numbers d }
         requires whole { length bytes.now ≡ self.old.known.block }
         ensures gathering { gathering_of self.new ≡ record (gathering_of self.old) { blocks_in = put None self.old.known.parts d (Some bytes.now) } }
         ensures sound { (s : Dimensions) → IsOpen s self.old → IsOpen s self.new }
     {
-        self.known.put(d, bytes);
+        self.known.put(d, bytes.bytes());
     }
 
     /// A block of row `i`'s code comes in. It takes no memory.

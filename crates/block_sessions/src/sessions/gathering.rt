@@ -1,5 +1,5 @@
-ghost use Rattle.std.specs.Prelude.{◌≡◌, ℕ, ◌-◌, ◌<◌, ◌==◌, true, false, All, AllPairs, Contains, IfOk, IfSome, length};
-ghost use Rattle.std.specs.List.{list_any, position, slice_index_or};
+ghost use Rattle.std.specs.Prelude.{◌≡◌, ℕ, ◌-◌, ◌<◌, ◌==◌, true, false, All, AllPairs, Contains, IfOk, IfSome, length, option_and_then};
+ghost use Rattle.std.specs.List.{list_any, slice_get, slice_index_or};
 ghost use Rattle.group_run.specs.Fitting.{Writes};
 ghost use Rattle.group_run.specs.Leaders.{block_gathered, gathered, is_complete, open_session, row_gathered, with_decoded};
 ghost use Rattle.group_run.specs.Process.{Gathering, LeaderState, no_leader_state};
@@ -24,8 +24,8 @@ impl Sessions {
         ensures state { self.new.state ≡ block_gathered self.old.shape d bytes.now (open_session self.old.state number) self.old.state }
         ensures partitions { length self.new.state.rebuilt ≡ length self.old.state.rebuilt }
     {
-        if let Some(place) = place_of(&self.sessions, number) {
-            self.sessions[place].block(d, bytes.bytes());
+        if let Some(place) = self.place_of(number) {
+            self.sessions[place].block(d, bytes);
             self.gather(place);
         }
     }
@@ -39,10 +39,20 @@ impl Sessions {
         ensures state { self.new.state ≡ row_gathered self.old.shape i bytes.now (open_session self.old.state number) self.old.state }
         ensures partitions { length self.new.state.rebuilt ≡ length self.old.state.rebuilt }
     {
-        if let Some(place) = place_of(&self.sessions, number) {
+        if let Some(place) = self.place_of(number) {
             self.sessions[place].row(i, bytes);
             self.gather(place);
         }
+    }
+
+    // The place of the session of this number.
+    fn place_of(&self, number: u64) -> Option<usize>
+        ensures found { open_session self.now.state number ≡ option_and_then (slice_get self.now.state.sessions) result }
+        ensures within { IfSome result (λ place. place < length self.now.state.sessions) }
+    {
+        self.sessions
+            .iter()
+            .position(|session| session.number == number)
     }
 
     // Something came in for the session at this place: once all is in, it is decoded and closed.
@@ -57,13 +67,6 @@ impl Sessions {
             keep_all(self.shape, session, &mut self.rebuilt);
         }
     }
-}
-
-// The place of the session of this number.
-fn place_of(sessions: &[OpenSession], number: u64) -> Option<usize>
-    ensures { result ≡ position (λ g. g.number == number) sessions.now }
-{
-    sessions.iter().position(|session| session.number == number)
 }
 
 // Decodes the blocks that a session gives, and keeps those that weren't rebuilt before.
