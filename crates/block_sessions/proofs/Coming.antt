@@ -56,9 +56,9 @@ module _ {l : Leading} {s : Dimensions} {last place : ℕ} {sessions : List Open
     alike : g.number ≡ x.number
     alike = ap (λ (y : Gathering). y.number) becomes ∙ same
 
-    pub parts_more : IsOpen s g → AreParts s (set sessions place g) last pages
+    pub parts_more : ((t : Dimensions) → IsOpen t x → IsOpen t g) → AreParts s (set sessions place g) last pages
     parts_more sound = record {
-      opened = sessions_with s sessions place g x below last parts.opened sound (alike ∙ ap (λ (y : OpenSession). y.number) is);
+      opened = sessions_with s sessions place g x below last parts.opened (sound s sound_there) (alike ∙ ap (λ (y : OpenSession). y.number) is);
       rebuilt = subst (λ n. AreRebuilt s n pages) (sym (length-set sessions place g)) parts.rebuilt;
     }
 

@@ -2,7 +2,7 @@ use Rattle.std.proofs.Common.{Option, IfSome, Contains, refl, ap, sym, subst, �
 use Rattle.group_run.specs.Leaders.{row_gathered}
 use Rattle.group_run.specs.Process.{Gathering}
 use Rattle.block_sessions.specs.Opened.{gathering_of}
-use Rattle.block_sessions.proofs.Coming.{gathered_more, open_is, parts_more, sound_there}
+use Rattle.block_sessions.proofs.Coming.{gathered_more, open_is, parts_more}
 use Rattle.block_sessions.proofs.sessions.Sessions.row.Goals as goal
 
 pub row-requires-clause-awaited : goal.row-requires-clause-awaited
@@ -11,9 +11,7 @@ row-requires-clause-awaited c =
     subst (λ (o : Option Gathering). IfSome o (λ g. Contains g.rows c.args.i)) opened c.requires.awaited
 
 pub invariant_of-self : goal.invariant_of-self
-invariant_of-self c =
-    let sound = sound_there c.self.view_is c.self.invariant c.in-Some.ensures.within c.index_mut.ensures.value in
-    parts_more c.self.view_is c.self.invariant c.in-Some.ensures.within c.index_mut.ensures.value c.row.new.self c.row.ensures.gathering refl (c.row.ensures.sound c.self.inside.shape sound)
+invariant_of-self c = parts_more c.self.view_is c.self.invariant c.in-Some.ensures.within c.index_mut.ensures.value c.row.new.self c.row.ensures.gathering refl c.row.ensures.sound
 
 pub returns-in-Some-clause-state : goal.returns-in-Some-clause-state
 returns-in-Some-clause-state c =
