@@ -80,10 +80,15 @@ fn keep_all(shape: Shape, session: OpenSession, rebuilt: &mut [Pages])
 {
     let mut session = session;
     session.decode(shape);
-    'lost: for at in 0..session.lost.len() {
-        let l = session.lost[at];
-        let bytes = session.out.take(l);
-        keep(shape, session.block, bytes, &mut rebuilt[l as usize]);
+    let OpenSession {
+        block,
+        lost,
+        mut out,
+        ..
+    } = session;
+    'pieces: for at in 0..lost.len() {
+        let l = lost[at];
+        keep(shape, block, out.take(l), &mut rebuilt[l as usize]);
     }
 }
 
