@@ -21,10 +21,12 @@ abbrev number_of : Gathering → ℕ
 number_of g = g.number
 
 -- a place of what the machine has
-pub inside : {l : Leading} {s : Dimensions} {sessions : List OpenSession} {last place : ℕ} {pages : List Contents} → record { shape = s; state = state_of sessions last pages } ≡ l → AreParts s sessions last pages → place < length l.state.sessions → place < length sessions
+pub inside : {l : Leading} {s : Dimensions} {sessions : List OpenSession} {last place : ℕ} {pages : List Contents} → record { shape = s; state = state_of sessions last pages } ≡ l
+    → AreParts s sessions last pages → place < length l.state.sessions → place < length sessions
 inside {l} {s} {sessions} view parts within = omega (arith, within, length-map sessions gathering_of, ap (λ (m : Leading). length m.state.sessions) view)
 
-module _ (sessions : List OpenSession) (place : ℕ) (x : OpenSession) (below : place < length sessions) (is : x ≡ get_or sessions place x) (rising : AllPairs (λ g h. g.number < h.number) sessions) where
+module _ (sessions : List OpenSession) (place : ℕ) (x : OpenSession) (below : place < length sessions) (is : x ≡ get_or sessions place x)
+    (rising : AllPairs (λ g h. g.number < h.number) sessions) where
   same_at : (j : ℕ) → j < length sessions → number_of (get_or (map gathering_of sessions) j (gathering_of x)) ≡ (get_or sessions j x).number
   same_at j less = ap number_of (get_or-map gathering_of sessions j x (gathering_of x) less)
 

@@ -24,7 +24,8 @@ same_place number [] = refl
 same_place number (g ∷ gs) = ap (λ n. if not (g.number == number) then 1 + n else 0) (same_place number gs)
 
 -- the machine's session of a number is the one at the first place that has it
-pub found_at : (number : ℕ) (sessions : List OpenSession) → find (λ g. g.number == number) (map gathering_of sessions) ≡ option_and_then (slice_get (map gathering_of sessions)) (position (has_number number) sessions)
+pub found_at : (number : ℕ) (sessions : List OpenSession) → find (λ g. g.number == number) (map gathering_of sessions)
+    ≡ option_and_then (slice_get (map gathering_of sessions)) (position (has_number number) sessions)
 found_at number sessions =
     let n = position_or_len (has_number number) sessions in
     find_at (λ (g : Gathering). g.number == number) (map gathering_of sessions)
@@ -36,8 +37,8 @@ found_at number sessions =
     ])
 
 -- an open session, which stands at a place of what a leader keeps
-module _ {l : Leading} {s : Dimensions} {last place : ℕ} {sessions : List OpenSession} {pages : List Contents} {x : OpenSession} (view : record { shape = s; state = state_of sessions last pages } ≡ l) (parts : AreParts s sessions last pages)
-    (within : place < length l.state.sessions) (is : x ≡ get_or sessions place x) where
+module _ {l : Leading} {s : Dimensions} {last place : ℕ} {sessions : List OpenSession} {pages : List Contents} {x : OpenSession}
+    (view : record { shape = s; state = state_of sessions last pages } ≡ l) (parts : AreParts s sessions last pages) (within : place < length l.state.sessions) (is : x ≡ get_or sessions place x) where
   below : place < length sessions
   below = inside view parts within
 

@@ -40,4 +40,5 @@ returns-else-is_complete-clause-state c = λ g.
     let sessions = c.self.inside.sessions.items in
     let below = inside c.self.view_is c.self.invariant c.requires in
     subst (λ (l : Leading). l.state ≡ gathered l.shape (get_or l.state.sessions c.args.place g) l.state) c.self.view_is
-    (waits_on sessions c.args.place c.index.result.now below c.index.ensures c.self.invariant.opened.rising c.self.inside.shape c.self.inside.last c.self.inside.rebuilt.items g (sym c.is_complete.ensures ∙ c.if-is_complete.false))
+    (waits_on sessions c.args.place c.index.result.now below c.index.ensures c.self.invariant.opened.rising
+    c.self.inside.shape c.self.inside.last c.self.inside.rebuilt.items g (sym c.is_complete.ensures ∙ c.if-is_complete.false))

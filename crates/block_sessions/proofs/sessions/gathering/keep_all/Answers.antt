@@ -18,7 +18,8 @@ take-requires c =
 pub keep-requires-clause-holds : goal.keep-requires-clause-holds
 keep-requires-clause-holds c =
     let next = next_lost c.pieces.at c.index-l.result.now c.decode.ensures.same (omega (arith, c.pieces-test.true, c.len-at-end.ensures)) c.index-l.ensures in
-    subst (λ i. HoldsBlocks c.args.shape 1 (get_or c.pieces.rebuilt i c.index-rebuilt-l.result)) (sym next.1) (c.pieces.invariant.left 1 c.requires.rebuilt c.pieces.at c.index-rebuilt-l.result (omega arith) next.0)
+    subst (λ i. HoldsBlocks c.args.shape 1 (get_or c.pieces.rebuilt i c.index-rebuilt-l.result)) (sym next.1)
+    (c.pieces.invariant.left 1 c.requires.rebuilt c.pieces.at c.index-rebuilt-l.result (omega arith) next.0)
 
 pub keep-requires-clause-whole : goal.keep-requires-clause-whole
 keep-requires-clause-whole c =
@@ -32,7 +33,8 @@ pieces-preserved c =
     let next = next_lost c.pieces.at c.index-l.result.now c.decode.ensures.same (omega (arith, c.pieces-test.true, c.len-at-end.ensures)) c.index-l.ensures in
     let below : l < length c.pieces.rebuilt = omega (arith, next.1, c.requires.sound.lost.below c.pieces.at 0 next.0, (c.pieces.invariant.all 1 c.requires.rebuilt).all) in
     let old : Contents = get_or c.pieces.rebuilt l c.index-rebuilt-l.result in
-    let kept = subst (λ b. rebuilt_in c.keep.new.pages ≡ kept_unless (is_some (at None (rebuilt_in old) b)) b c.take.result (rebuilt_in old)) (ap (λ (x : OpenSession). x.block) c.decode.ensures.same) c.keep.ensures.kept in
+    let kept = subst (λ b. rebuilt_in c.keep.new.pages ≡ kept_unless (is_some (at None (rebuilt_in old) b)) b c.take.result (rebuilt_in old))
+    (ap (λ (x : OpenSession). x.block) c.decode.ensures.same) c.keep.ensures.kept in
     subst (λ (out : List Piece). AreKept c.args.shape g c.args.rebuilt.now (set c.pieces.rebuilt l c.keep.new.pages) out (c.pieces.at + 1)) (sym c.take.ensures.others)
     (kept_more c.args.shape g c.args.rebuilt.now c.pieces.rebuilt c.pieces.out c.pieces.at l old c.keep.new.pages c.take.result c.requires.sound.lost.rising next.0 next.1 c.pieces.invariant below
     (sym (get_or_default c.pieces.rebuilt l old c.index-rebuilt-l.result below)) c.take.ensures.bytes kept c.keep.ensures.holds)
