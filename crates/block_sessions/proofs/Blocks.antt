@@ -63,6 +63,12 @@ all_after s d us f g a (suc n) each =
 abbrev pub unmade : Contents → ℕ → Bool
 unmade c b = not (is_some (at None (rebuilt_in c) b))
 
+-- a block that a run meets is one of the space
+pub met_below : (s : Dimensions) (run : Run) (block b : ℕ) → 0 < s.block → LiesIn run s → 1 ≤ run.len → block ≡ s.block → b < (run.at + run.len - 1) / block + 1 → b < s.blocks
+met_below s run block b long within some same met =
+    let last = block_within (run.at + run.len - 1) s.blocks s.block long (omega (arith, within)) in
+    omega (arith, last, subst (λ n. b < (run.at + run.len - 1) / n + 1) same met)
+
 -- the blocks that a run meets are those from its first to its last
 pub run_blocks : (s : Dimensions) (run : Run) (first end : ℕ) → 0 < s.block → 1 ≤ run.len → first ≡ run.at / s.block → end ≡ (run.at + run.len - 1) / s.block + 1 → range_with_len first (end - first) ≡ blocks_met s run
 run_blocks s run first end long some is_first is_end =

@@ -1,5 +1,5 @@
 -- What comes in for a session, in the machine's words.
-use Rattle.std.proofs.Common.{◌≡◌, ◌≢◌, ℕ, suc, ◌-◌, ◌<◌, ◌≤◌, ◌==◌, Bool, true, false, List, [], ◌∷◌, ◌++◌, length, map, take, drop, set, get_or, find, Some, AllPairs, refl, sym, ap, ap₂, ◌∙◌, subst, eq-eqb, inl, inr, arith}
+use Rattle.std.proofs.Common.{◌≡◌, ◌≢◌, ℕ, suc, ◌-◌, ◌<◌, ◌≤◌, ◌==◌, Bool, true, false, List, [], ◌∷◌, ◌++◌, length, map, take, drop, set, get_or, AllPairs, refl, sym, ap, ap₂, ◌∙◌, subst, eq-eqb, inl, inr, arith}
 use Rattle.std.specs.Prelude.{if◌then◌else◌}
 use Rattle.std.specs.List.{remove}
 use Rattle.std.proofs.lemmas.Bool.{cases_eq, cases_lt}
@@ -12,62 +12,72 @@ use Rattle.page_map.specs.Pages.{Contents}
 use Rattle.group_run.specs.Leaders.{gathered, gathered_when, is_complete, with_decoded, with_session, without_session}
 use Rattle.group_run.specs.Process.{Gathering, LeaderState}
 use Rattle.block_sessions.specs.declared.session.OpenSession.{OpenSession}
-use Rattle.block_sessions.specs.Leading.{AreParts, AreSessions, holding, state_of}
+use Rattle.block_sessions.specs.Leading.{AreParts, AreSessions, Leading, holding, state_of}
 use Rattle.block_sessions.specs.Opened.{IsOpen, gathering_of}
 use Rattle.block_sessions.specs.Rebuilt.{AreRebuilt, rebuilt_in}
-use Rattle.block_sessions.proofs.Places.{only_found, only_removed, only_replaced}
+use Rattle.block_sessions.proofs.Places.{only_removed, only_replaced}
 
 abbrev number_of : Gathering → ℕ
 number_of g = g.number
 
-module _ (sessions : List OpenSession) (place : ℕ) (d : OpenSession) (below : place < length sessions) (rising : AllPairs (λ g h. g.number < h.number) sessions) where
-  same_at : (j : ℕ) → j < length sessions → number_of (get_or (map gathering_of sessions) j (gathering_of d)) ≡ (get_or sessions j d).number
-  same_at j less = ap number_of (get_or-map gathering_of sessions j d (gathering_of d) less)
+-- a place of what the machine has
+pub inside : {l : Leading} {s : Dimensions} {sessions : List OpenSession} {last place : ℕ} {pages : List Contents} → record { shape = s; state = state_of sessions last pages } ≡ l
+    → AreParts s sessions last pages → place < length l.state.sessions → place < length sessions
+inside {l} {s} {sessions} view parts within = omega (arith, within, length-map sessions gathering_of, ap (λ (m : Leading). length m.state.sessions) view)
 
-  others_differ : (j : ℕ) → j < length (map gathering_of sessions) → j ≢ place → number_of (get_or (map gathering_of sessions) j (gathering_of d)) ≢ (get_or sessions place d).number
+module _ (sessions : List OpenSession) (place : ℕ) (x : OpenSession) (below : place < length sessions) (is : x ≡ get_or sessions place x)
+    (rising : AllPairs (λ g h. g.number < h.number) sessions) where
+  same_at : (j : ℕ) → j < length sessions → number_of (get_or (map gathering_of sessions) j (gathering_of x)) ≡ (get_or sessions j x).number
+  same_at j less = ap number_of (get_or-map gathering_of sessions j x (gathering_of x) less)
+
+  same_there : number_of (get_or (map gathering_of sessions) place (gathering_of x)) ≡ x.number
+  same_there = same_at place below ∙ ap (λ (y : OpenSession). y.number) (sym is)
+
+  others_differ : (j : ℕ) → j < length (map gathering_of sessions) → j ≢ place → number_of (get_or (map gathering_of sessions) j (gathering_of x)) ≢ x.number
   others_differ j less apart same =
-      let inside : j < length sessions = omega (arith, length-map sessions gathering_of) in
-      let here = same_at j inside in
+      let within : j < length sessions = omega (arith, length-map sessions gathering_of) in
+      let here = same_at j within in
+      let there = ap (λ (y : OpenSession). y.number) is in
       elim (cases_lt j place) [
-        | inl before ↦ let up = rising j place d before below in omega (arith, up, here, same)
-        | inr behind ↦ let up = rising place j d (omega (arith, apart)) inside in omega (arith, up, here, same)
+        | inl before ↦ let up = rising j place x before below in omega (arith, up, here, there, same)
+        | inr behind ↦ let up = rising place j x (omega (arith, apart)) within in omega (arith, up, here, there, same)
       ]
 
-  -- the session at the place, in the machine's list
-  pub session_found : find (λ g. g.number == (get_or sessions place d).number) (map gathering_of sessions) ≡ Some (gathering_of (get_or sessions place d))
-  session_found =
-      only_found number_of ((get_or sessions place d).number) (gathering_of d) (map gathering_of sessions) place (omega (arith, length-map sessions gathering_of)) (same_at place below) others_differ
-      ∙ ap Some (get_or-map gathering_of sessions place d (gathering_of d) below)
+  below_map : place < length (map gathering_of sessions)
+  below_map = omega (arith, below, length-map sessions gathering_of)
 
-  pub session_set : (g : OpenSession) → g.number ≡ (get_or sessions place d).number → map gathering_of (set sessions place g) ≡ with_session (gathering_of g) (map gathering_of sessions)
+  pub session_set : (g : OpenSession) → g.number ≡ x.number → map gathering_of (set sessions place g) ≡ with_session (gathering_of g) (map gathering_of sessions)
   session_set g same =
       map-set gathering_of sessions place g
-      ∙ (only_replaced number_of ((get_or sessions place d).number) (gathering_of d) (gathering_of g) (map gathering_of sessions) place (omega (arith, length-map sessions gathering_of)) (same_at place below) others_differ
-      ∙ ap (λ n. map (λ x. if x.number == n then gathering_of g else x) (map gathering_of sessions)) (sym same))
+      ∙ (only_replaced number_of x.number (gathering_of x) (gathering_of g) (map gathering_of sessions) place below_map same_there others_differ
+      ∙ ap (λ n. map (λ y. if y.number == n then gathering_of g else y) (map gathering_of sessions)) (sym same))
 
-  pub session_removed : map gathering_of (remove sessions place) ≡ without_session ((get_or sessions place d).number) (map gathering_of sessions)
+  pub session_removed : map gathering_of (remove sessions place) ≡ without_session x.number (map gathering_of sessions)
   session_removed =
       map-append gathering_of (take place sessions) (drop (suc place) sessions)
       ∙ (ap₂ (λ xs ys. xs ++ ys) (sym (take-map gathering_of place sessions)) (sym (drop-map gathering_of (suc place) sessions))
-      ∙ only_removed number_of ((get_or sessions place d).number) (gathering_of d) (map gathering_of sessions) place (omega (arith, length-map sessions gathering_of)) (same_at place below) others_differ)
+      ∙ only_removed number_of x.number (gathering_of x) (map gathering_of sessions) place below_map same_there others_differ)
 
-  -- a session that is as it was, and waits on
-  pub waits_on : (s : Dimensions) (last : ℕ) (pages : List Contents) → is_complete s (gathering_of (get_or sessions place d)) ≡ false
-      → state_of sessions last pages ≡ gathered s (gathering_of (get_or sessions place d)) (state_of sessions last pages)
-  waits_on s last pages waits =
-      let g = get_or sessions place d in
-      sym (ap (λ t. gathered_when t s (gathering_of g) (state_of sessions last pages)) waits
-      ∙ ap (λ (gs : List Gathering). record { sessions = gs; last_session = last; rebuilt = map rebuilt_in pages }) (sym (session_set g refl) ∙ ap (map gathering_of) (set-get_or sessions place d)))
+  module _ (s : Dimensions) (last : ℕ) (pages : List Contents) (g : Gathering) where
+    there_is : gathering_of x ≡ get_or (map gathering_of sessions) place g
+    there_is = ap gathering_of is ∙ sym (get_or-map gathering_of sessions place x g below)
 
-  -- one that is closed
-  pub closes : (s : Dimensions) (last : ℕ) (pages new : List Contents) → is_complete s (gathering_of (get_or sessions place d)) ≡ true
-      → ((state : LeaderState) → holding new state ≡ with_decoded s (gathering_of (get_or sessions place d)) (get_or sessions place d).lost.items (holding pages state))
-      → state_of (remove sessions place) last new ≡ gathered s (gathering_of (get_or sessions place d)) (state_of sessions last pages)
-  closes s last pages new complete kept =
-      let g = get_or sessions place d in
-      kept (state_of (remove sessions place) last pages)
-      ∙ (ap (λ (gs : List Gathering). with_decoded s (gathering_of g) g.lost.items (record { sessions = gs; last_session = last; rebuilt = map rebuilt_in pages })) session_removed
-      ∙ sym (ap (λ t. gathered_when t s (gathering_of g) (state_of sessions last pages)) complete))
+    -- a session that is as it was, and waits on
+    pub waits_on : is_complete s (gathering_of x) ≡ false → state_of sessions last pages ≡ gathered s (get_or (map gathering_of sessions) place g) (state_of sessions last pages)
+    waits_on waits =
+        sym (ap (λ t. gathered_when t s (gathering_of x) (state_of sessions last pages)) waits
+        ∙ ap (λ (gs : List Gathering). record { sessions = gs; last_session = last; rebuilt = map rebuilt_in pages })
+        (sym (session_set x refl) ∙ ap (map gathering_of) (ap (set sessions place) is ∙ set-get_or sessions place x)))
+        ∙ ap (λ (y : Gathering). gathered s y (state_of sessions last pages)) there_is
+
+    -- one that is closed
+    pub closes : (new : List Contents) → is_complete s (gathering_of x) ≡ true → ((state : LeaderState) → holding new state ≡ with_decoded s (gathering_of x) x.lost.items (holding pages state))
+        → state_of (remove sessions place) last new ≡ gathered s (get_or (map gathering_of sessions) place g) (state_of sessions last pages)
+    closes new complete kept =
+        kept (state_of (remove sessions place) last pages)
+        ∙ (ap (λ (gs : List Gathering). with_decoded s (gathering_of x) x.lost.items (record { sessions = gs; last_session = last; rebuilt = map rebuilt_in pages })) session_removed
+        ∙ (sym (ap (λ t. gathered_when t s (gathering_of x) (state_of sessions last pages)) complete)
+        ∙ ap (λ (y : Gathering). gathered s y (state_of sessions last pages)) there_is))
 
 -- the sessions without one
 pub sessions_without : (s : Dimensions) (last : ℕ) (sessions : List OpenSession) (place : ℕ) → place < length sessions → AreSessions s last sessions → AreSessions s last (remove sessions place)

@@ -1,128 +1,72 @@
 -- What comes in for the open session of a number.
-use Rattle.std.proofs.Common.{◌≡◌, ℕ, suc, ◌<◌, ◌==◌, Bool, false, List, [], ◌∷◌, length, map, set, get_or, find, Option, None, Some, IfSome, Contains, lt-ltb, eqb-true, refl, sym, ap, ap₂, ◌∙◌, subst, inl, inr, arith}
-use Rattle.std.specs.Prelude.{if◌then◌else◌, position}
+use Rattle.std.proofs.Common.{◌≡◌, ℕ, ◌+◌, ◌<◌, ◌==◌, Bool, not, lt-ltb, List, [], ◌∷◌, length, map, set, get_or, slice_get, find, None, Some, option_and_then, position, refl, sym, ap, ap₂, ◌∙◌, subst, inl, inr, arith}
+use Rattle.std.specs.Prelude.{if◌then◌else◌}
 use Rattle.std.specs.List.{position_or_len}
-use Rattle.std.proofs.lemmas.Bool.{cases_lt}
-use Rattle.std.proofs.lemmas.List.{get_or-set_same, length-set}
-use Rattle.std.proofs.lemmas.List.Quantifiers.{position-Some}
-use Rattle.std.proofs.lemmas.List.Sums.{fails_before_first}
+use Rattle.std.proofs.lemmas.Bool.{cases_lt, le-ltb}
+use Rattle.std.proofs.lemmas.List.{get_or-map, get_or-set_same, length-map, length-set}
+use Rattle.std.proofs.lemmas.List.Folds.{find_at}
+use Rattle.std.proofs.lemmas.Option.{slice_get-get_or, slice_get_past}
 use Rattle.group_types.specs.Dimensions.{Dimensions}
-use Rattle.group_types.specs.Lists.{put}
-use Rattle.group_types.proofs.Lists.{length-put}
 use Rattle.page_map.specs.Pages.{Contents}
-use Rattle.group_run.specs.Leaders.{block_gathered, gathered, open_session, row_gathered}
+use Rattle.group_run.specs.Leaders.{gathered}
 use Rattle.group_run.specs.Process.{Gathering}
-use Rattle.block_sessions.specs.Awaited.{Awaited}
 use Rattle.block_sessions.specs.declared.session.OpenSession.{OpenSession}
-use Rattle.block_sessions.specs.Leading.{AreParts, state_of}
+use Rattle.block_sessions.specs.Leading.{AreParts, Leading, state_of}
 use Rattle.block_sessions.specs.Opened.{IsOpen, gathering_of}
 use Rattle.block_sessions.specs.Rebuilt.{AreRebuilt, rebuilt_in}
-use Rattle.block_sessions.proofs.Closing.{gathered_twice, session_found, session_set, sessions_with}
-use Rattle.block_sessions.proofs.Lost.{known_in}
+use Rattle.block_sessions.proofs.Closing.{gathered_twice, inside, session_set, sessions_with}
 
 abbrev pub has_number : ℕ → OpenSession → Bool
 has_number number g = g.number == number
 
-none_found : (number : ℕ) (sessions : List OpenSession) (d : OpenSession) → ((j : ℕ) → j < length sessions → has_number number (get_or sessions j d) ≡ false) → find (λ g. g.number == number) (map gathering_of sessions) ≡ None
-none_found number [] d apart = refl
-none_found number (g ∷ gs) d apart =
-    ap (λ t. if t then Some (gathering_of g) else find (λ x. x.number == number) (map gathering_of gs)) (apart 0 (omega arith))
-    ∙ none_found number gs d (λ j below. apart (suc j) (omega arith))
+same_place : (number : ℕ) (sessions : List OpenSession) → position_or_len (λ (g : Gathering). g.number == number) (map gathering_of sessions) ≡ position_or_len (has_number number) sessions
+same_place number [] = refl
+same_place number (g ∷ gs) = ap (λ n. if not (g.number == number) then 1 + n else 0) (same_place number gs)
 
--- no session of this number is open
-pub none_open : (number : ℕ) (sessions : List OpenSession) → None ≡ position (has_number number) sessions → find (λ g. g.number == number) (map gathering_of sessions) ≡ None
-none_open number [] none = refl
-none_open number (g ∷ gs) none = none_found number (g ∷ gs) g (λ j below. fails_before_first (has_number number) (g ∷ gs) j g (elim (cases_lt (position_or_len (has_number number) (g ∷ gs)) (length (g ∷ gs))) [
-  | inl within ↦ absurd (let found : position (has_number number) (g ∷ gs) ≡ Some (position_or_len (has_number number) (g ∷ gs)) =
-      ap (λ t. if t then Some (position_or_len (has_number number) (g ∷ gs)) else None) (lt-ltb (position_or_len (has_number number) (g ∷ gs)) (length (g ∷ gs)) within) in
-      let never : ⊥ = cc (none, found) in never)
-  | inr past ↦ omega arith
-]))
+-- the machine's session of a number is the one at the first place that has it
+pub found_at : (number : ℕ) (sessions : List OpenSession) → find (λ g. g.number == number) (map gathering_of sessions)
+    ≡ option_and_then (slice_get (map gathering_of sessions)) (position (has_number number) sessions)
+found_at number sessions =
+    let n = position_or_len (has_number number) sessions in
+    find_at (λ (g : Gathering). g.number == number) (map gathering_of sessions)
+    ∙ (ap (slice_get (map gathering_of sessions)) (same_place number sessions)
+    ∙ elim (cases_lt n (length sessions)) [
+      | inl under ↦ sym (ap (λ t. option_and_then (slice_get (map gathering_of sessions)) (if t then Some n else None)) (lt-ltb n (length sessions) under))
+      | inr past ↦ slice_get_past (map gathering_of sessions) n (omega (arith, past, length-map sessions gathering_of))
+          ∙ sym (ap (λ t. option_and_then (slice_get (map gathering_of sessions)) (if t then Some n else None)) (le-ltb n (length sessions) past))
+    ])
 
-module _ (s : Dimensions) (last : ℕ) (sessions : List OpenSession) (pages : List Contents) (place number : ℕ) (x : OpenSession) (found : Some place ≡ position (has_number number) sessions) (parts : AreParts s sessions last pages) (is : x ≡ get_or sessions place x) where
-  pub below_all : place < length sessions
-  below_all = (position-Some (has_number number) sessions place x (sym found)).0
-
-  numbered : (get_or sessions place x).number ≡ number
-  numbered = eqb-true (get_or sessions place x).number number (position-Some (has_number number) sessions place x (sym found)).1
+-- an open session, which stands at a place of what a leader keeps
+module _ {l : Leading} {s : Dimensions} {last place : ℕ} {sessions : List OpenSession} {pages : List Contents} {x : OpenSession}
+    (view : record { shape = s; state = state_of sessions last pages } ≡ l) (parts : AreParts s sessions last pages) (within : place < length l.state.sessions) (is : x ≡ get_or sessions place x) where
+  below : place < length sessions
+  below = inside view parts within
 
   pub sound_there : IsOpen s x
-  sound_there = subst (IsOpen s) (sym is) (parts.opened.each place x below_all)
+  sound_there = subst (IsOpen s) (sym is) (parts.opened.each place x below)
 
-  pub open_is : open_session (state_of sessions last pages) number ≡ Some (gathering_of x)
+  pub open_is : slice_get l.state.sessions place ≡ Some (gathering_of x)
   open_is =
-      ap (λ n. find (λ g. g.number == n) (map gathering_of sessions)) (sym numbered)
-      ∙ (session_found sessions place x below_all parts.opened.rising ∙ ap (λ (g : OpenSession). Some (gathering_of g)) (sym is))
+      slice_get-get_or l.state.sessions place (gathering_of x) within
+      ∙ (ap (λ (m : Leading). Some (get_or m.state.sessions place (gathering_of x))) (sym view)
+      ∙ (ap Some (get_or-map gathering_of sessions place x (gathering_of x) below)
+      ∙ ap (λ (y : OpenSession). Some (gathering_of y)) (sym is)))
 
-  pub known_there : (d : ℕ) → d < s.k → IfSome (open_session (state_of sessions last pages) number) (λ g. ¬ (Contains g.lost d)) → Contains x.known.numbers d
-  known_there d below given =
-      let apart = subst (λ (o : Option Gathering). IfSome o (λ g. ¬ (Contains g.lost d))) open_is given in
-      subst (λ (ns : List ℕ). Contains ns d) (sym sound_there.known) (known_in s.k x.lost.items d below apart)
+  -- the sessions with a piece more in it
+  module _ {more : Gathering} (g : OpenSession) (becomes : gathering_of g ≡ more) (same : more.number ≡ x.number) where
+    alike : g.number ≡ x.number
+    alike = ap (λ (y : Gathering). y.number) becomes ∙ same
 
-  pub row_there : (i : ℕ) → IfSome (open_session (state_of sessions last pages) number) (λ g. Contains g.rows i) → Contains x.coded.numbers i
-  row_there i given = subst (λ (o : Option Gathering). IfSome o (λ g. Contains g.rows i)) open_is given
-
-  -- the sessions with a piece more in this one
-  module _ (g : OpenSession) (same : g.number ≡ x.number) (sound : IsOpen s g) where
-    alike : g.number ≡ (get_or sessions place x).number
-    alike = same ∙ ap (λ (y : OpenSession). y.number) is
-
-    pub parts_more : AreParts s (set sessions place g) last pages
-    parts_more = record {
-      opened = sessions_with s sessions place g x below_all last parts.opened sound alike;
+    pub parts_more : ((t : Dimensions) → IsOpen t x → IsOpen t g) → AreParts s (set sessions place g) last pages
+    parts_more sound = record {
+      opened = sessions_with s sessions place g x below last parts.opened (sound s sound_there) (alike ∙ ap (λ (y : OpenSession). y.number) is);
       rebuilt = subst (λ n. AreRebuilt s n pages) (sym (length-set sessions place g)) parts.rebuilt;
     }
 
-    pub gathered_more : gathered s (gathering_of (get_or (set sessions place g) place x)) (state_of (set sessions place g) last pages) ≡ gathered s (gathering_of g) (state_of sessions last pages)
+    pub gathered_more : gathered s (get_or (map gathering_of (set sessions place g)) place (gathering_of x)) (state_of (set sessions place g) last pages) ≡ gathered l.shape more l.state
     gathered_more =
-        ap₂ (λ (y : OpenSession) (gs : List Gathering). gathered s (gathering_of y) (record { sessions = gs; last_session = last; rebuilt = map rebuilt_in pages }))
-        (get_or-set_same sessions place g x below_all) (session_set sessions place x below_all parts.opened.rising g alike)
-        ∙ gathered_twice s (gathering_of g) (state_of sessions last pages)
-
-  -- a data process's block
-  module _ (d : ℕ) (bytes : List ℕ) (known : Awaited) (came : known ≡ record x.known { parts = put None x.known.parts d (Some bytes) }) (below : d < s.k) where
-    pub block_sound : IsOpen s (record x { known = known })
-    block_sound = subst (λ (a : Awaited). IsOpen s (record x { known = a })) (sym came) (record {
-      block = sound_there.block;
-      lost = sound_there.lost;
-      known = sound_there.known;
-      blocks_in = length-put None x.known.parts d (Some bytes) (omega (arith, sound_there.blocks_in)) ∙ sound_there.blocks_in;
-      rows_in = sound_there.rows_in;
-      known_long = sound_there.known_long;
-      coded_long = sound_there.coded_long;
-      out = sound_there.out;
-    })
-
-    pub block_parts : AreParts s (set sessions place (record x { known = known })) last pages
-    block_parts = parts_more (record x { known = known }) refl block_sound
-
-    pub block_in : gathered s (gathering_of (get_or (set sessions place (record x { known = known })) place x)) (state_of (set sessions place (record x { known = known })) last pages)
-        ≡ block_gathered s d bytes (open_session (state_of sessions last pages) number) (state_of sessions last pages)
-    block_in =
-        gathered_more (record x { known = known }) refl block_sound
-        ∙ (ap (λ (a : Awaited). gathered s (gathering_of (record x { known = a })) (state_of sessions last pages)) came
-        ∙ sym (ap (λ (o : Option Gathering). block_gathered s d bytes o (state_of sessions last pages)) open_is))
-
-  -- a row's block of code
-  module _ (i : ℕ) (bytes : List ℕ) (coded : Awaited) (came : coded ≡ record x.coded { parts = put None x.coded.parts i (Some bytes) }) (below : i < s.m) where
-    pub row_sound : IsOpen s (record x { coded = coded })
-    row_sound = subst (λ (a : Awaited). IsOpen s (record x { coded = a })) (sym came) (record {
-      block = sound_there.block;
-      lost = sound_there.lost;
-      known = sound_there.known;
-      blocks_in = sound_there.blocks_in;
-      rows_in = length-put None x.coded.parts i (Some bytes) (omega (arith, sound_there.rows_in)) ∙ sound_there.rows_in;
-      known_long = sound_there.known_long;
-      coded_long = sound_there.coded_long;
-      out = sound_there.out;
-    })
-
-    pub row_parts : AreParts s (set sessions place (record x { coded = coded })) last pages
-    row_parts = parts_more (record x { coded = coded }) refl row_sound
-
-    pub row_in : gathered s (gathering_of (get_or (set sessions place (record x { coded = coded })) place x)) (state_of (set sessions place (record x { coded = coded })) last pages)
-        ≡ row_gathered s i bytes (open_session (state_of sessions last pages) number) (state_of sessions last pages)
-    row_in =
-        gathered_more (record x { coded = coded }) refl row_sound
-        ∙ (ap (λ (a : Awaited). gathered s (gathering_of (record x { coded = a })) (state_of sessions last pages)) came
-        ∙ sym (ap (λ (o : Option Gathering). row_gathered s i bytes o (state_of sessions last pages)) open_is))
+        ap₂ (λ (y : Gathering) (gs : List Gathering). gathered s y (record { sessions = gs; last_session = last; rebuilt = map rebuilt_in pages }))
+        (get_or-map gathering_of (set sessions place g) place x (gathering_of x) (omega (arith, below, length-set sessions place g)) ∙ ap gathering_of (get_or-set_same sessions place g x below))
+        (session_set sessions place x below is parts.opened.rising g alike)
+        ∙ (gathered_twice s (gathering_of g) (state_of sessions last pages)
+        ∙ ap₂ (λ (m : Leading) (y : Gathering). gathered m.shape y m.state) view becomes)

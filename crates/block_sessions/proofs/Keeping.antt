@@ -1,5 +1,5 @@
 -- Decoded blocks are kept one after the other.
-use Rattle.std.proofs.Common.{◌≡◌, ◌≢◌, ℕ, suc, ◌+◌, ◌-◌, ◌<◌, ◌≤◌, Bool, true, false, List, [], ◌∷◌, length, map, drop, set, get_or, Option, None, Some, is_some, All, Contains, refl, sym, ap, ap₂, ◌∙◌, subst, arith}
+use Rattle.std.proofs.Common.{◌≡◌, ◌≢◌, ℕ, suc, ◌+◌, ◌-◌, ◌<◌, ◌≤◌, Bool, true, false, List, [], ◌∷◌, length, vec_len, map, drop, set, get_or, Option, None, Some, is_some, All, Contains, refl, sym, ap, ap₂, ◌∙◌, subst, arith}
 use Rattle.std.specs.List.{remove}
 use Rattle.std.specs.List.Sorted.{IsStrictlyIncreasing}
 use Rattle.std.proofs.lemmas.List.Kept.{AllPairs-from_increasing}
@@ -106,8 +106,10 @@ pub all_kept : (s : Dimensions) (g : Gathering) (start now : List Contents) (out
 all_kept s g start now out done past is state = sym (ap (λ (ls : List ℕ). with_decoded s g ls (holding now state)) (drop_all done g.lost past)) ∙ is.rest state
 
 -- the next lost partition, and its piece
-pub next_lost : (done l : ℕ) (g h : OpenSession) → g ≡ h → done < length h.lost.items → l ≡ get_or g.lost.items done l → l ≡ get_or h.lost.items done 0
-next_lost done l g h same less is = is ∙ (ap (λ (x : OpenSession). get_or x.lost.items done l) same ∙ get_or_default h.lost.items done l 0 less)
+pub next_lost : (done l : ℕ) {g h : OpenSession} → g ≡ h → done < vec_len g.lost → l ≡ get_or g.lost.items done l → (done < length h.lost.items) × (l ≡ get_or h.lost.items done 0)
+next_lost done l {g} {h} same under is =
+    let less : done < length h.lost.items = omega (arith, under, g.lost.ok.0, ap (λ (x : OpenSession). length x.lost.items) same) in
+    (less, is ∙ (ap (λ (x : OpenSession). get_or x.lost.items done l) same ∙ get_or_default h.lost.items done l 0 less))
 
 pub next_out : (lost : List ℕ) (out : List Piece) (done l : ℕ) → numbers_of out ≡ drop done lost → done < length lost → l ≡ get_or lost done 0 → Contains (numbers_of out) l
 next_out lost out done l numbers less is =

@@ -1,5 +1,5 @@
 -- The place of the only element of a list that has a number.
-use Rattle.std.proofs.Common.{◌≡◌, ◌≢◌, ℕ, zero, suc, ◌<◌, ◌==◌, not, List, [], ◌∷◌, length, map, set, get_or, filter, find, Some, refl, sym, ap, ap₂, ◌∙◌, eq-eqb, ne_eqb, arith}
+use Rattle.std.proofs.Common.{◌≡◌, ◌≢◌, ℕ, zero, suc, ◌<◌, ◌==◌, not, List, [], ◌∷◌, length, map, set, get_or, filter, refl, sym, ap, ap₂, ◌∙◌, eq-eqb, ne_eqb, arith}
 use Rattle.std.specs.Prelude.{if◌then◌else◌}
 use Rattle.std.specs.List.{remove}
 
@@ -36,11 +36,3 @@ module _ {X : Type 0} (number : X → ℕ) (n : ℕ) (d : X) where
   only_removed (x ∷ xs) (suc i) below here others =
       ap (λ xs'. x ∷ xs') (only_removed xs i (omega arith) here (λ j less apart. others (suc j) (omega arith) (λ same. apart (omega arith))))
       ∙ sym (ap (λ t. if not t then x ∷ filter (λ z. not (number z == n)) xs else filter (λ z. not (number z == n)) xs) (ne_eqb (number x) n (others 0 (omega arith) (λ same. omega arith))))
-
-  pub only_found : (xs : List X) (i : ℕ) → i < length xs → number (get_or xs i d) ≡ n → ((j : ℕ) → j < length xs → j ≢ i → number (get_or xs j d) ≢ n)
-      → find (λ x. number x == n) xs ≡ Some (get_or xs i d)
-  only_found [] i below here others = absurd (omega arith)
-  only_found (x ∷ xs) zero below here others = ap (λ t. if t then Some x else find (λ z. number z == n) xs) (eq-eqb (number x) n here)
-  only_found (x ∷ xs) (suc i) below here others =
-      ap (λ t. if t then Some x else find (λ z. number z == n) xs) (ne_eqb (number x) n (others 0 (omega arith) (λ same. omega arith)))
-      ∙ only_found xs i (omega arith) here (λ j less apart. others (suc j) (omega arith) (λ same. apart (omega arith)))

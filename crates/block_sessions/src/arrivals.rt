@@ -51,7 +51,8 @@ impl Arrivals {
     pub(crate) fn put(&mut self, number: u32, bytes: &[u8])
         requires awaited { Contains self.old.numbers number }
         requires whole { length bytes.now ≡ self.old.block }
-        ensures { self.new ≡ record self.old { parts = put None self.old.parts number (Some bytes.now) } }
+        ensures came { self.new ≡ record self.old { parts = put None self.old.parts number (Some bytes.now) } }
+        ensures long { length self.new.parts ≡ length self.old.parts }
     {
         self.pieces.piece_mut(number).copy_from_slice(bytes);
         self.came[number as usize] = true;

@@ -1,10 +1,12 @@
-ghost use Rattle.std.specs.Prelude.{◌≡◌, ◌<◌, true, IfOk};
+ghost use Rattle.std.specs.Prelude.{◌≡◌, ◌<◌, true, Contains, IfOk, Some, None, length};
+ghost use Rattle.group_types.specs.Dimensions.{Dimensions};
+ghost use Rattle.group_types.specs.Lists.{put};
 ghost use Rattle.group_run.specs.Leaders.{is_complete};
 ghost use Rattle.block_sessions.specs.Opened.{AreLost, IsDecoded, IsOpen, gathering_of, known_of, new_session};
 
 use crate::arrivals::Arrivals;
 use cauchy_code::decode;
-use group_types::{PieceList, Shape};
+use group_types::{ByteList, PieceList, Shape};
 use std::alloc::{AllocError, Global};
 
 /// An open session: what came in of the known partitions' blocks and of the rows, and where the
@@ -43,6 +45,26 @@ impl OpenSession {
             out: PieceList::new(alloc, &lost, shape.block())?,
             lost,
         })
+    }
+
+    /// A block of data process `d` comes in. It takes no memory.
+    pub(crate) fn block(&mut self, d: u32, bytes: &ByteList)
+        requires awaited { Contains self.old.known.numbers d }
+        requires whole { length bytes.now ≡ self.old.known.block }
+        ensures gathering { gathering_of self.new ≡ record (gathering_of self.old) { blocks_in = put None self.old.known.parts d (Some bytes.now) } }
+        ensures sound { (s : Dimensions) → IsOpen s self.old → IsOpen s self.new }
+    {
+        self.known.put(d, bytes.bytes());
+    }
+
+    /// A block of row `i`'s code comes in. It takes no memory.
+    pub(crate) fn row(&mut self, i: u32, bytes: &[u8])
+        requires awaited { Contains self.old.coded.numbers i }
+        requires whole { length bytes.now ≡ self.old.coded.block }
+        ensures gathering { gathering_of self.new ≡ record (gathering_of self.old) { rows_in = put None self.old.coded.parts i (Some bytes.now) } }
+        ensures sound { (s : Dimensions) → IsOpen s self.old → IsOpen s self.new }
+    {
+        self.coded.put(i, bytes);
     }
 
     /// Whether all is in.

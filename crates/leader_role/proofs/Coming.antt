@@ -1,12 +1,12 @@
 -- What comes in for a session, marks that a row takes, and sessions that it forgets leave a process able to lead.
-use Rattle.std.proofs.Common.{ℕ, ◌≡◌, ◌≤◌, ◌==◌, nat_le, Bool, true, false, not, ◌&&◌, List, [], ◌∷◌, filter, Option, Some, None, is_some, find, if◌then◌else◌, Contains, refl, sym, subst, ◌∙◌}
+use Rattle.std.proofs.Common.{ℕ, ◌≡◌, ◌≤◌, ◌==◌, nat_le, Bool, true, false, not, ◌&&◌, List, [], ◌∷◌, filter, Option, Some, None, is_some, if◌then◌else◌, Contains, refl, sym, subst, ◌∙◌}
 use Rattle.std.proofs.lemmas.List.Elements.{All-filter, All-map, All-push, All-weaker}
 use Rattle.group_types.specs.Dimensions.{Dimensions}
 use Rattle.group_types.specs.Lists.{put}
 use Rattle.group_types.specs.Names.{same_process}
 use Rattle.group_types.specs.declared.process.ProcessId.TheVariants.{ParityNode}
 use Rattle.group_run.specs.Applying.{apply_to}
-use Rattle.group_run.specs.Leaders.{block_comes, block_gathered, copy_kept, copy_marked, gathered_when, is_complete, mark_comes, mark_taken, open_session, rebuilt_block, rebuilt_unless, row_comes, row_finished, row_gathered, with_decoded, with_leader, without_session}
+use Rattle.group_run.specs.Leaders.{block_comes, block_gathered, copy_kept, copy_marked, gathered, gathered_when, is_complete, mark_comes, mark_taken, open_session, rebuilt_block, rebuilt_unless, row_comes, row_finished, row_gathered, with_decoded, with_leader, without_session}
 use Rattle.group_run.specs.Process.{Copy, Gathering, LeaderState, Process}
 use Rattle.group_run.specs.Rows.{accepts_mark, begin_copy, copies_ceased, copy_begun, copy_in, is_copy, is_marked, marked, new_copy, parity_number, with_copies, without_copy}
 use Rattle.leader_role.specs.Sound.{AreStarted}
@@ -21,35 +21,26 @@ abbrev IsStarted : Process → Copy → Type 0
 IsStarted p c = MayStart c.leader c.number p
 
 module _ (s : Dimensions) where
-  -- what is decoded leaves the sessions
-  decoded-sessions : (g : Gathering) (ls : List ℕ) (state : LeaderState) → (with_decoded s g ls state).sessions ≡ state.sessions
-  decoded-sessions g [] state = refl
-  decoded-sessions g (l ∷ ls) state =
-      decoded-sessions g ls (rebuilt_unless (is_some (rebuilt_block state l g.block)) s g l state) ∙ unless (is_some (rebuilt_block state l g.block))
+  -- what is decoded leaves all but the rebuilt blocks
+  decoded-leaves : {X : Type 0} (part : LeaderState → X) → ((rebuilt : List (List (Option (List ℕ)))) (state : LeaderState) → part (record state { rebuilt = rebuilt }) ≡ part state)
+      → (g : Gathering) (ls : List ℕ) (state : LeaderState) → part (with_decoded s g ls state) ≡ part state
+  decoded-leaves part leaves g [] state = refl
+  decoded-leaves part leaves g (l ∷ ls) state =
+      decoded-leaves part leaves g ls (rebuilt_unless (is_some (rebuilt_block state l g.block)) s g l state) ∙ unless (is_some (rebuilt_block state l g.block))
     where
-      unless : (b : Bool) → (rebuilt_unless b s g l state).sessions ≡ state.sessions
+      unless : (b : Bool) → part (rebuilt_unless b s g l state) ≡ part state
       unless true = refl
-      unless false = refl
-
-  -- what comes in leaves the last session
-  decoded-last : (g : Gathering) (ls : List ℕ) (state : LeaderState) → (with_decoded s g ls state).last_session ≡ state.last_session
-  decoded-last g [] state = refl
-  decoded-last g (l ∷ ls) state =
-      decoded-last g ls (rebuilt_unless (is_some (rebuilt_block state l g.block)) s g l state) ∙ unless (is_some (rebuilt_block state l g.block))
-    where
-      unless : (b : Bool) → (rebuilt_unless b s g l state).last_session ≡ state.last_session
-      unless true = refl
-      unless false = refl
+      unless false = leaves (rebuilt_unless false s g l state).rebuilt state
 
   gathered-last : (complete : Bool) (g : Gathering) (state : LeaderState) → (gathered_when complete s g state).last_session ≡ state.last_session
-  gathered-last true g state = decoded-last g g.lost (record state { sessions = without_session g.number state.sessions })
+  gathered-last true g state = decoded-leaves (λ l. l.last_session) (λ blocks l. refl) g g.lost (record state { sessions = without_session g.number state.sessions })
   gathered-last false g state = refl
 
   -- what comes in leaves the others
   gathered-rowed : (i : ℕ) (complete : Bool) (g : Gathering) (state : LeaderState) → Contains g.rows i → AreRowed i state.sessions
       → AreRowed i (gathered_when complete s g state).sessions
   gathered-rowed i true g state mine all =
-      subst (AreRowed i) (sym (decoded-sessions g g.lost (record state { sessions = without_session g.number state.sessions })))
+      subst (AreRowed i) (sym (decoded-leaves (λ l. l.sessions) (λ blocks l. refl) g g.lost (record state { sessions = without_session g.number state.sessions })))
       (All-filter (λ x. not (x.number == g.number)) (λ x. Contains x.rows i) state.sessions all)
   gathered-rowed i false g state mine all =
       All-map (λ x. Contains x.rows i) (λ x. if x.number == g.number then g else x) state.sessions
@@ -58,10 +49,6 @@ module _ (s : Dimensions) where
       by : (b : Bool) (x : Gathering) → Contains x.rows i → Contains (if b then g else x).rows i
       by true x has = mine
       by false x has = has
-
-  -- a session that is found is one of them
-  found-rowed : (i number : ℕ) (gs : List Gathering) (g : Gathering) → find (λ x. x.number == number) gs ≡ Some g → AreRowed i gs → Contains g.rows i
-  found-rowed i number gs g found all = found-all (λ x. Contains x.rows i) (λ x. x.number == number) gs g found all
 
   -- a process with another leader's part, of the same last session
   led-stays : (p : Process) (state : LeaderState) → state.last_session ≡ p.as_leader.last_session
@@ -76,37 +63,25 @@ module _ (s : Dimensions) where
     copies = λ own. subst (λ (n : ℕ). AreStarted (parity_number p.name) n p.as_row.copies) (sym last) own;
   }
 
-  pub row-stays : (j number : ℕ) (bytes : List ℕ) (p : Process) → Stays p (row_comes s number j bytes p)
-  row-stays j number bytes p =
-      let o : Option Gathering = open_session p.as_leader number in
-      led-stays p (row_gathered s j bytes o p.as_leader) (last o) (λ i all. by i o refl all)
-    where
-      last : (o : Option Gathering) → (row_gathered s j bytes o p.as_leader).last_session ≡ p.as_leader.last_session
-      last None = refl
-      last (Some g) = let more : Gathering = record g { rows_in = put None g.rows_in j (Some bytes) } in gathered-last (is_complete s more) more p.as_leader
+  -- the open session of a number has more in
+  gathered-stays : (number : ℕ) (g more : Gathering) (p : Process) → open_session p.as_leader number ≡ Some g → more.rows ≡ g.rows → Stays p (with_leader (gathered s more p.as_leader) p)
+  gathered-stays number g more p found same = led-stays p (gathered s more p.as_leader) (gathered-last (is_complete s more) more p.as_leader) (λ i all.
+      let mine : Contains g.rows i = found-all (λ x. Contains x.rows i) (λ x. x.number == number) p.as_leader.sessions g found all in
+      gathered-rowed i (is_complete s more) more p.as_leader (subst (λ (rows : List ℕ). Contains rows i) (sym same) mine) all)
 
-      by : (i : ℕ) (o : Option Gathering) → open_session p.as_leader number ≡ o → AreRowed i p.as_leader.sessions
-          → AreRowed i (row_gathered s j bytes o p.as_leader).sessions
-      by i None found all = all
-      by i (Some g) found all =
-          let more : Gathering = record g { rows_in = put None g.rows_in j (Some bytes) } in
-          gathered-rowed i (is_complete s more) more p.as_leader (found-rowed i number p.as_leader.sessions g found all) all
+  pub row-stays : (j number : ℕ) (bytes : List ℕ) (p : Process) → Stays p (row_comes s number j bytes p)
+  row-stays j number bytes p = by (open_session p.as_leader number) refl
+    where
+      by : (o : Option Gathering) → open_session p.as_leader number ≡ o → Stays p (with_leader (row_gathered s j bytes o p.as_leader) p)
+      by None found = stays-self p
+      by (Some g) found = gathered-stays number g (record g { rows_in = put None g.rows_in j (Some bytes) }) p found refl
 
   pub block-stays : (e number : ℕ) (bytes : List ℕ) (p : Process) → Stays p (block_comes s number e bytes p)
-  block-stays e number bytes p =
-      let o : Option Gathering = open_session p.as_leader number in
-      led-stays p (block_gathered s e bytes o p.as_leader) (last o) (λ i all. by i o refl all)
+  block-stays e number bytes p = by (open_session p.as_leader number) refl
     where
-      last : (o : Option Gathering) → (block_gathered s e bytes o p.as_leader).last_session ≡ p.as_leader.last_session
-      last None = refl
-      last (Some g) = let more : Gathering = record g { blocks_in = put None g.blocks_in e (Some bytes) } in gathered-last (is_complete s more) more p.as_leader
-
-      by : (i : ℕ) (o : Option Gathering) → open_session p.as_leader number ≡ o → AreRowed i p.as_leader.sessions
-          → AreRowed i (block_gathered s e bytes o p.as_leader).sessions
-      by i None found all = all
-      by i (Some g) found all =
-          let more : Gathering = record g { blocks_in = put None g.blocks_in e (Some bytes) } in
-          gathered-rowed i (is_complete s more) more p.as_leader (found-rowed i number p.as_leader.sessions g found all) all
+      by : (o : Option Gathering) → open_session p.as_leader number ≡ o → Stays p (with_leader (block_gathered s e bytes o p.as_leader) p)
+      by None found = stays-self p
+      by (Some g) found = gathered-stays number g (record g { blocks_in = put None g.blocks_in e (Some bytes) }) p found refl
 
   -- a row takes a mark
   finished-stays : (own : Bool) (c : Copy) (p : Process) → Stays p (row_finished own s c p).process

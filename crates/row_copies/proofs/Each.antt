@@ -140,19 +140,12 @@ module _ (y : Copy) where
       ap (λ (rest : List Copy). c ∷ rest) (remove_without cs i d each.1 (omega arith) is)
       ∙ ap (λ (b : Bool). cond (not b) (c ∷ without_copy y.leader y.number cs) (without_copy y.leader y.number cs)) (sym other)
 
-  with_leader : (c : Copy) → (if is_copy y.leader y.number c then y else c).leader ≡ c.leader
-  with_leader c = by (is_copy y.leader y.number c) refl
+  with_same : (c : Copy) → ((if is_copy y.leader y.number c then y else c).leader ≡ c.leader) × ((if is_copy y.leader y.number c then y else c).number ≡ c.number)
+  with_same c = by (is_copy y.leader y.number c) refl
     where
-      by : (b : Bool) → is_copy y.leader y.number c ≡ b → (if b then y else c).leader ≡ c.leader
-      by true is = sym (same_session y.leader y.number c is).0
-      by false is = refl
-
-  with_number : (c : Copy) → (if is_copy y.leader y.number c then y else c).number ≡ c.number
-  with_number c = by (is_copy y.leader y.number c) refl
-    where
-      by : (b : Bool) → is_copy y.leader y.number c ≡ b → (if b then y else c).number ≡ c.number
-      by true is = sym (same_session y.leader y.number c is).1
-      by false is = refl
+      by : (b : Bool) → is_copy y.leader y.number c ≡ b → ((if b then y else c).leader ≡ c.leader) × ((if b then y else c).number ≡ c.number)
+      by true is = let same = same_session y.leader y.number c is in (sym same.0, sym same.1)
+      by false is = (refl, refl)
 
   pub each-with : (cs : List Copy) → HaveOneEach cs → HaveOneEach (with_copy y cs)
-  each-with cs each = each-map (λ (c : Copy). if is_copy y.leader y.number c then y else c) with_leader with_number cs each
+  each-with cs each = each-map (λ (c : Copy). if is_copy y.leader y.number c then y else c) (λ c. (with_same c).0) (λ c. (with_same c).1) cs each

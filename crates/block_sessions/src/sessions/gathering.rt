@@ -1,8 +1,8 @@
-ghost use Rattle.std.specs.Prelude.{◌≡◌, ℕ, ◌-◌, ◌<◌, ◌==◌, true, false, All, AllPairs, Contains, IfOk, IfSome, length};
-ghost use Rattle.std.specs.List.{list_any, position, slice_index_or};
+ghost use Rattle.std.specs.Prelude.{◌≡◌, ℕ, ◌-◌, ◌<◌, ◌==◌, true, false, All, AllPairs, Contains, IfOk, IfSome, length, option_and_then};
+ghost use Rattle.std.specs.List.{list_any, slice_get, slice_index_or};
 ghost use Rattle.group_run.specs.Fitting.{Writes};
 ghost use Rattle.group_run.specs.Leaders.{block_gathered, gathered, is_complete, open_session, row_gathered, with_decoded};
-ghost use Rattle.group_run.specs.Process.{LeaderState, no_leader_state};
+ghost use Rattle.group_run.specs.Process.{Gathering, LeaderState, no_leader_state};
 ghost use Rattle.block_sessions.specs.Leading.{AreParts, holding, state_of};
 ghost use Rattle.block_sessions.specs.Opened.{AreLost, IsOpen, gathering_of};
 ghost use Rattle.block_sessions.specs.Rebuilt.{AreRebuilt};
@@ -24,9 +24,9 @@ impl Sessions {
         ensures state { self.new.state ≡ block_gathered self.old.shape d bytes.now (open_session self.old.state number) self.old.state }
         ensures partitions { length self.new.state.rebuilt ≡ length self.old.state.rebuilt }
     {
-        if let Some(place) = place_of(&self.sessions, number) {
-            self.sessions[place].known.put(d, bytes.bytes());
-            gather(self.shape, &mut self.sessions, place, &mut self.rebuilt);
+        if let Some(place) = self.place_of(number) {
+            self.sessions[place].block(d, bytes);
+            self.gather(place);
         }
     }
 
@@ -39,33 +39,33 @@ impl Sessions {
         ensures state { self.new.state ≡ row_gathered self.old.shape i bytes.now (open_session self.old.state number) self.old.state }
         ensures partitions { length self.new.state.rebuilt ≡ length self.old.state.rebuilt }
     {
-        if let Some(place) = place_of(&self.sessions, number) {
-            self.sessions[place].coded.put(i, bytes);
-            gather(self.shape, &mut self.sessions, place, &mut self.rebuilt);
+        if let Some(place) = self.place_of(number) {
+            self.sessions[place].row(i, bytes);
+            self.gather(place);
         }
     }
-}
 
-// The place of the session of this number.
-fn place_of(sessions: &[OpenSession], number: u64) -> Option<usize>
-    ensures { result ≡ position (λ g. g.number == number) sessions.now }
-{
-    sessions.iter().position(|session| session.number == number)
-}
+    // The place of the session of this number.
+    fn place_of(&self, number: u64) -> Option<usize>
+        ensures found { open_session self.now.state number ≡ option_and_then (slice_get self.now.state.sessions) result }
+        ensures within { IfSome result (λ place. place < length self.now.state.sessions) }
+    {
+        self.sessions
+            .iter()
+            .position(|session| session.number == number)
+    }
 
-// Something came in for the session at this place: once all is in, it is decoded and closed.
-fn gather(shape: Shape, sessions: &mut Vec<OpenSession>, place: usize, rebuilt: &mut [Pages])
-    requires place { place < length sessions.old.items }
-    requires sound { All (IsOpen shape) sessions.old.items }
-    requires rising { AllPairs (λ g h. g.number < h.number) sessions.old.items }
-    requires rebuilt { AreRebuilt shape (length sessions.old.items) rebuilt.old }
-    ensures state { (d : OpenSession) (last : ℕ) → state_of sessions.new.items last rebuilt.new
-        ≡ gathered shape (gathering_of (slice_index_or sessions.old.items place d)) (state_of sessions.old.items last rebuilt.old) }
-    ensures parts { (last : ℕ) → AreParts shape sessions.old.items last rebuilt.old → AreParts shape sessions.new.items last rebuilt.new }
-{
-    if sessions[place].is_complete(shape) {
-        let session = sessions.remove(place);
-        keep_all(shape, session, rebuilt);
+    // Something came in for the session at this place: once all is in, it is decoded and closed.
+    fn gather(&mut self, place: usize)
+        requires { place < length self.old.state.sessions }
+        ensures shape { self.new.shape ≡ self.old.shape }
+        ensures state { (g : Gathering) → self.new.state ≡ gathered self.old.shape (slice_index_or self.old.state.sessions place g) self.old.state }
+        ensures partitions { length self.new.state.rebuilt ≡ length self.old.state.rebuilt }
+    {
+        if self.sessions[place].is_complete(self.shape) {
+            let session = self.sessions.remove(place);
+            keep_all(self.shape, session, &mut self.rebuilt);
+        }
     }
 }
 
@@ -80,10 +80,15 @@ fn keep_all(shape: Shape, session: OpenSession, rebuilt: &mut [Pages])
 {
     let mut session = session;
     session.decode(shape);
-    'lost: for at in 0..session.lost.len() {
-        let l = session.lost[at];
-        let bytes = session.out.take(l);
-        keep(shape, session.block, bytes, &mut rebuilt[l as usize]);
+    let OpenSession {
+        block,
+        lost,
+        mut out,
+        ..
+    } = session;
+    'pieces: for at in 0..lost.len() {
+        let l = lost[at];
+        keep(shape, block, out.take(l), &mut rebuilt[l as usize]);
     }
 }
 

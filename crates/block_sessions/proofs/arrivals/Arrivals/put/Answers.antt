@@ -17,8 +17,8 @@ invariant_of-self c =
     let whole : length c.args.bytes.now ≡ c.self.inside.block = c.requires.whole ∙ ap (λ (a : Awaited). a.block) (sym c.self.view_is) in
     rw c.copy_from_slice.ensures.after (awaited_after c.self.inside.pieces c.self.inside.came.items c.self.inside.block c.args.number c.args.bytes.now c.self.invariant there whole)
 
-pub returns : goal.returns
-returns c =
+pub returns-clause-came : goal.returns-clause-came
+returns-clause-came c =
     let there : Contains (numbers_of c.self.inside.pieces) c.args.number = subst (λ (a : Awaited). Contains a.numbers c.args.number) (sym c.self.view_is) c.requires.awaited in
     let whole : length c.args.bytes.now ≡ c.self.inside.block = c.requires.whole ∙ ap (λ (a : Awaited). a.block) (sym c.self.view_is) in
     ap (λ (bs : List ℕ). awaited_in (with_bytes c.self.inside.pieces c.args.number bs) (set c.self.inside.came.items c.args.number true) c.self.inside.block) c.copy_from_slice.ensures.after
