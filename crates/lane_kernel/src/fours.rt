@@ -67,6 +67,7 @@ struct Sources<'a> {
     d: &'a [u8],
 }
 
+// One loop for both: the sums are added to what is there, or written over it.
 #[inline(always)]
 fn sum_into(
     keep: bool,
