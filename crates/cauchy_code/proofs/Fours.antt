@@ -1,5 +1,5 @@
 -- Four more terms of the sums that a column consists of.
-use Rattle.std.proofs.Common.{◌≡◌, ℕ, ◌+◌, ◌<◌, List, length, get_or, bit_xor, replicate, sym, ap, ◌∙◌, arith}
+use Rattle.std.proofs.Common.{◌≡◌, ℕ, ◌+◌, ◌<◌, List, length, get_or, bit_xor, replicate, sym, refl, ap, ◌∙◌, arith}
 use Rattle.std.specs.Int.Bits.{xor_zero_l}
 use Rattle.std.proofs.lemmas.List.{length-replicate}
 use Rattle.field_byte.specs.Vectors.{add_bytes}
@@ -9,7 +9,7 @@ use Rattle.group_types.specs.declared.piece_list.Piece.{Piece}
 use Rattle.erasure_code.proofs.Lists.{get_or-zeros}
 use Rattle.lane_kernel.specs.Sums.{add_two, sum_of_four}
 use Rattle.lane_kernel.proofs.Chunks.{length-both}
-use Rattle.lane_kernel.proofs.FourSums.{length-four, one_by_one, zeros_added}
+use Rattle.lane_kernel.proofs.FourSums.{four_alone, one_by_one}
 use Rattle.cauchy_code.specs.Solving.{IsAdded, pieces_sum}
 use Rattle.cauchy_code.proofs.Terms.{none_added, two_added}
 
@@ -41,22 +41,18 @@ module _ (by a b c d now : List ℕ) (a_same : length a ≡ length now) (b_same 
       let all_four = two_added 0 v known at k (pieces_sum 2 u rows at) (get_or by 2 0) (get_or by 3 0) c d half (c_same ∙ sym length-half) (d_same ∙ sym length-half) (from_rows ∙ none_added v known at (pieces_sum 2 u rows at)) c_is d_is c_here d_here in
       ap (λ (l : List ℕ). get_or l k 0) (sym (one_by_one by a b c d now a_same b_same c_same d_same)) ∙ all_four
 
--- where nothing stood before, the sum alone
-pub four_alone : (n : ℕ) (by a b c d : List ℕ) → length a ≡ n → length b ≡ n → length c ≡ n → length d ≡ n → add_bytes (replicate n 0) (sum_of_four by a b c d) ≡ sum_of_four by a b c d
-four_alone n by a b c d a_long b_long c_long d_long =
-    let zeros = replicate n 0 in
-    let long = sym (length-replicate n 0) in
-    let same = length-four by a b c d zeros (a_long ∙ long) (b_long ∙ long) (c_long ∙ long) (d_long ∙ long) in
-    ap (λ m. add_bytes (replicate m 0) (sum_of_four by a b c d)) (sym (same ∙ length-replicate n 0)) ∙ zeros_added (sum_of_four by a b c d)
-
+-- where nothing stood before
 pub start_added : (n : ℕ) (by a b c d : List ℕ) → length a ≡ n → length b ≡ n → length c ≡ n → length d ≡ n → (u v : ℕ → ℕ) (rows known : List Piece) (at k : ℕ)
     → get_or by 0 0 ≡ u 0 → get_or by 1 0 ≡ u 1 → get_or by 2 0 ≡ v 0 → get_or by 3 0 ≡ v 1
     → get_or a k 0 ≡ entry (contents_of rows) 0 at → get_or b k 0 ≡ entry (contents_of rows) 1 at → get_or c k 0 ≡ entry (contents_of known) 0 at → get_or d k 0 ≡ entry (contents_of known) 1 at
     → get_or (sum_of_four by a b c d) k 0 ≡ bit_xor (pieces_sum 2 u rows at) (pieces_sum 2 v known at)
 start_added n by a b c d a_long b_long c_long d_long u v rows known at k a_is b_is c_is d_is a_here b_here c_here d_here =
-    let long = sym (length-replicate n 0) in
-    ap (λ (l : List ℕ). get_or l k 0) (sym (four_alone n by a b c d a_long b_long c_long d_long))
-    ∙ both_added by a b c d (replicate n 0) (a_long ∙ long) (b_long ∙ long) (c_long ∙ long) (d_long ∙ long) u v rows known at k (get_or-zeros n k) a_is b_is c_is d_is a_here b_here c_here d_here
+    let b_same = b_long ∙ sym a_long in
+    let c_same = c_long ∙ sym a_long in
+    let d_same = d_long ∙ sym a_long in
+    let long = sym (length-replicate (length a) 0) in
+    ap (λ (l : List ℕ). get_or l k 0) (sym (four_alone by a b c d a refl b_same c_same d_same))
+    ∙ both_added by a b c d (replicate (length a) 0) long (b_same ∙ long) (c_same ∙ long) (d_same ∙ long) u v rows known at k (get_or-zeros (length a) k) a_is b_is c_is d_is a_here b_here c_here d_here
 
 -- the rows, and then the known columns
 pub all_added : (n at : ℕ) (u v : ℕ → ℕ) (rows known : List Piece) (zeros mid new : List ℕ) → zeros ≡ replicate n 0 → length mid ≡ n → IsAdded u rows 0 at zeros mid → IsAdded v known 0 at mid new

@@ -1,3 +1,4 @@
+pub mod Coefficients
 pub mod Terms
 mod Fours
 pub mod Parts

@@ -1,5 +1,5 @@
 -- What a loop over bytes or vectors has written.
-use Rattle.std.proofs.Common.{◌≡◌, ◌≢◌, ℕ, ◌+◌, ◌-◌, ◌<◌, ◌≤◌, List, ◌++◌, length, take, drop, get_or, set, bit_xor, inl, inr, sym, ap, ap₂, ◌∙◌, refl, arith, get_or-set_other, get_or-set_same, length-set}
+use Rattle.std.proofs.Common.{◌≡◌, ◌≢◌, ℕ, ◌+◌, ◌-◌, ◌<◌, ◌≤◌, List, ◌++◌, length, take, drop, get_or, set, bit_xor, inl, inr, sym, ap, ap₂, ◌∙◌, subst, refl, arith, get_or-set_other, get_or-set_same, length-set}
 use Rattle.std.specs.Simd.Lanes.{chunk, put_chunk}
 use Rattle.std.proofs.lemmas.Bool.{cases_lt}
 use Rattle.std.proofs.lemmas.Grind.{same_number_lists}
@@ -70,39 +70,31 @@ vector_written at n old whole now sum within same is before =
 pub all_written : (at : ℕ) (old whole now : List ℕ) → length old ≤ at → length whole ≡ length old → Written at old whole now → now ≡ whole
 all_written at old whole now over same written = same_number_lists now whole (written.long ∙ sym same) (λ k below. written.done k (omega (arith, written.long)))
 
-module _ (coef : ℕ) (src old : List ℕ) (same : length src ≡ length old) where
-  abbrev pub sums : List ℕ
-  sums = add_bytes old (scale coef src)
+-- old becomes whole part by part: f makes the n bytes from a place on of those that are there
+pub record ByParts (old whole : List ℕ) (f : ℕ → ℕ → List ℕ → List ℕ) : Type 0 where
+  pub same : length whole ≡ length old
+  pub parts : (at n : ℕ) → at + n ≤ length old → f at n (chunk at n old) ≡ chunk at n whole
 
-  pub scaled : length old ≡ length (scale coef src)
-  scaled = sym (length-scale coef src ∙ same)
+-- a vector goes to its place
+pub part_written : {old whole : List ℕ} {f : ℕ → ℕ → List ℕ → List ℕ} → ByParts old whole f → (at n : ℕ) (now part : List ℕ) → at + n ≤ length old
+    → part ≡ f at n (chunk at n now) → Written at old whole now → Written (at + n) old whole (put_chunk at now part)
+part_written {old} {whole} {f} by at n now part within is before =
+    vector_written at n old whole now part within by.same (is ∙ (ap (f at n) (chunk_left at n old whole now within before) ∙ by.parts at n within)) before
 
-  pub length-sums : length sums ≡ length old
-  length-sums = length-add_scaled coef src old same
-
-  sum_of_chunks : (at n : ℕ) → add_bytes (chunk at n old) (scale coef (chunk at n src)) ≡ chunk at n sums
-  sum_of_chunks at n = sym (chunk-add_bytes at n old (scale coef src) scaled ∙ ap (add_bytes (chunk at n old)) (chunk-scale coef at n src))
-
-  -- a vector's sum goes to its place
-  pub product_written : (at n : ℕ) (now sum : List ℕ) → at + n ≤ length old → sum ≡ add_bytes (chunk at n now) (scale coef (chunk at n src)) → Written at old sums now → Written (at + n) old sums (put_chunk at now sum)
-  product_written at n now sum within is before =
-      let unread = chunk_left at n old sums now within before in
-      vector_written at n old sums now sum within length-sums
-      (is ∙ (ap (λ l. add_bytes l (scale coef (chunk at n src))) unread ∙ sum_of_chunks at n)) before
-
-  -- the last vector, summed at first, closes what the others left
-  pub last_written : (at end n : ℕ) (now last : List ℕ) → end + n ≡ length old → end ≤ at → last ≡ add_bytes (chunk end n old) (scale coef (chunk end n src)) → Written at old sums now → put_chunk end now last ≡ sums
-  last_written at end n now last at_end reached is before =
-      same_number_lists _ sums (length-put_chunk end now last ∙ (before.long ∙ sym length-sums)) (λ k below.
-      vector_done end n sums now last (omega (arith, before.long)) (length-sums ∙ sym before.long) (is ∙ sum_of_chunks end n) (λ j earlier. before.done j (omega arith)) k
-      (omega (arith, before.long, length-put_chunk end now last)))
+-- the last vector, made at first, closes what the others left
+pub last_written : {old whole : List ℕ} {f : ℕ → ℕ → List ℕ → List ℕ} → ByParts old whole f → (at end n : ℕ) (now last : List ℕ) → end + n ≡ length old → end ≤ at → last ≡ f end n (chunk end n old)
+    → Written at old whole now → put_chunk end now last ≡ whole
+last_written {old} {whole} {f} by at end n now last at_end reached is before =
+    let long = before.long ∙ sym by.same in
+    same_number_lists _ whole (length-put_chunk end now last ∙ long) (λ k below.
+    vector_done end n whole now last (omega (arith, before.long)) (sym long) (is ∙ by.parts end n (omega arith)) (λ j earlier. before.done j (omega arith)) k
+    (omega (arith, before.long, length-put_chunk end now last)))
 
 abbrev pub put_mid : ℕ → ℕ → List ℕ → List ℕ → List ℕ
 put_mid at n xs ys = take at xs ++ (ys ++ drop n (drop at xs))
 
--- the rest, in one piece
-pub rest_written : (at n : ℕ) (old whole now rest : List ℕ) → at + n ≡ length old → length whole ≡ length old → rest ≡ chunk at n whole → Written at old whole now → put_mid at n now rest ≡ whole
-rest_written at n old whole now rest all same part before =
+rest_put : (at n : ℕ) (old whole now rest : List ℕ) → at + n ≡ length old → length whole ≡ length old → rest ≡ chunk at n whole → Written at old whole now → put_mid at n now rest ≡ whole
+rest_put at n old whole now rest all same part before =
     let front : take at now ≡ take at whole = same_number_lists _ _ (omega (arith, length-take at now, length-take at whole, before.long, same)) (λ k below.
     let early : k < at = omega (arith, length-take at now) in
     get_or-take at now k 0 early ∙ (before.done k early ∙ sym (get_or-take at whole k 0 early))) in
@@ -111,27 +103,38 @@ rest_written at n old whole now rest all same part before =
     absurd (omega (arith, length-drop n (drop at now), length-drop at now, before.long))) in
     ap₂ (λ x y. x ++ y) front (ap₂ (λ x y. x ++ y) part back) ∙ (ap (λ x. take at whole ++ x) (take-append-drop n (drop at whole)) ∙ take-append-drop at whole)
 
+-- the rest, in one piece
+pub rest_written : {old whole : List ℕ} {f : ℕ → ℕ → List ℕ → List ℕ} → ByParts old whole f → (at end : ℕ) (now rest : List ℕ) → at ≡ end → end ≤ length old
+    → rest ≡ f end (length old - end) (chunk end (length now - end) now) → Written at old whole now → put_mid end (length now - end) now rest ≡ whole
+rest_written {old} {whole} {f} by at end now rest reached within is before =
+    let n = length old - end in
+    let all : end + n ≡ length old = omega arith in
+    let done = subst (λ k. Written k old whole now) reached before in
+    let part = ap (λ k. f end n (chunk end (k - end) now)) before.long ∙ (ap (f end n) (chunk_left end n old whole now (omega (arith, all)) done) ∙ by.parts end n (omega (arith, all))) in
+    ap (λ k. put_mid end (k - end) now rest) before.long ∙ rest_put end n old whole now rest all by.same (is ∙ part) done
+
+-- one more product, in a part
+pub product_more : (coef : ℕ) (src whole front : List ℕ) (at n : ℕ) → length src ≡ length whole → front ≡ chunk at n whole
+    → add_bytes front (scale coef (chunk at n src)) ≡ chunk at n (add_bytes whole (scale coef src))
+product_more coef src whole front at n same is =
+    ap₂ add_bytes is (sym (chunk-scale coef at n src)) ∙ sym (chunk-add_bytes at n whole (scale coef src) (sym (length-scale coef src ∙ same)))
+
+pub product_parts : (coef : ℕ) (src old : List ℕ) → length src ≡ length old → ByParts old (add_bytes old (scale coef src)) (λ at n l. add_bytes l (scale coef (chunk at n src)))
+product_parts coef src old same = record {
+  same = length-add_scaled coef src old same;
+  parts = λ at n within. product_more coef src old _ at n same refl;
+}
+
 -- the same of two products
 module _ (p q : ℕ) (xs ys old : List ℕ) (x_same : length xs ≡ length old) (y_same : length ys ≡ length old) where
-  abbrev pub both : List ℕ
-  both = add_two p q xs ys old
-
   length-first : length (add_bytes old (scale p xs)) ≡ length old
   length-first = length-add_scaled p xs old x_same
 
-  pub length-both : length both ≡ length old
+  pub length-both : length (add_two p q xs ys old) ≡ length old
   length-both = length-add_scaled q ys _ (y_same ∙ sym length-first) ∙ length-first
 
-  both_of_chunks : (at n : ℕ) → add_two p q (chunk at n xs) (chunk at n ys) (chunk at n old) ≡ chunk at n both
-  both_of_chunks at n =
-      ap (λ l. add_bytes l (scale q (chunk at n ys))) (sum_of_chunks p xs old x_same at n)
-      ∙ sum_of_chunks q ys (add_bytes old (scale p xs)) (y_same ∙ sym length-first) at n
-
-  pub two_written : (at n : ℕ) (now sum : List ℕ) → at + n ≤ length old → sum ≡ add_two p q (chunk at n xs) (chunk at n ys) (chunk at n now) → Written at old both now → Written (at + n) old both (put_chunk at now sum)
-  two_written at n now sum within is before =
-      vector_written at n old both now sum within length-both
-      (is ∙ (ap (add_two p q (chunk at n xs) (chunk at n ys)) (chunk_left at n old both now within before) ∙ both_of_chunks at n)) before
-
-  pub two_finished : (at n : ℕ) (now rest : List ℕ) → at + n ≡ length old → rest ≡ add_two p q (chunk at n xs) (chunk at n ys) (chunk at n now) → Written at old both now → put_mid at n now rest ≡ both
-  two_finished at n now rest all is before =
-      rest_written at n old both now rest all length-both (is ∙ (ap (add_two p q (chunk at n xs) (chunk at n ys)) (chunk_left at n old both now (omega (arith, all)) before) ∙ both_of_chunks at n)) before
+  pub two_parts : ByParts old (add_two p q xs ys old) (λ at n l. add_two p q (chunk at n xs) (chunk at n ys) l)
+  two_parts = record {
+    same = length-both;
+    parts = λ at n within. product_more q ys _ _ at n (y_same ∙ sym length-first) (product_more p xs old _ at n x_same refl);
+  }

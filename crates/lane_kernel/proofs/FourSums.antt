@@ -1,17 +1,29 @@
 -- The sums of four products, by parts.
-use Rattle.std.proofs.Common.{◌≡◌, ℕ, ◌+◌, ◌<◌, ◌≤◌, List, [], ◌∷◌, length, get_or, replicate, sym, ap, ap₂, ◌∙◌, subst, refl, arith}
+use Rattle.std.proofs.Common.{◌≡◌, ℕ, ◌+◌, ◌-◌, ◌<◌, ◌≤◌, Bool, true, false, List, [], ◌∷◌, length, take, get_or, replicate, sym, ap, ap₂, ◌∙◌, refl, arith}
 use Rattle.std.specs.Int.Bits.{xor_zero_l}
-use Rattle.std.specs.Simd.Lanes.{chunk, put_chunk}
+use Rattle.std.specs.Simd.Lanes.{chunk}
 use Rattle.std.proofs.lemmas.Grind.{get_or_default_zero}
+use Rattle.std.proofs.lemmas.List.{drop-replicate, length-replicate, take-replicate}
+use Rattle.std.proofs.lemmas.Simd.{length-chunk}
 use Rattle.field_byte.specs.Vectors.{add_bytes, scale}
 use Rattle.field_byte.proofs.Vectors.{add_bytes_assoc, chunk-add_bytes, chunk-scale, length-add_bytes, length-add_scaled, length-scale}
-use Rattle.lane_kernel.specs.Sums.{add_two, sum_of_four}
-use Rattle.lane_kernel.proofs.Chunks.{Written, chunk_left, put_mid, rest_written, vector_written}
+use Rattle.lane_kernel.specs.Sums.{add_two, kept, sum_of_four}
+use Rattle.lane_kernel.proofs.Chunks.{ByParts, Written, product_more, put_mid, rest_written}
 
 pub zeros_added : (xs : List ℕ) → add_bytes (replicate (length xs) 0) xs ≡ xs
 unfolding add_bytes
 zeros_added [] = refl
 zeros_added (x ∷ xs) = ap₂ (λ y ys. y ∷ ys) (xor_zero_l x) (zeros_added xs)
+
+length-kept : (keep : Bool) (bytes : List ℕ) → length (kept keep bytes) ≡ length bytes
+length-kept true bytes = refl
+length-kept false bytes = length-replicate (length bytes) 0
+
+chunk-kept : (keep : Bool) (bytes : List ℕ) (at n : ℕ) → at + n ≤ length bytes → kept keep (chunk at n bytes) ≡ chunk at n (kept keep bytes)
+chunk-kept true bytes at n within = refl
+chunk-kept false bytes at n within =
+    ap (λ k. replicate k 0) (length-chunk at n bytes within)
+    ∙ sym (ap (take n) (drop-replicate at (length bytes) 0) ∙ take-replicate n (length bytes - at) 0 (omega arith))
 
 -- the product by a coefficient that was read of four
 by_read : (by xs : List ℕ) (i p : ℕ) → length by ≡ 4 → i < 4 → scale (get_or by i p) xs ≡ scale (get_or by i 0) xs
@@ -29,11 +41,6 @@ module _ (by a b c d : List ℕ) (p q r s : ℕ) (four : length by ≡ 4) where
   two_and_two old of_b of_d is_b is_d =
       let by_b = is_b ∙ ap₂ (λ xs ys. add_bytes (add_bytes old xs) ys) (by_read by a 0 p four (omega arith)) (by_read by b 1 q four (omega arith)) in
       is_d ∙ (ap (add_two (get_or by 2 r) (get_or by 3 s) c d) by_b ∙ ap₂ (λ xs ys. add_bytes (add_bytes (add_two (get_or by 0 0) (get_or by 1 0) a b old) xs) ys) (by_read by c 2 r four (omega arith)) (by_read by d 3 s four (omega arith)))
-
--- one more product, in a part
-product_more : (at n p : ℕ) (xs front whole : List ℕ) → length xs ≡ length whole → front ≡ chunk at n whole → add_bytes front (scale p (chunk at n xs)) ≡ chunk at n (add_bytes whole (scale p xs))
-product_more at n p xs front whole same is =
-    ap₂ add_bytes is (sym (chunk-scale p at n xs)) ∙ sym (chunk-add_bytes at n whole (scale p xs) (sym (length-scale p xs ∙ same)))
 
 module _ (by a b c d old : List ℕ) (a_same : length a ≡ length old) (b_same : length b ≡ length old) (c_same : length c ≡ length old) (d_same : length d ≡ length old) where
   abbrev pub four : List ℕ
@@ -60,45 +67,30 @@ module _ (by a b c d old : List ℕ) (a_same : length a ≡ length old) (b_same 
   pub length-four : length four ≡ length old
   length-four = length-add_scaled _ d of_c (d_same ∙ sym length-c) ∙ length-c
 
-  pub four_of_chunks : (at n : ℕ) → sum_of_four by (chunk at n a) (chunk at n b) (chunk at n c) (chunk at n d) ≡ chunk at n four
+  four_of_chunks : (at n : ℕ) → sum_of_four by (chunk at n a) (chunk at n b) (chunk at n c) (chunk at n d) ≡ chunk at n four
   four_of_chunks at n =
-      product_more at n _ d _ of_c (d_same ∙ sym length-c)
-      (product_more at n _ c _ of_b (c_same ∙ sym length-b)
-      (product_more at n _ b _ of_a (b_same ∙ sym length-a) (sym (chunk-scale _ at n a))))
+      product_more _ d of_c _ at n (d_same ∙ sym length-c)
+      (product_more _ c of_b _ at n (c_same ∙ sym length-b)
+      (product_more _ b of_a _ at n (b_same ∙ sym length-a) (sym (chunk-scale _ at n a))))
 
-  added_of_chunks : (at n : ℕ) → add_bytes (chunk at n old) (chunk at n four) ≡ chunk at n (add_bytes old four)
-  added_of_chunks at n = sym (chunk-add_bytes at n old four (sym length-four))
+  pub four_parts : (keep : Bool) → ByParts old (add_bytes (kept keep old) four) (λ at n l. add_bytes (kept keep l) (sum_of_four by (chunk at n a) (chunk at n b) (chunk at n c) (chunk at n d)))
+  four_parts keep =
+      let same = length-kept keep old ∙ sym length-four in
+      record {
+        same = length-add_bytes (kept keep old) four same ∙ length-kept keep old;
+        parts = λ at n within. ap₂ add_bytes (chunk-kept keep old at n within) (four_of_chunks at n) ∙ sym (chunk-add_bytes at n (kept keep old) four same);
+      }
 
-  length-added : length (add_bytes old four) ≡ length old
-  length-added = length-add_bytes old four (sym length-four)
-
-  -- a vector of the sums goes to its place
-  pub four_written : (at n : ℕ) (now sum : List ℕ) → at + n ≤ length old → sum ≡ sum_of_four by (chunk at n a) (chunk at n b) (chunk at n c) (chunk at n d) → Written at old four now
-      → Written (at + n) old four (put_chunk at now sum)
-  four_written at n now sum within is before = vector_written at n old four now sum within length-four (is ∙ four_of_chunks at n) before
-
-  pub four_added : (at n : ℕ) (now sum : List ℕ) → at + n ≤ length old → sum ≡ sum_of_four by (chunk at n a) (chunk at n b) (chunk at n c) (chunk at n d) → Written at old (add_bytes old four) now
-      → Written (at + n) old (add_bytes old four) (put_chunk at now (add_bytes (chunk at n now) sum))
-  four_added at n now sum within is before =
-      vector_written at n old (add_bytes old four) now _ within length-added
-      (ap₂ add_bytes (chunk_left at n old (add_bytes old four) now within before) (is ∙ four_of_chunks at n) ∙ added_of_chunks at n) before
+  pub four_alone : add_bytes (kept false old) four ≡ four
+  four_alone = ap (λ n. add_bytes (replicate n 0) four) (sym length-four) ∙ zeros_added four
 
   -- the rest goes to its place
-  module _ (at end n in_a in_b in_c in_d : ℕ) (now rest : List ℕ) (reached : at ≡ end) (all : end + n ≡ length old) (a_is : in_a ≡ n) (b_is : in_b ≡ n) (c_is : in_c ≡ n) (d_is : in_d ≡ n) where
-    abbrev of_rest : List ℕ
-    of_rest = sum_of_four by (chunk end in_a a) (chunk end in_b b) (chunk end in_c c) (chunk end in_d d)
-
-    rest_of_chunks : of_rest ≡ chunk end n four
-    rest_of_chunks = rw (a_is, b_is, c_is, d_is) (four_of_chunks end n)
-
-    pub four_finished : rest ≡ of_rest → Written at old four now → put_mid end n now rest ≡ four
-    four_finished is before = rest_written end n old four now rest all length-four (is ∙ rest_of_chunks) (subst (λ k. Written k old four now) reached before)
-
-    pub four_added_rest : rest ≡ add_bytes (chunk end n now) of_rest → Written at old (add_bytes old four) now → put_mid end n now rest ≡ add_bytes old four
-    four_added_rest is before =
-        let done = subst (λ k. Written k old (add_bytes old four) now) reached before in
-        rest_written end n old (add_bytes old four) now rest all length-added
-        (is ∙ (ap₂ add_bytes (chunk_left end n old (add_bytes old four) now (omega (arith, all)) done) rest_of_chunks ∙ added_of_chunks end n)) done
+  pub four_rest : (keep : Bool) (at end : ℕ) (now rest : List ℕ) → at ≡ end → end ≤ length old
+      → rest ≡ add_bytes (kept keep (chunk end (length now - end) now))
+      (sum_of_four by (chunk end (length a - end) a) (chunk end (length b - end) b) (chunk end (length c - end) c) (chunk end (length d - end) d))
+      → Written at old (add_bytes (kept keep old) four) now → put_mid end (length now - end) now rest ≡ add_bytes (kept keep old) four
+  four_rest keep at end now rest reached within is before =
+      rest_written (four_parts keep) at end now rest reached within (rw (a_same, b_same, c_same, d_same) at is) before
 
   -- product by product is the same as their sum
   pub one_by_one : add_bytes (add_bytes (add_bytes (add_bytes old of_a) (scale (get_or by 1 0) b)) (scale (get_or by 2 0) c)) (scale (get_or by 3 0) d) ≡ add_bytes old four

@@ -1,4 +1,4 @@
-use Rattle.std.proofs.Common.{◌^◌, ◌∷◌, length, refl, ap, ◌∙◌, length-append, arith}
+use Rattle.std.proofs.Common.{◌^◌, ◌∷◌, length, refl, ap, ◌∙◌, length-append, arith, rules}
 use Rattle.run_alloc.specs.Order.{rank_of}
 use Rattle.run_alloc.proofs.Laid.{laid-steady}
 use Rattle.run_alloc.proofs.Moves.{found_rises_all, found_light, found_kept, set_amid, set_starts, pull_laid, pull_adds}
@@ -17,26 +17,22 @@ pull-requires-clause-kept c =
     let is = rw (c.deref.ensures.value, c.rank.ensures) at c.chunk_of-place.ensures in
     found_kept (rank_of c.args.order) c.args.chunks.now.items c.args.run _ is c.index_mut.result.now c.index_mut.ensures.value c.requires.laid c.requires.even c.requires.kept
 
-pub returns-clause-adds : goal.returns-clause-adds
-returns-clause-adds c =
+pub returns : goal.returns
+returns c =
+    let rank = rank_of c.args.order in
+    let all = c.args.chunks.now.items in
+    let run = c.args.run in
     let is = rw (c.deref.ensures.value, c.rank.ensures) at c.chunk_of-place.ensures in
-    pull_adds (rank_of c.args.order) c.args.chunks.now.items c.args.run _ is c.index_mut.result.now c.index_mut.ensures.value c.requires.laid c.requires.even _ refl c.pull.ensures.pulls
-
-pub returns-clause-laid : goal.returns-clause-laid
-returns-clause-laid c =
-    let is = rw (c.deref.ensures.value, c.rank.ensures) at c.chunk_of-place.ensures in
-    pull_laid (rank_of c.args.order) c.args.chunks.now.items c.args.run _ is c.index_mut.result.now c.index_mut.ensures.value c.requires.laid c.requires.even _ refl c.pull.ensures.pulls
-
-pub returns-clause-starts : goal.returns-clause-starts
-returns-clause-starts c =
-    let is = rw (c.deref.ensures.value, c.rank.ensures) at c.chunk_of-place.ensures in
-    set_starts (rank_of c.args.order) c.args.chunks.now.items c.args.run _ is c.index_mut.result.now c.index_mut.ensures.value c.requires.laid c.requires.even _ refl ∙ c.requires.starts
-
-pub returns-clause-amid : goal.returns-clause-amid
-returns-clause-amid c =
-    let is = rw (c.deref.ensures.value, c.rank.ensures) at c.chunk_of-place.ensures in
-    let light = found_light (rank_of c.args.order) c.args.chunks.now.items c.args.run _ is c.index_mut.result.now c.index_mut.ensures.value c.requires.laid c.requires.even in
-    let adds = c.pull.ensures.pulls in
-    set_amid (rank_of c.args.order) c.args.chunks.now.items c.args.run _ is c.index_mut.result.now c.index_mut.ensures.value c.requires.laid c.requires.even _ refl
-    (omega (arith, light, ap length adds.was, ap length adds.is, length-append adds.before adds.after, length-append adds.before (c.args.run ∷ adds.after)))
-    (omega (arith, light, c.pull.ensures.capacity))
+    let here = c.index_mut.result.now in
+    let at = c.index_mut.ensures.value in
+    let light = found_light rank all run _ is here at c.requires.laid c.requires.even in
+    let pulls = c.pull.ensures.pulls in
+    record {
+      adds = pull_adds rank all run _ is here at c.requires.laid c.requires.even _ refl pulls;
+      laid = pull_laid rank all run _ is here at c.requires.laid c.requires.even _ refl pulls;
+      starts = set_starts rank all run _ is here at c.requires.laid c.requires.even _ refl ∙ c.requires.starts;
+      amid = set_amid rank all run _ is here at c.requires.laid c.requires.even _ refl
+          (omega (arith, light, ap length pulls.was, ap length pulls.is, length-append pulls.before pulls.after, length-append pulls.before (run ∷ pulls.after))) (omega (arith, light, c.pull.ensures.capacity));
+      len = search rules;
+      capacity = search rules;
+    }

@@ -1,4 +1,4 @@
-use Rattle.std.proofs.Common.{◌^◌, ◌∷◌, length, refl, ap, ◌∙◌, length-append, arith}
+use Rattle.std.proofs.Common.{◌^◌, ◌∷◌, length, refl, ap, ◌∙◌, length-append, arith, rules}
 use Rattle.run_alloc.specs.Order.{rank_of}
 use Rattle.run_alloc.proofs.Ranks.{rises-steady}
 use Rattle.run_alloc.proofs.Laid.{laid-steady}
@@ -18,26 +18,22 @@ put-requires-clause-room c =
     let is = rw (c.deref.ensures.value, c.rank.ensures) at c.chunk_of-place.ensures in
     omega (arith, found_light (rank_of c.args.order) c.args.chunks.now.items c.args.run _ is c.index_mut.result.now c.index_mut.ensures.value c.requires.laid c.requires.even)
 
-pub returns-clause-adds : goal.returns-clause-adds
-returns-clause-adds c =
+pub returns : goal.returns
+returns c =
+    let rank = rank_of c.args.order in
+    let all = c.args.chunks.now.items in
+    let run = c.args.run in
     let is = rw (c.deref.ensures.value, c.rank.ensures) at c.chunk_of-place.ensures in
-    put_adds (rank_of c.args.order) c.args.chunks.now.items c.args.run _ is c.index_mut.result.now c.index_mut.ensures.value c.requires.laid c.requires.even _ refl c.put.ensures.puts
-
-pub returns-clause-laid : goal.returns-clause-laid
-returns-clause-laid c =
-    let is = rw (c.deref.ensures.value, c.rank.ensures) at c.chunk_of-place.ensures in
-    put_laid (rank_of c.args.order) c.args.chunks.now.items c.args.run _ is c.index_mut.result.now c.index_mut.ensures.value c.requires.laid c.requires.even _ refl c.put.ensures.puts c.requires.fresh
-
-pub returns-clause-starts : goal.returns-clause-starts
-returns-clause-starts c =
-    let is = rw (c.deref.ensures.value, c.rank.ensures) at c.chunk_of-place.ensures in
-    set_starts (rank_of c.args.order) c.args.chunks.now.items c.args.run _ is c.index_mut.result.now c.index_mut.ensures.value c.requires.laid c.requires.even _ refl ∙ c.requires.starts
-
-pub returns-clause-amid : goal.returns-clause-amid
-returns-clause-amid c =
-    let is = rw (c.deref.ensures.value, c.rank.ensures) at c.chunk_of-place.ensures in
-    let light = found_light (rank_of c.args.order) c.args.chunks.now.items c.args.run _ is c.index_mut.result.now c.index_mut.ensures.value c.requires.laid c.requires.even in
+    let here = c.index_mut.result.now in
+    let at = c.index_mut.ensures.value in
+    let light = found_light rank all run _ is here at c.requires.laid c.requires.even in
     let puts = c.put.ensures.puts in
-    set_amid (rank_of c.args.order) c.args.chunks.now.items c.args.run _ is c.index_mut.result.now c.index_mut.ensures.value c.requires.laid c.requires.even _ refl
-    (omega (arith, light, ap length puts.was, ap length puts.is, length-append puts.before puts.after, length-append puts.before (c.args.run ∷ puts.after)))
-    (omega (arith, light, c.put.ensures.capacity))
+    record {
+      adds = put_adds rank all run _ is here at c.requires.laid c.requires.even _ refl puts;
+      laid = put_laid rank all run _ is here at c.requires.laid c.requires.even _ refl puts c.requires.fresh;
+      starts = set_starts rank all run _ is here at c.requires.laid c.requires.even _ refl ∙ c.requires.starts;
+      amid = set_amid rank all run _ is here at c.requires.laid c.requires.even _ refl
+          (omega (arith, light, ap length puts.was, ap length puts.is, length-append puts.before puts.after, length-append puts.before (run ∷ puts.after))) (omega (arith, light, c.put.ensures.capacity));
+      len = search rules;
+      capacity = search rules;
+    }
