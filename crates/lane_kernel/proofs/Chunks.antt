@@ -15,9 +15,6 @@ pub record Written (at : ℕ) (old whole now : List ℕ) : Type 0 where
   pub done : (k : ℕ) → k < at → get_or now k 0 ≡ get_or whole k 0
   pub left : (k : ℕ) → at ≤ k → get_or now k 0 ≡ get_or old k 0
 
-pub none_written : (old whole : List ℕ) → Written 0 old whole old
-none_written old whole = record { long = refl; done = λ k below. absurd (omega arith); left = λ k above. refl }
-
 pub byte_written : (at : ℕ) (old whole now : List ℕ) (x : ℕ) → at < length old → x ≡ get_or whole at 0 → Written at old whole now → Written (at + 1) old whole (set now at x)
 byte_written at old whole now x within is before = record {
   long = length-set now at x ∙ before.long;
