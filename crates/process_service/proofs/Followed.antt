@@ -1,5 +1,5 @@
 -- A partition after a message of its head.
-use Rattle.std.proofs.Common.{ℕ, zero, suc, ◌≡◌, ◌+◌, ◌-◌, ◌<◌, ◌≤◌, nat_le, true, List, [], ◌∷◌, Some, None, length, take, refl, sym, ap, ◌∙◌, arith}
+use Rattle.std.proofs.Common.{ℕ, zero, suc, ◌≡◌, ◌+◌, ◌-◌, ◌≤◌, nat_le, true, List, [], ◌∷◌, Some, None, length, take, refl, sym, ap, ◌∙◌, arith}
 use Rattle.std.specs.List.{slice_get}
 use Rattle.std.proofs.lemmas.Option.{slice_get-get_or, slice_get_within}
 use Rattle.group_types.specs.Dimensions.{Dimensions}
@@ -8,7 +8,7 @@ use Rattle.group_types.proofs.Lists.{at-put, put-put}
 use Rattle.group_types.specs.declared.process.ProcessId.{ProcessId}
 use Rattle.group_message.specs.declared.message.Message.TheVariants as tells
 use Rattle.group_message.specs.declared.update.Update.{Update}
-use Rattle.group_run.specs.Applying.{ProcessStep, Sent, Settlement, apply_to, bytes_after, replica_of, sending, when, with_replica}
+use Rattle.group_run.specs.Applying.{ProcessStep, Sent, Settlement, apply_to, bytes_after, replica_of, when, with_replica}
 use Rattle.group_run.specs.Fitting.{NumberedFrom}
 use Rattle.group_run.specs.Process.{Process}
 use Rattle.group_run.specs.Heading.{partition, rank}
@@ -31,8 +31,7 @@ module _ (s : Dimensions) (d : ℕ) (v : Serving) (b : Process) (r : Replica) (h
 
   pub applied-as : (n : ℕ) (r2 : Replica) (b2 : Process) → r2 ≡ applied_to n r → b2 ≡ bytes_after s d (up_to n r) b → after r2 b2 ≡ apply_to s d n (serving v b)
   applied-as n r2 b2 r-is b-is =
-      ap (λ (x : Replica). after x b2) r-is ∙ ap (after (applied_to n r)) b-is
-      ∙ sym (ap (λ (x : Replica). after (applied_to n x) (bytes_after s d (up_to n x) b)) here)
+      rw (r-is, b-is) (sym (ap (λ (x : Replica). after (applied_to n x) (bytes_after s d (up_to n x) b)) here))
 
   pub changed-as : (f : Replica → Replica) (n : ℕ) (r2 : Replica) (b2 : Process) → r2 ≡ f (applied_to n r) → b2 ≡ bytes_after s d (up_to n r) b
       → with_replica d (f (replica_of (apply_to s d n (serving v b)) d)) (apply_to s d n (serving v b)) ≡ after r2 b2
@@ -64,9 +63,7 @@ adoption-made s d v b r here from n base list r2 b2 current r-is b-is =
 pub acknowledged-as : (from : ProcessId) (r d n : ℕ) (p : Process) (sent : List Sent) (settled : List Settlement)
     → sent ≡ record { to = from; message = tells.Ack (rank r) (partition d) n } ∷ [] → settled ≡ []
     → ack_to from r d n p ≡ record { process = p; sent = sent; settled = settled }
-acknowledged-as from r d n p sent settled sent-is settled-is =
-    ap (λ (xs : List Sent). record (sending xs p) { settled = [] }) (sym sent-is)
-    ∙ ap (λ (xs : List Settlement). record (sending sent p) { settled = xs }) (sym settled-is)
+acknowledged-as from r d n p sent settled sent-is settled-is = rw (sent-is, settled-is) refl
 
 -- the number of the last update of a list above its base
 numbered-at : (first i : ℕ) (us : List Update) (u : Update) → NumberedFrom first us → slice_get us i ≡ Some u → u.number ≡ first + i

@@ -3,7 +3,6 @@ use Rattle.std.specs.Prelude.{set}
 use Rattle.std.proofs.lemmas.Bool.{leb-true}
 use Rattle.group_types.specs.Dimensions.{Dimensions}
 use Rattle.group_types.specs.Lists.{at, put}
-use Rattle.group_message.specs.declared.update.Update.{Update}
 use Rattle.group_run.specs.Fitting.{AdoptFits}
 use Rattle.group_run.specs.Process.{Process}
 use Rattle.group_run.specs.Receiving.{ack_to, adopt_comes}

@@ -1,4 +1,4 @@
-use Rattle.std.proofs.Common.{◌≤◌, vec_capacity, length, sym, ap, ◌∙◌}
+use Rattle.std.proofs.Common.{◌≤◌, vec_capacity, length, ap, ◌∙◌}
 use Rattle.group_types.specs.Dimensions.{Dimensions}
 use Rattle.group_run.specs.Applying.{apply_to}
 use Rattle.group_run.specs.Process.{Process}

@@ -1,4 +1,4 @@
-use Rattle.std.proofs.Common.{ℕ, ◌≡◌, Bool, Some, true, ap, sym, ◌∙◌}
+use Rattle.std.proofs.Common.{ℕ, Bool, Some, true, ap, sym, ◌∙◌}
 use Rattle.group_types.specs.Dimensions.{Dimensions}
 use Rattle.group_types.specs.Lists.{at}
 use Rattle.group_run.specs.Process.{Head, new_head}

@@ -1,4 +1,4 @@
-use Rattle.std.proofs.Common.{ℕ, ◌≡◌, false, vec_len, vec_capacity, length, map, All, IfSome, Option, Some, sym, ap, subst, ◌∙◌, arith}
+use Rattle.std.proofs.Common.{ℕ, ◌≡◌, false, vec_len, vec_capacity, length, map, IfSome, Option, Some, sym, ap, subst, ◌∙◌, arith}
 use Rattle.std.proofs.lemmas.List.Elements.{All-set}
 use Rattle.std.specs.Prelude.{set}
 use Rattle.group_types.specs.Dimensions.{Dimensions}
@@ -13,7 +13,7 @@ use Rattle.process_service.specs.Steps.{HasMade}
 use Rattle.process_service.proofs.Lent.{IsLent, has-replica, headed, headed-is, here, other-heads, ready-of, room-left, same-shape, stands-applied, waits-in}
 use Rattle.process_service.proofs.Lists.{long-set}
 use Rattle.process_service.proofs.Standing.{peers-are}
-use Rattle.process_service.proofs.Taken.{heir-long, left-alone, taken-made}
+use Rattle.process_service.proofs.Taken.{heir-long, taken-made}
 use Rattle.process_service.proofs.service.Service.take_over_if.Given as given
 use Rattle.process_service.proofs.service.Service.take_over_if.Goals as goal
 
