@@ -1,5 +1,5 @@
 -- What following keeps and asks.
-use Rattle.std.proofs.Common.{ℕ, suc, ◌≡◌, ◌+◌, ◌-◌, ◌≤◌, Bool, ◌||◌, true, false, List, [], ◌∷◌, ◌++◌, length, take, All, is_some, refl, ap, ◌∙◌, subst, arith}
+use Rattle.std.proofs.Common.{ℕ, suc, ◌≡◌, ◌+◌, ◌-◌, ◌≤◌, Bool, ◌||◌, true, false, List, [], ◌∷◌, ◌++◌, length, take, All, is_some, refl, sym, ap, ◌∙◌, subst, arith}
 use Rattle.std.proofs.Math.Bool.{or-true}
 use Rattle.std.proofs.lemmas.List.{length-take-le}
 use Rattle.std.proofs.lemmas.List.Elements.{All-cons, All-nil}
@@ -14,10 +14,11 @@ use Rattle.partition_replica.specs.State.{IsTidyBut, State, is_needed, is_touche
 use Rattle.head_service.specs.Settling.{updates_of}
 use Rattle.head_service.proofs.Tidying.{number-last, updates-are}
 
--- the updates of a list that was empty before it was settled
-pub settled-are : (d : ℕ) (us : List Update) (old new slice : List Settlement) → old ≡ [] → new ≡ old ++ settlements d us → slice ≡ new → updates_of slice ≡ us
-settled-are d us old new slice empty is same =
-    ap updates_of (same ∙ is ∙ ap (λ (xs : List Settlement). xs ++ settlements d us) empty) ∙ updates-are d us
+-- what is owed of the updates of a list that was empty before it was settled
+pub settled-owed : (t : State) (d : ℕ) (us : List Update) (old new slice : List Settlement) → old ≡ [] → new ≡ old ++ settlements d us → slice ≡ new
+    → (owed : List ℕ → Bool) → IsTidyBut t (λ q. owed q || is_touched us q) → IsTidyBut t (λ q. owed q || is_touched (updates_of slice) q)
+settled-owed t d us old new slice empty is same owed tidy = subst (λ (vs : List Update). IsTidyBut t (λ q. owed q || is_touched vs q))
+    (sym (ap updates_of (same ∙ is ∙ ap (λ (xs : List Settlement). xs ++ settlements d us) empty) ∙ updates-are d us)) tidy
 
 -- nothing is owed of an update that stands in the log
 pub received-tidy : (s t : State) (u : Update) (owed : List ℕ → Bool) → t.replica ≡ with_update u s.replica

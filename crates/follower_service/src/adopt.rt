@@ -1,10 +1,10 @@
-ghost use Rattle.std.specs.Prelude.{◌≡◌, ◌+◌, ◌-◌, ◌<◌, ◌≤◌, ◌||◌, ℕ, Bool, List, [], false, drop, length, vec_capacity, All, OnErr, OnOk};
+ghost use Rattle.std.specs.Prelude.{◌≡◌, ◌<◌, ℕ, false, length, All, OnErr, OnOk};
 ghost use Rattle.group_message.specs.declared.update.Update.{Update};
 ghost use Rattle.group_run.specs.Applying.{bytes_after};
 ghost use Rattle.group_run.specs.Fitting.{AdoptFits};
 ghost use Rattle.group_run.specs.Receiving.{adopting};
 ghost use Rattle.group_run.specs.Replica.{applied_to, up_to};
-ghost use Rattle.partition_replica.specs.State.{HasRoom, IsTidyBut, is_touched};
+ghost use Rattle.partition_replica.specs.State.{IsTidyBut};
 
 use crate::keys::tidy_all;
 use crate::prepare::{Prepared, for_list};
@@ -41,70 +41,22 @@ pub fn adopt<B: Beneath>(
     ensures replica_err { OnErr result (replica.new.replica ≡ replica.old.replica) }
     ensures bytes_err { OnErr result (B.process below.new ≡ B.process below.old) }
 {
-    let adopted = try_adopt(alloc, partition, base, list, replica, below);
-    tidy_all(replica, list.updates());
-    adopted
-}
-
-// The same; a tidying of the keys of the list is owed.
-fn try_adopt<B: Beneath>(
-    alloc: Global,
-    partition: Partition,
-    base: u64,
-    list: &UpdateList,
-    replica: &mut Replica,
-    below: &mut B,
-) -> Result<(), AllocError>
-    requires fits { AdoptFits replica.old.shape replica.old.replica base list.now }
-    requires shape { B.shape below.old ≡ replica.old.shape }
-    requires ready { All (λ u. B.is_ready below.old partition.0 u) replica.old.replica.log }
-    requires blocks { partition.0 < length (B.process below.old).as_leader.rebuilt }
-    requires tidy { IsTidyBut replica.old (λ _. false) }
-    ensures shape { replica.new.shape ≡ replica.old.shape }
-    ensures owed { IsTidyBut replica.new (λ q. false || is_touched list.now q) }
-    ensures below { B.shape below.new ≡ B.shape below.old }
-    ensures kept { (d : ℕ) (u : Update) → B.is_ready below.old d u → B.is_ready below.new d u }
-    ensures ready { All (λ u. B.is_ready below.new partition.0 u) replica.new.replica.log }
-    ensures replica { OnOk result (replica.new.replica ≡ adopting base list.now (applied_to base replica.old.replica)) }
-    ensures bytes { OnOk result (B.process below.new
-        ≡ bytes_after (B.shape below.old) partition.0 (up_to base replica.old.replica) (B.process below.old)) }
-    ensures replica_err { OnErr result (replica.new.replica ≡ replica.old.replica) }
-    ensures bytes_err { OnErr result (B.process below.new ≡ B.process below.old) }
-{
-    let prepared = for_list(alloc, partition, base, list, replica, below)?;
-    take(partition, base, prepared, replica, below);
-    Ok(())
-}
-
-fn take<B: Beneath>(
-    partition: Partition,
-    base: u64,
-    prepared: Prepared<UpdateList>,
-    replica: &mut Replica,
-    below: &mut B,
-)
-    requires fits { AdoptFits replica.old.shape replica.old.replica base prepared.copy }
-    requires room { HasRoom replica.old.room prepared.copy }
-    requires empty { prepared.room.items ≡ [] }
-    requires settles { length (up_to base replica.old.replica) ≤ vec_capacity prepared.room }
-    requires shape { B.shape below.old ≡ replica.old.shape }
-    requires logged { All (λ u. B.is_ready below.old partition.0 u) replica.old.replica.log }
-    requires ready { All (λ u. B.is_ready below.old partition.0 u) (drop (replica.old.replica.applied - base) prepared.copy) }
-    requires blocks { partition.0 < length (B.process below.old).as_leader.rebuilt }
-    requires tidy { IsTidyBut replica.old (λ q. false || is_touched prepared.copy q) }
-    ensures shape { replica.new.shape ≡ replica.old.shape }
-    ensures replica { replica.new.replica ≡ adopting base prepared.copy (applied_to base replica.old.replica) }
-    ensures tidy { IsTidyBut replica.new (λ q. false || is_touched prepared.copy q) }
-    ensures below { B.shape below.new ≡ B.shape below.old }
-    ensures bytes { B.process below.new ≡ bytes_after (B.shape below.old) partition.0 (up_to base replica.old.replica) (B.process below.old) }
-    ensures kept { (d : ℕ) (u : Update) → B.is_ready below.old d u → B.is_ready below.new d u }
-    ensures ready { All (λ u. B.is_ready below.new partition.0 u) replica.new.replica.log }
-{
-    let Prepared {
-        copy,
-        room: mut settled,
-    } = prepared;
-    settle_to(partition, base, replica, below, &mut settled);
-    replica.adopt(base, copy);
-    tidy(replica, &settled);
+    match for_list(alloc, partition, base, list, replica, below) {
+        Ok(
+            Prepared {
+                copy,
+                room: mut settled,
+            },
+        ) => {
+            settle_to(partition, base, replica, below, &mut settled);
+            replica.adopt(base, copy);
+            tidy(replica, &settled);
+            tidy_all(replica, list.updates());
+            Ok(())
+        }
+        Err(AllocError) => {
+            tidy_all(replica, list.updates());
+            Err(AllocError)
+        }
+    }
 }

@@ -1,10 +1,9 @@
-ghost use Rattle.std.specs.Prelude.{◌≡◌, ◌+◌, ◌<◌, ◌≤◌, ◌||◌, ℕ, [], ◌∷◌, false, length, vec_capacity, All, OnErr, OnOk};
-ghost use Rattle.group_types.specs.Dimensions.{space_of};
+ghost use Rattle.std.specs.Prelude.{◌≡◌, ◌<◌, ℕ, false, length, All, OnErr, OnOk};
 ghost use Rattle.group_message.specs.declared.update.Update.{Update};
 ghost use Rattle.group_run.specs.Applying.{bytes_after};
-ghost use Rattle.group_run.specs.Fitting.{CanCome, UpdateFits};
-ghost use Rattle.group_run.specs.Replica.{applied_to, last_of, up_to, with_update};
-ghost use Rattle.partition_replica.specs.State.{HasRoom, IsTidyBut, is_touched};
+ghost use Rattle.group_run.specs.Fitting.{UpdateFits};
+ghost use Rattle.group_run.specs.Replica.{applied_to, up_to, with_update};
+ghost use Rattle.partition_replica.specs.State.{IsTidyBut};
 
 use crate::keys::tidy_all;
 use crate::prepare::{Prepared, for_update};
@@ -43,8 +42,15 @@ pub fn follow<B: Beneath>(
     ensures bytes_err { OnErr result (B.process below.new ≡ B.process below.old) }
 {
     match for_update(alloc, partition, update, stable, replica, below) {
-        Ok(prepared) => {
-            take(partition, stable, prepared, replica, below);
+        Ok(
+            Prepared {
+                copy,
+                room: mut settled,
+            },
+        ) => {
+            settle_to(partition, stable, replica, below, &mut settled);
+            replica.receive(copy);
+            tidy(replica, &settled);
             Ok(())
         }
         Err(AllocError) => {
@@ -52,38 +58,4 @@ pub fn follow<B: Beneath>(
             Err(AllocError)
         }
     }
-}
-
-fn take<B: Beneath>(
-    partition: Partition,
-    stable: u64,
-    prepared: Prepared<Update>,
-    replica: &mut Replica,
-    below: &mut B,
-)
-    requires next { prepared.copy.number ≡ last_of replica.old.replica + 1 }
-    requires comes { CanCome (space_of replica.old.shape) (applied_to stable replica.old.replica) prepared.copy }
-    requires room { HasRoom replica.old.room (prepared.copy ∷ []) }
-    requires empty { prepared.room.items ≡ [] }
-    requires fits { length (up_to stable replica.old.replica) ≤ vec_capacity prepared.room }
-    requires shape { B.shape below.old ≡ replica.old.shape }
-    requires logged { All (λ u. B.is_ready below.old partition.0 u) replica.old.replica.log }
-    requires ready { B.is_ready below.old partition.0 prepared.copy }
-    requires blocks { partition.0 < length (B.process below.old).as_leader.rebuilt }
-    requires tidy { IsTidyBut replica.old (λ q. false || is_touched (prepared.copy ∷ []) q) }
-    ensures shape { replica.new.shape ≡ replica.old.shape }
-    ensures replica { replica.new.replica ≡ with_update prepared.copy (applied_to stable replica.old.replica) }
-    ensures tidy { IsTidyBut replica.new (λ _. false) }
-    ensures below { B.shape below.new ≡ B.shape below.old }
-    ensures bytes { B.process below.new ≡ bytes_after (B.shape below.old) partition.0 (up_to stable replica.old.replica) (B.process below.old) }
-    ensures kept { (d : ℕ) (u : Update) → B.is_ready below.old d u → B.is_ready below.new d u }
-    ensures ready { All (λ u. B.is_ready below.new partition.0 u) replica.new.replica.log }
-{
-    let Prepared {
-        copy,
-        room: mut settled,
-    } = prepared;
-    settle_to(partition, stable, replica, below, &mut settled);
-    replica.receive(copy);
-    tidy(replica, &settled);
 }

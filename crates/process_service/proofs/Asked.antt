@@ -12,9 +12,7 @@ use Rattle.erasure_code.specs.Spaces.{bytes_at}
 use Rattle.group_calls.specs.Turns.{CallName}
 use Rattle.group_calls.specs.declared.decision.Decision.{Decision}
 use Rattle.group_calls.specs.declared.decision.Decision.TheVariants.{NeedBlock}
-use Rattle.group_calls.specs.declared.event.Answer.{Answer}
 use Rattle.group_calls.specs.declared.event.Answer.TheVariants as says
-use Rattle.group_run.specs.Applying.{Sent, Settlement}
 use Rattle.group_run.specs.Asking.{act_on, ask_head, found_at}
 use Rattle.group_run.specs.Deciding.{decide}
 use Rattle.group_run.specs.Process.{Head, Held, Process}
@@ -34,10 +32,7 @@ use Rattle.process_service.proofs.Whole.{needs_none}
 pub moved : (s : Dimensions) (name : CallName) (op : asks.Asked) (p : Process) (step : CallStep) → at None p.heads (home_of (key_of op.act) s.k) ≡ None
     → step.answer ≡ says.Moved → step.sent.items ≡ [] → step.settled.items ≡ [] → IsAsked s name op p (Done step) p
 moved s name op p step none answer sent settled =
-    ap (ask_head s name op (home_of (key_of op.act) s.k) p) none
-    ∙ ap (λ (a : Answer). record { step = record { process = p; sent = []; settled = [] }; answer = a }) (sym answer)
-    ∙ ap (λ (xs : List Sent). record { step = record { process = p; sent = xs; settled = [] }; answer = step.answer }) (sym sent)
-    ∙ ap (λ (xs : List Settlement). record { step = record { process = p; sent = step.sent.items; settled = xs }; answer = step.answer }) (sym settled)
+    rw (answer, sent, settled) (ap (ask_head s name op (home_of (key_of op.act) s.k) p) none)
 
 module _ (s : Dimensions) (v : Serving) (b : Process) (peers : Peers) (h : Head) (r : Replica) (name : CallName) (op : asks.Asked) where
   abbrev d : ℕ
@@ -58,14 +53,7 @@ module _ (s : Dimensions) (v : Serving) (b : Process) (peers : Peers) (h : Head)
       → IsMade (decided s d h op r b) (acts s d peers h name op r calls b (decided s d h op r b)) asked r2 held b2
       → IsAsked s name op (serving v b) asked (thus r2 held b2)
   asked-is are heads (Done step) r2 held b2 made =
-      let m : HeadStep = acts s d peers h name op r calls b (decided s d h op r b) in
-      asks_are_the_machines s v b peers h r name op are heads made.1
-      ∙ ap (λ (x : Replica). record { step = record { process = thus x m.held m.bytes; sent = m.sent; settled = m.settled }; answer = m.answer }) (sym made.0.replica)
-      ∙ ap (λ (x : List Held). record { step = record { process = thus r2 x m.bytes; sent = m.sent; settled = m.settled }; answer = m.answer }) (sym made.0.held)
-      ∙ ap (λ (x : Process). record { step = record { process = thus r2 held x; sent = m.sent; settled = m.settled }; answer = m.answer }) (sym made.0.bytes)
-      ∙ ap (λ (x : List Sent). record { step = record { process = thus r2 held b2; sent = x; settled = m.settled }; answer = m.answer }) (sym made.0.sent)
-      ∙ ap (λ (x : List Settlement). record { step = record { process = thus r2 held b2; sent = step.sent.items; settled = x }; answer = m.answer }) (sym made.0.settled)
-      ∙ ap (λ (x : Answer). record { step = record { process = thus r2 held b2; sent = step.sent.items; settled = step.settled.items }; answer = x }) (sym made.0.answer)
+      rw (made.0.replica, made.0.held, made.0.bytes, made.0.sent, made.0.settled, made.0.answer) (asks_are_the_machines s v b peers h r name op are heads made.1)
   asked-is are heads (Need block) r2 held b2 made =
       let act : Decision → HeadStep = acts s d peers h name op r calls b in
       let same_r : r2 ≡ r = made.1 ∙ ap (λ (x : Decision). (act x).replica) made.0 in

@@ -1,5 +1,5 @@
 -- An acknowledgement that counts, and one that doesn't.
-use Rattle.std.proofs.Common.{ℕ, ◌≡◌, ◌==◌, Bool, true, false, List, [], Option, Some, None, refl, sym, ap, ◌∙◌}
+use Rattle.std.proofs.Common.{ℕ, ◌≡◌, ◌==◌, Bool, true, false, List, [], Option, Some, None, refl, ap, ◌∙◌}
 use Rattle.group_types.specs.Dimensions.{Dimensions}
 use Rattle.group_types.specs.Lists.{at, put}
 use Rattle.group_types.proofs.Lists.{at-put}
@@ -33,14 +33,8 @@ module _ (s : Dimensions) (v : Serving) (b : Process) (i rank d n : ℕ) where
       ≡ quietly (serving (record v { heads = put None v.heads d (Some h2); replicas = put empty_replica v.replicas d r2 }) b2) settled
   counted peers h r are heads same h2 r2 b2 settled h-is r-is b-is settled-are =
       let w : Serving = record v { heads = put None v.heads d (Some (acknowledged i n h)) } in
+      rw (h-is, r-is, b-is, settled-are) (
       ap (λ (x : Option Head). acknowledge s i rank d n x (serving v b)) heads.head
       ∙ ap (λ (x : Bool). when x (serving v b) (judge s d (serving w b))) same
       ∙ judges_are_the_machines s w b peers d (acknowledged i n h) r (record { m = are.m; name = are.name; known = are.known })
-      (record { head = at-put None None v.heads d (Some (acknowledged i n h)); replica = heads.replica; has_replica = heads.has_replica; has_held = heads.has_held })
-      ∙ ap (λ (x : Head). quietly (serving (record v { heads = put None v.heads d (Some x); replicas = put empty_replica v.replicas d (applied_to (settles peers (acknowledged i n h) (last_of r)) r) })
-      (bytes_after s d (up_to (settles peers (acknowledged i n h) (last_of r)) r) b)) (settlements d (up_to (settles peers (acknowledged i n h) (last_of r)) r))) (sym h-is)
-      ∙ ap (λ (x : Replica). quietly (serving (record v { heads = put None v.heads d (Some h2); replicas = put empty_replica v.replicas d x })
-      (bytes_after s d (up_to (settles peers (acknowledged i n h) (last_of r)) r) b)) (settlements d (up_to (settles peers (acknowledged i n h) (last_of r)) r))) (sym r-is)
-      ∙ ap (λ (x : Process). quietly (serving (record v { heads = put None v.heads d (Some h2); replicas = put empty_replica v.replicas d r2 }) x)
-      (settlements d (up_to (settles peers (acknowledged i n h) (last_of r)) r))) (sym b-is)
-      ∙ ap (quietly (serving (record v { heads = put None v.heads d (Some h2); replicas = put empty_replica v.replicas d r2 }) b2)) (sym settled-are)
+      (record { head = at-put None None v.heads d (Some (acknowledged i n h)); replica = heads.replica; has_replica = heads.has_replica; has_held = heads.has_held }))

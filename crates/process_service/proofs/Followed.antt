@@ -1,25 +1,20 @@
 -- A partition after a message of its head.
-use Rattle.std.proofs.Common.{ℕ, zero, suc, ◌≡◌, ◌+◌, ◌-◌, ◌<◌, ◌≤◌, nat_le, true, List, [], ◌∷◌, Some, None, length, map, take, slice_index_or, All, refl, sym, ap, subst, ◌∙◌, arith}
-use Rattle.std.specs.Prelude.{set}
+use Rattle.std.proofs.Common.{ℕ, zero, suc, ◌≡◌, ◌+◌, ◌-◌, ◌≤◌, nat_le, true, List, [], ◌∷◌, Some, None, length, take, refl, sym, ap, ◌∙◌, arith}
 use Rattle.std.specs.List.{slice_get}
 use Rattle.std.proofs.lemmas.Option.{slice_get-get_or, slice_get_within}
 use Rattle.group_types.specs.Dimensions.{Dimensions}
 use Rattle.group_types.specs.Lists.{at, put}
-use Rattle.group_types.proofs.Lists.{at-put, put-at, put-put}
+use Rattle.group_types.proofs.Lists.{at-put, put-put}
 use Rattle.group_types.specs.declared.process.ProcessId.{ProcessId}
 use Rattle.group_message.specs.declared.message.Message.TheVariants as tells
 use Rattle.group_message.specs.declared.update.Update.{Update}
-use Rattle.group_run.specs.Applying.{ProcessStep, Sent, Settlement, apply_to, bytes_after, replica_of, sending, when, with_replica}
+use Rattle.group_run.specs.Applying.{ProcessStep, Sent, Settlement, apply_to, bytes_after, replica_of, when, with_replica}
 use Rattle.group_run.specs.Fitting.{NumberedFrom}
 use Rattle.group_run.specs.Process.{Process}
 use Rattle.group_run.specs.Heading.{partition, rank}
 use Rattle.group_run.specs.Receiving.{ack_to, adopt_comes, adopting, log_adopted, unless_stale, update_comes, update_taken}
 use Rattle.group_run.specs.Replica.{Replica, applied_to, empty_replica, up_to, with_update}
-use Rattle.partition_replica.specs.State.{State}
 use Rattle.head_service.specs.Serving.{Serving, serving}
-use Rattle.process_service.specs.Standing.{IsBeneath}
-use Rattle.process_service.proofs.Lists.{long-map, part-at, part-put}
-use Rattle.process_service.proofs.Standing.{AreKept, standing-next}
 
 -- nothing is applied where everything up to the number is
 pub none-above : (n : ℕ) (r : Replica) → n ≤ r.applied → up_to n r ≡ []
@@ -36,8 +31,7 @@ module _ (s : Dimensions) (d : ℕ) (v : Serving) (b : Process) (r : Replica) (h
 
   pub applied-as : (n : ℕ) (r2 : Replica) (b2 : Process) → r2 ≡ applied_to n r → b2 ≡ bytes_after s d (up_to n r) b → after r2 b2 ≡ apply_to s d n (serving v b)
   applied-as n r2 b2 r-is b-is =
-      ap (λ (x : Replica). after x b2) r-is ∙ ap (after (applied_to n r)) b-is
-      ∙ sym (ap (λ (x : Replica). after (applied_to n x) (bytes_after s d (up_to n x) b)) here)
+      rw (r-is, b-is) (sym (ap (λ (x : Replica). after (applied_to n x) (bytes_after s d (up_to n x) b)) here))
 
   pub changed-as : (f : Replica → Replica) (n : ℕ) (r2 : Replica) (b2 : Process) → r2 ≡ f (applied_to n r) → b2 ≡ bytes_after s d (up_to n r) b
       → with_replica d (f (replica_of (apply_to s d n (serving v b)) d)) (apply_to s d n (serving v b)) ≡ after r2 b2
@@ -69,9 +63,7 @@ adoption-made s d v b r here from n base list r2 b2 current r-is b-is =
 pub acknowledged-as : (from : ProcessId) (r d n : ℕ) (p : Process) (sent : List Sent) (settled : List Settlement)
     → sent ≡ record { to = from; message = tells.Ack (rank r) (partition d) n } ∷ [] → settled ≡ []
     → ack_to from r d n p ≡ record { process = p; sent = sent; settled = settled }
-acknowledged-as from r d n p sent settled sent-is settled-is =
-    ap (λ (xs : List Sent). record (sending xs p) { settled = [] }) (sym sent-is)
-    ∙ ap (λ (xs : List Settlement). record (sending sent p) { settled = xs }) (sym settled-is)
+acknowledged-as from r d n p sent settled sent-is settled-is = rw (sent-is, settled-is) refl
 
 -- the number of the last update of a list above its base
 numbered-at : (first i : ℕ) (us : List Update) (u : Update) → NumberedFrom first us → slice_get us i ≡ Some u → u.number ≡ first + i
@@ -88,42 +80,3 @@ last-number base us u from is = omega (arith, numbered-at (suc base) (length us 
 pub last-none : (base : ℕ) (us : List Update) → slice_get us (length us - 1) ≡ None → base ≡ base + length us
 last-none base [] is = omega arith
 last-none base (u ∷ us) is = absurd (cc (sym is ∙ slice_get-get_or (u ∷ us) (length (u ∷ us) - 1) u (omega arith)))
-
--- the replica that is lent, among all as the contract sees them, and all of them after it changed
-module _ (states : List State) (v now : Serving) (same : v ≡ now) (view : map (λ (x : State). x.replica) states ≡ v.replicas) (d : ℕ) (within : d < length states)
-    (state : State) (lent : state ≡ slice_index_or states d state) where
-  pub here : at empty_replica now.replicas d ≡ state.replica
-  here = ap (λ (w : Serving). at empty_replica w.replicas d) (sym same) ∙ ap (λ (rs : List Replica). at empty_replica rs d) (sym view)
-      ∙ part-at (λ (x : State). x.replica) empty_replica states d state within lent
-
-  pub has-replica : d < length now.replicas
-  has-replica = omega (arith, within, long-map (λ (x : State). x.replica) states, ap length view, ap (λ (w : Serving). length w.replicas) same)
-
-  abbrev written : State → Serving
-  written t = record v { replicas = map (λ (x : State). x.replica) (set states d t) }
-
-  abbrev turned : Replica → Serving
-  turned r = record now { replicas = put empty_replica now.replicas d r }
-
-  pub put-back : (t : State) → written t ≡ turned t.replica
-  put-back t =
-      ap (λ (rs : List Replica). record v { replicas = rs }) (part-put (λ (x : State). x.replica) empty_replica states d t within
-      ∙ ap (λ (rs : List Replica). put empty_replica rs d t.replica) view)
-      ∙ ap (λ (w : Serving). record w { replicas = put empty_replica w.replicas d t.replica }) same
-
-  pub put-same : (t : State) → t.replica ≡ state.replica → written t ≡ now
-  put-same t same-replica = put-back t ∙ ap (λ (rs : List Replica). record now { replicas = rs })
-      (ap (put empty_replica now.replicas d) (same-replica ∙ sym here) ∙ put-at empty_replica empty_replica now.replicas d has-replica)
-
-  pub stands : (s : Dimensions) (b : Process) (ready : ℕ → Update → Type 0) → IsBeneath now s b ready
-      → (s2 : Dimensions) (b2 : Process) (ready2 : ℕ → Update → Type 0) (t : State) → s2 ≡ s → AreKept b b2
-      → All (ready2 d) t.replica.log → ((e : ℕ) (u : Update) → ready e u → ready2 e u)
-      → IsBeneath (written t) s2 b2 ready2
-  stands s b ready is s2 b2 ready2 t shape kept here others =
-      subst (λ (w : Serving). IsBeneath w s2 b2 ready2) (sym (put-back t))
-      (standing-next now s b ready is (turned t.replica) s2 b2 ready2 d t.replica refl refl refl shape kept here others)
-
--- the ranks don't count beneath
-pub other-ranks : {v : Serving} {s : Dimensions} {b : Process} {ready : ℕ → Update → Type 0} (ranks : List ℕ) → IsBeneath v s b ready
-    → IsBeneath (record v { ranks = ranks }) s b ready
-other-ranks ranks is = record { shape = is.shape; name = is.name; blocks = is.blocks; ready = is.ready }

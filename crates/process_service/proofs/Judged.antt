@@ -25,12 +25,7 @@ pub judged-made : (s : Dimensions) (v : Serving) (b : Process) (peers : Peers) (
     → HasMade (judge s d (serving v b)) before (serving (record v { replicas = put empty_replica v.replicas d r2 }) b2) after
 judged-made s v b peers d h r are heads r2 b2 before after r-is b-is settled =
     let law = judges_are_the_machines s v b peers d h r are heads in
-    record {
-      process = ap (λ (x : Replica). serving (record v { replicas = put empty_replica v.replicas d x }) b2) r-is
-          ∙ ap (λ (x : Process). serving (record v { replicas = put empty_replica v.replicas d (applied_to (settles peers h (last_of r)) r) }) x) b-is
-          ∙ sym (ap (λ (x : ProcessStep). x.process) law);
-      settled = settled ∙ sym (ap (λ (x : ProcessStep). before ++ x.settled) law);
-    }
+    record { process = rw (r-is, b-is) (sym (ap (λ (x : ProcessStep). x.process) law)); settled = settled ∙ sym (ap (λ (x : ProcessStep). before ++ x.settled) law) }
 
 -- what waits in one log waits in all of them, and what is settled of it waits no more
 module _ (rs : List Replica) (d : ℕ) (r : Replica) (here : at empty_replica rs d ≡ r) (within : d < length rs) where

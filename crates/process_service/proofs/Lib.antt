@@ -11,3 +11,4 @@ mod Results
 mod Counted
 mod Judged
 mod Taken
+mod Lent

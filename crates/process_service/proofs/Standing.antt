@@ -14,6 +14,7 @@ use Rattle.group_run.specs.Process.{Head, Held, Process}
 use Rattle.group_run.specs.Replica.{Replica, empty_replica, up_to, with_update}
 use Rattle.memc_table.specs.Asked.{Asked}
 use Rattle.head_service.specs.Acting.{IsMade, acts, next_update}
+use Rattle.head_service.specs.Laws.{ArePeers}
 use Rattle.head_service.specs.Peers.{settles}
 use Rattle.head_service.specs.Serving.{Serving}
 use Rattle.head_service.specs.declared.ask.Asked as code
@@ -74,3 +75,8 @@ made-kept s d peers h name op r held b decision within (Err e) r2 held2 b2 made 
 pub or-same : {T E : Type 0} {b b2 b3 : Process} (result : Result T E) → AreKept b b3 → OnOk result (b2 ≡ b3) → OnErr result (b2 ≡ b) → AreKept b b2
 or-same {b = b} (Ok x) kept ok err = subst (AreKept b) (sym ok) kept
 or-same {b = b} (Err e) kept ok err = subst (AreKept b) (sym err) (record { name = refl; blocks = refl })
+
+-- the peers that a process tells of are those of the process over these bytes
+pub peers-are : {v : Serving} {s : Dimensions} {b : Process} {ready : ℕ → Update → Type 0} → IsBeneath v s b ready → (peers : Peers)
+    → peers.m ≡ v.shape.m → peers.name ≡ v.name → peers.known ≡ v.known → ArePeers s v b peers
+peers-are is peers m name known = record { m = m ∙ sym (ap (λ (x : Dimensions). x.m) is.shape); name = name ∙ sym is.name; known = known }

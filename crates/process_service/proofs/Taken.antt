@@ -65,13 +65,8 @@ module _ (s : Dimensions) (v : Serving) (b : Process) (same : b.name ≡ v.name)
       = ap (λ (due : Bool). when due (serving v b) (taken_over s d (serving v b))) (tested ∙ due-of (is_taken v d) h (at empty_replica v.replicas d) is)
       ∙ takeovers_are_the_machines s v b peers d r are here within in
       record {
-        process = ap (λ (x : Replica). serving (record v { replicas = put empty_replica v.replicas d x; ranks = put 0 v.ranks d h.rank; heads = put None v.heads d (Some h) }) b2) r-is
-            ∙ ap (λ (x : Process). serving (record v { replicas = put empty_replica v.replicas d (applied_to (settles peers h (last_of r)) r); ranks = put 0 v.ranks d h.rank; heads = put None v.heads d (Some h) }) x) b-is
-            ∙ ap (λ (x : Head). serving (record v { replicas = put empty_replica v.replicas d (applied_to (settles peers x (last_of r)) r); ranks = put 0 v.ranks d x.rank; heads = put None v.heads d (Some x) })
-            (bytes_after s d (up_to (settles peers x (last_of r)) r) b)) h-is
-            ∙ sym (ap (λ (x : ProcessStep). x.process) law);
-        settled = settled ∙ ap (λ (x : Head). before ++ settlements d (up_to (settles peers x (last_of r)) r)) h-is
-            ∙ sym (ap (λ (x : ProcessStep). before ++ x.settled) law);
+        process = rw (r-is, b-is, h-is) (sym (ap (λ (x : ProcessStep). x.process) law));
+        settled = rw (settled, h-is) (sym (ap (λ (x : ProcessStep). before ++ x.settled) law));
       }
 
 -- a new head counts the acknowledgements of m parity processes

@@ -1,4 +1,4 @@
-ghost use Rattle.std.specs.Prelude.{◌≡◌, ◌<◌, ◌≤◌, ◌+◌, Some, vec_len, vec_capacity};
+ghost use Rattle.std.specs.Prelude.{◌≡◌, ◌<◌, ◌≤◌, ◌+◌, vec_len, vec_capacity};
 ghost use Rattle.std.specs.List.{range_with_len};
 ghost use Rattle.group_run.specs.Applying.{for_each};
 ghost use Rattle.group_run.specs.Receiving as machine;
@@ -54,30 +54,9 @@ impl Service {
         ensures made { HasMade (machine.take_over_if self.old.shape partition.0 (serving self.old (B.process below.old))) settled.old.items
             (serving self.new (B.process below.new)) settled.new.items }
     {
-        match head {
-            None => {}
-            Some(head) => self.take_over_at(partition, head, below, settled),
-        }
-    }
-
-    fn take_over_at<B: Beneath>(
-        &mut self,
-        partition: Partition,
-        head: Head,
-        below: &mut B,
-        settled: &mut Vec<Settlement>,
-    )
-        requires partition { partition.0 < self.old.shape.k }
-        requires head { Some head ≡ heir_at self.old partition.0 }
-        requires beneath { IsBeneath self.old (B.shape below.old) (B.process below.old) (B.is_ready below.old) }
-        requires room { vec_len settled.old + waiting self.old.replicas ≤ vec_capacity settled.old }
-        ensures beneath { IsBeneath self.new (B.shape below.new) (B.process below.new) (B.is_ready below.new) }
-        ensures shape { self.new.shape ≡ self.old.shape }
-        ensures name { self.new.name ≡ self.old.name }
-        ensures room { vec_len settled.new + waiting self.new.replicas ≤ vec_capacity settled.new }
-        ensures made { HasMade (machine.take_over_if self.old.shape partition.0 (serving self.old (B.process below.old))) settled.old.items
-            (serving self.new (B.process below.new)) settled.new.items }
-    {
+        let Some(head) = head else {
+            return;
+        };
         let peers = self.peers();
         let d = partition.0 as usize;
         judge(

@@ -1,5 +1,4 @@
-use Rattle.std.proofs.Common.{ℕ, ◌≡◌, ◌<◌, nat_le, true, length, map, All, refl, sym, ap, subst, ◌∙◌, arith}
-use Rattle.std.specs.Prelude.{set}
+use Rattle.std.proofs.Common.{◌≡◌, nat_le, true, sym, ap, ◌∙◌}
 use Rattle.std.proofs.lemmas.Bool.{leb-true}
 use Rattle.group_types.specs.Dimensions.{Dimensions}
 use Rattle.group_types.specs.Lists.{at}
@@ -7,91 +6,53 @@ use Rattle.group_message.specs.declared.update.Update.{Update}
 use Rattle.group_run.specs.Fitting.{UpdateFits}
 use Rattle.group_run.specs.Process.{Process}
 use Rattle.group_run.specs.Receiving.{ack_to, update_comes}
-use Rattle.group_run.specs.Replica.{Replica, empty_replica, up_to}
 use Rattle.head_service.specs.Serving.{Serving, serving}
-use Rattle.process_service.specs.contracts.service.Service.{the_view}
-use Rattle.process_service.proofs.Followed as followed
+use Rattle.process_service.proofs.Followed.{acknowledged-as, update-made}
+use Rattle.process_service.proofs.Lent.{IsLent, here, lends, put-back, put-same, ready-of, stands-applied, stands-same, written}
 use Rattle.process_service.proofs.Results.{on-err-any}
-use Rattle.process_service.proofs.Standing.{after-as, same-as}
 use Rattle.process_service.proofs.service.Service.follow.Given as given
 use Rattle.process_service.proofs.service.Service.follow.Goals as goal
 
 module _ (g : given.Over) (c : goal.After-follow-arg-2-1 g) where
-  abbrev d : ℕ
-  d = c.args.partition.0
+  lent : IsLent c.self.inside c.args.self.now c.args.partition.0 c.index_mut-replica.result.now
+  lent = record { place = record { view = c.self.view_is; kept = c.self.invariant; below = c.requires.partition }; entry = c.index_mut-replica.ensures.value }
 
-  abbrev r : Replica
-  r = c.index_mut-replica.result.now.replica
-
-  abbrev s : Dimensions
-  s = g.B.Beneath.shape c.args.below.now
-
-  abbrev b : Process
-  b = g.B.Beneath.process c.args.below.now
-
-  within : d < length c.self.inside.replicas.items
-  within = omega (arith, c.requires.partition, ap (λ (w : Serving). w.shape.k) c.self.view_is, c.self.invariant.replicas_long)
-
-  here : at empty_replica c.args.self.now.replicas d ≡ r
-  here = followed.here c.self.inside.replicas.items (the_view c.self.inside) c.args.self.now c.self.view_is refl d within
-      c.index_mut-replica.result.now c.index_mut-replica.ensures.value
-
-  shape : c.args.self.now.shape ≡ c.index_mut-replica.result.now.shape
-  shape = sym (c.self.invariant.shapes d c.index_mut-replica.result.now within ∙ ap (λ (w : Serving). w.shape) c.self.view_is)
-      ∙ ap (λ x. x.shape) (sym c.index_mut-replica.ensures.value)
-
-  current : nat_le (at 0 c.args.self.now.ranks d) c.args.rank.0 ≡ true
+  current : nat_le (at 0 c.args.self.now.ranks c.args.partition.0) c.args.rank.0 ≡ true
   current = sym c.is_current.ensures ∙ c.if-not-is_current.false
 
 pub follow-requires-clause-fits : goal.follow-requires-clause-fits
-follow-requires-clause-fits g c =
-    subst (λ (x : Dimensions). UpdateFits x (r g c) c.args.update.now c.args.stable) (shape g c)
-    (subst (λ (x : Replica). UpdateFits c.args.self.now.shape x c.args.update.now c.args.stable) (here g c) (c.requires.fits (leb-true _ _ (current g c))))
+follow-requires-clause-fits g c = lends (lent g c) (λ s r. UpdateFits s r c.args.update.now c.args.stable) (c.requires.fits (leb-true _ _ (current g c)))
 
 pub follow-requires-clause-ready : goal.follow-requires-clause-ready
-follow-requires-clause-ready g c = subst (λ (x : Replica). All (g.B.Beneath.is_ready c.args.below.now c.args.partition.0) x.log) (here g c)
-    (c.requires.beneath.ready c.args.partition.0 c.requires.partition)
+follow-requires-clause-ready g c = ready-of (lent g c) c.requires.beneath
 
 pub returns-in_err-follow-clause-beneath : goal.returns-in_err-follow-clause-beneath
 returns-in_err-follow-clause-beneath g c =
     let f : goal.After-follow-arg-2-1 g = c.before.before.before.before.before.before in
-    followed.stands c.self.inside.replicas.items (the_view c.self.inside) c.args.self.now c.self.view_is refl (d g f) (within g f)
-    c.index_mut-replica.result.now c.index_mut-replica.ensures.value
-    (s g f) (b g f) (g.B.Beneath.is_ready c.args.below.now) c.requires.beneath
-    (g.B.Beneath.shape c.follow.new.below) (g.B.Beneath.process c.follow.new.below) (g.B.Beneath.is_ready c.follow.new.below) c.follow.new.replica c.follow.ensures.below
-    (same-as (b g f) (g.B.Beneath.process c.follow.new.below) c.in_err-follow.ensures.bytes_err)
-    c.follow.ensures.ready c.follow.ensures.kept
+    stands-same (lent g f) c.requires.beneath (g.B.Beneath.is_ready c.follow.new.below) c.follow.new.replica
+    c.follow.ensures.below c.in_err-follow.ensures.bytes_err c.follow.ensures.ready c.follow.ensures.kept
 
 pub returns-in_err-follow-clause-self_err : goal.returns-in_err-follow-clause-self_err
 returns-in_err-follow-clause-self_err g c =
     let f : goal.After-follow-arg-2-1 g = c.before.before.before.before.before.before in
-    on-err-any c.from_residual-in_err-follow.result
-    (followed.put-same c.self.inside.replicas.items (the_view c.self.inside) c.args.self.now c.self.view_is refl (d g f) (within g f)
-    c.index_mut-replica.result.now c.index_mut-replica.ensures.value c.follow.new.replica c.in_err-follow.ensures.replica_err)
+    on-err-any c.from_residual-in_err-follow.result (put-same (lent g f) c.follow.new.replica c.in_err-follow.ensures.replica_err)
 
 pub returns-clause-beneath : goal.returns-clause-beneath
 returns-clause-beneath g c =
     let f : goal.After-follow-arg-2-1 g = c.before.before.before.before.before.before in
-    followed.stands c.self.inside.replicas.items (the_view c.self.inside) c.args.self.now c.self.view_is refl (d g f) (within g f)
-    c.index_mut-replica.result.now c.index_mut-replica.ensures.value
-    (s g f) (b g f) (g.B.Beneath.is_ready c.args.below.now) c.requires.beneath
-    (g.B.Beneath.shape c.follow.new.below) (g.B.Beneath.process c.follow.new.below) (g.B.Beneath.is_ready c.follow.new.below) c.follow.new.replica c.follow.ensures.below
-    (after-as (s g f) (d g f) (up_to c.args.stable (r g f)) (b g f) (g.B.Beneath.process c.follow.new.below)
-    (omega (arith, c.requires.partition, c.requires.beneath.blocks)) c.in_ok-follow.ensures.bytes)
-    c.follow.ensures.ready c.follow.ensures.kept
+    stands-applied (lent g f) c.requires.beneath (g.B.Beneath.is_ready c.follow.new.below) c.follow.new.replica c.args.stable
+    c.follow.ensures.below c.in_ok-follow.ensures.bytes c.follow.ensures.ready c.follow.ensures.kept
 
 pub returns-clause-step : goal.returns-clause-step
 returns-clause-step g c =
     let f : goal.After-follow-arg-2-1 g = c.before.before.before.before.before.before in
     let v : Serving = c.args.self.now in
     let u : Update = c.args.update.now in
+    let b : Process = g.B.Beneath.process c.args.below.now in
     let b2 : Process = g.B.Beneath.process c.follow.new.below in
-    let next : Serving = record (the_view c.self.inside) { replicas = map (λ x. x.replica) (set c.self.inside.replicas.items (d g f) c.follow.new.replica) } in
-    ap (λ (x : Dimensions). update_comes x c.args.from c.args.rank.0 (d g f) u c.args.stable (serving v (b g f))) (sym c.requires.beneath.shape)
-    ∙ followed.update-made (s g f) (d g f) v (b g f) (r g f) (here g f) c.args.from c.args.rank.0 u c.args.stable c.follow.new.replica.replica b2 (current g f)
-    c.in_ok-follow.ensures.replica c.in_ok-follow.ensures.bytes
-    ∙ ap (λ (w : Serving). ack_to c.args.from c.args.rank.0 (d g f) u.number (serving w b2))
-    (sym (followed.put-back c.self.inside.replicas.items (the_view c.self.inside) v c.self.view_is refl (d g f) (within g f)
-    c.index_mut-replica.result.now c.index_mut-replica.ensures.value c.follow.new.replica))
-    ∙ followed.acknowledged-as c.args.from c.args.rank.0 (d g f) u.number (serving next b2) c.sending.result.sent.items c.sending.result.settled.items
+    ap (λ (x : Dimensions). update_comes x c.args.from c.args.rank.0 c.args.partition.0 u c.args.stable (serving v b)) (sym c.requires.beneath.shape)
+    ∙ update-made (g.B.Beneath.shape c.args.below.now) c.args.partition.0 v b c.index_mut-replica.result.now.replica (here (lent g f)) c.args.from c.args.rank.0 u c.args.stable
+    c.follow.new.replica.replica b2 (current g f) c.in_ok-follow.ensures.replica c.in_ok-follow.ensures.bytes
+    ∙ ap (λ (w : Serving). ack_to c.args.from c.args.rank.0 c.args.partition.0 u.number (serving w b2)) (sym (put-back (lent g f) c.follow.new.replica))
+    ∙ acknowledged-as c.args.from c.args.rank.0 c.args.partition.0 u.number (serving (written (lent g f) c.follow.new.replica) b2) c.sending.result.sent.items c.sending.result.settled.items
     (c.sending.ensures.sent ∙ c.in_ok-sent.ensures) c.sending.ensures.settled
