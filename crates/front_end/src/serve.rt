@@ -83,6 +83,3 @@ fn end_at(reader: &Reader) -> End
         End::Cut
     }
 }
-
-#[cfg(test)]
-mod tests;

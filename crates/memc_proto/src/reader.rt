@@ -147,6 +147,3 @@ fn read_on(
         }
     }
 }
-
-#[cfg(test)]
-mod tests;

@@ -56,6 +56,3 @@ fn group(k: u32, m: u32, blocks: u32, block: u32) -> Result<Line, LineFault>
         Err(bad) => Err(LineFault::BadShape(bad.field)),
     }
 }
-
-#[cfg(test)]
-mod tests;

@@ -44,23 +44,3 @@ fn write_cause(alloc: Global, cause: &Cause) -> Result<Vec<u8>, AllocError>
         Cause::Block { block } => Ok(format!(in alloc; "retry block {block}")?.into_bytes()),
     }
 }
-
-#[cfg(test)]
-mod tests {
-    use super::*;
-    use std::test::Fail;
-
-    #[test]
-    fn answers_have_their_texts(rt: HostRuntime) -> Result<(), Fail> {
-        let block = Answer::Retry(Cause::Block { block: 5 });
-        assert_eq!(rt;
-            write_answer(rt.alloc(), &block)?.as_slice(),
-            b"retry block 5".as_slice()
-        );
-        assert_eq!(rt;
-            write_answer(rt.alloc(), &Answer::Stale(9))?.as_slice(),
-            b"stale 9".as_slice()
-        );
-        Ok(())
-    }
-}

@@ -36,23 +36,3 @@ fn write_numbers(alloc: Global, mut text: Vec<u8>, numbers: &[u64]) -> Result<Ve
     }
     Ok(text)
 }
-
-#[cfg(test)]
-mod tests {
-    use super::*;
-    use std::test::Fail;
-
-    #[test]
-    fn stamps_and_bytes_are_shown(rt: HostRuntime) -> Result<(), Fail> {
-        for (stamp, bytes, text) in [
-            ([1, 20].as_slice(), b"`\0".as_slice(), "shown 1,20 6000"),
-            (&[0], &[], "shown 0 -"),
-        ] {
-            assert_eq!(rt;
-                write_shown(rt.alloc(), stamp, bytes)?.as_slice(),
-                text.as_bytes()
-            );
-        }
-        Ok(())
-    }
-}

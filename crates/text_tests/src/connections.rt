@@ -1,9 +1,10 @@
-use super::*;
-use edge_io::{FixedClock, MemorySink, MemorySource};
+// Whole connections, over a caller that asks one table.
+use edge_io::{Clock, FixedClock, MemorySink, MemorySource};
+use front_end::{Caller, ConnectionFault, End, serve_connection};
 use group_types::ProcessId;
 use memc_proto::{CallEnd, FailEnd};
 use memc_table::{Act, Op, Table};
-use std::alloc::AllocError;
+use std::alloc::{AllocError, Global};
 use std::sync::atomic::{AtomicU64, Ordering};
 use std::test::Fail;
 

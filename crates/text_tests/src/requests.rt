@@ -1,6 +1,7 @@
-use super::*;
-use crate::request::{Refusal, Word};
+// Requests, however their bytes are cut into pieces.
+use memc_proto::{Reader, Refusal, Request, Requests, Word};
 use memc_table::Act;
+use std::alloc::{AllocError, Global};
 use std::test::Fail;
 
 // An input, and the names of its requests.

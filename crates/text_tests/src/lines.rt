@@ -1,5 +1,9 @@
-use super::*;
-use crate::act_text::write_act;
+// What a line of a script means.
+use group_types::Shape;
+use scenario_text::act_text::write_act;
+use scenario_text::read_line::read_line;
+use scenario_text::{Line, LineFault};
+use std::alloc::{AllocError, Global};
 use std::test::Fail;
 
 // A line, and what it is read as.
