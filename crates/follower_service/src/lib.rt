@@ -8,8 +8,4 @@ pub mod adopt;
 pub mod apply;
 pub mod follow;
 mod keys;
-#[cfg(test)]
-mod plain;
 mod prepare;
-#[cfg(test)]
-mod tests;

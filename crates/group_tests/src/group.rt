@@ -1,15 +1,17 @@
 // Whole runs, event by event: what is answered, and how many entries are logged.
+mod events;
 mod heads;
 mod rows;
 mod sessions;
+mod words;
 
-use group_calls::{Answer, Cause, Event, Out};
+use events::event;
+use group_calls::{Event, Out};
 use group_core::World;
-use group_types::{Key, Partition, Payload, ProcessId, Run, Shape};
+use group_types::{ProcessId, Run, Shape};
 use heads::{A_LATE_UPDATE, THE_OTHER_HAD_MORE};
-use memc_table::{Act, Op, Reply};
 use rows::{
-    A_DATA_PROCESS_DIES, A_SET_AND_ITS_DELIVERY, FIRST, KEPT, PARITY, Row, SECOND,
+    A_DATA_PROCESS_DIES, A_SET_AND_ITS_DELIVERY, DECISIONS, FIRST, KEPT, PARITY, Row, SECOND,
     THE_PARITY_PROCESS_DIES, TWO_SETS, What,
 };
 use sessions::{
@@ -18,12 +20,20 @@ use sessions::{
 };
 use std::alloc::{AllocError, Global};
 use std::test::Fail;
+use words::word;
 
 #[test]
 fn a_set_is_logged_once_it_is_acknowledged(rt: HostRuntime) -> Result<(), Fail> {
     let mut world = World::new(rt.alloc(), Shape::new(1, 1, 1, 16)?)?;
     assert!(rt; all_answer(rt.alloc(), &mut world, &A_SET_AND_ITS_DELIVERY)?);
     assert!(rt; shows(&world, FIRST, &[1], b"1")? && shows(&world, PARITY, &[1], b"1")?);
+    Ok(())
+}
+
+#[test]
+fn decides_by_the_table_and_by_what_waits(rt: HostRuntime) -> Result<(), Fail> {
+    let mut world = World::new(rt.alloc(), Shape::new(1, 1, 1, 16)?)?;
+    assert!(rt; all_answer(rt.alloc(), &mut world, &DECISIONS)?);
     Ok(())
 }
 
@@ -165,90 +175,4 @@ fn shows(world: &World, at: ProcessId, stamp: &[u64], byte: &[u8]) -> Result<boo
 
 fn is(out: &Out, answer: &str, logged: u64) -> bool {
     word(&out.answer) == answer && out.logged == logged
-}
-
-fn event(alloc: Global, what: What, at: ProcessId) -> Result<Event, Fail> {
-    match what {
-        What::Set(caller, key, value) => {
-            let act = set(alloc, key, value)?;
-            Ok(ask(caller, act, at))
-        }
-        What::Touch(caller, key) => {
-            let key = Key::read(alloc, key.as_bytes())?;
-            Ok(ask(caller, Act::Touch { key, expiry: 0 }, at))
-        }
-        What::Get(caller, key) => {
-            let key = Key::read(alloc, key.as_bytes())?;
-            Ok(ask(caller, Act::Get { key }, at))
-        }
-        What::Collect(caller, call) => Ok(Event::Collect { caller, call, at }),
-        What::Trace(caller, call) => Ok(Event::Trace {
-            caller,
-            call,
-            partition: Partition(0),
-            at,
-        }),
-        What::From(from) => Ok(Event::Deliver { from, to: at }),
-        What::Flush => Ok(Event::Flush { at }),
-        What::Fail(keep) => Ok(Event::Fail { at, keep }),
-    }
-}
-
-fn ask(caller: u32, act: Act, at: ProcessId) -> Event {
-    Event::Ask {
-        caller,
-        op: Op::new(100, act),
-        at,
-    }
-}
-
-fn set(alloc: Global, key: &str, value: &str) -> Result<Act, Fail> {
-    let key = Key::read(alloc, key.as_bytes())?;
-    let value = Payload::of(alloc, value.as_bytes())?;
-    Ok(Act::Set {
-        key,
-        flags: 0,
-        expiry: 0,
-        value,
-    })
-}
-
-fn word(answer: &Answer) -> &str {
-    match answer {
-        Answer::Reply(reply) => reply_word(reply),
-        Answer::Ticket(1) => "ticket 1",
-        Answer::Ticket(2) => "ticket 2",
-        Answer::NotYet => "not yet",
-        Answer::Retry(cause) => cause_word(cause),
-        Answer::Moved => "moved",
-        Answer::Lost => "lost",
-        Answer::Down => "down",
-        Answer::Gone => "gone",
-        Answer::Idle => "idle",
-        Answer::Stranger => "stranger",
-        Answer::Done => "done",
-        Answer::AlreadyDead => "already dead",
-        _ => "other",
-    }
-}
-
-fn cause_word(cause: &Cause) -> &str {
-    match cause {
-        Cause::Pending {
-            partition: Partition(0),
-            number: 1,
-        } => "pending 1",
-        Cause::Block { block: 0 } => "block 0",
-        _ => "other",
-    }
-}
-
-fn reply_word(reply: &Reply) -> &str {
-    match reply {
-        Reply::Stored => "stored",
-        Reply::Touched => "touched",
-        Reply::Miss => "miss",
-        Reply::Value(item) if item.value.bytes() == b"A".as_slice() => "value",
-        _ => "other",
-    }
 }

@@ -174,6 +174,3 @@ fn freed(body: &Body, item: Option<&Slot>) -> Option<Run>
         }),
     }
 }
-
-#[cfg(test)]
-mod tests;

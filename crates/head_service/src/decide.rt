@@ -147,6 +147,3 @@ fn decide_ruled<B: Beneath>(
         }
     }
 }
-
-#[cfg(test)]
-mod tests;

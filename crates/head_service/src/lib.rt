@@ -17,8 +17,6 @@ pub mod judge;
 pub mod laws;
 pub mod news;
 pub mod peers;
-#[cfg(test)]
-mod plain;
 mod ruling;
 pub mod settle;
 pub mod step;

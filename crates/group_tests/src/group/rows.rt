@@ -13,11 +13,16 @@ pub const OTHER: ProcessId = ProcessId::ParityNode(1);
 
 pub const LAST: ProcessId = ProcessId::ParityNode(2);
 
-// What happens at a process: a caller's set, touch or get, the collect or the trace of a caller's call, a
-// delivery from another process, a flush, or a failure that keeps this many messages.
+// What happens at a process: a caller's op on a key, the collect or the trace of a caller's call, a delivery from
+// another process, a flush, or a failure that keeps this many messages.
 #[derive(Clone, Copy)]
 pub enum What {
     Set(u32, &'static str, &'static str),
+    Add(u32, &'static str, &'static str),
+    Replace(u32, &'static str, &'static str),
+    Append(u32, &'static str, &'static str),
+    Delete(u32, &'static str),
+    Incr(u32, &'static str),
     Touch(u32, &'static str),
     Get(u32, &'static str),
     Collect(u32, u64),
@@ -61,6 +66,38 @@ pub const THE_PARITY_PROCESS_DIES: [Row; 11] = [
     (What::From(FIRST), PARITY, "down", 0),
 ];
 
+// One key through all that memcached makes of it, each update settled before the next.
+pub const DECISIONS: [Row; 28] = [
+    (What::Get(0, "a"), FIRST, "miss", 1),
+    (What::Set(0, "a", "cart"), FIRST, "ticket 1", 0),
+    (What::Get(0, "a"), FIRST, "miss", 1),
+    (What::Delete(0, "a"), FIRST, "pending 1", 0),
+    (What::From(FIRST), PARITY, "done", 0),
+    (What::From(PARITY), FIRST, "done", 1),
+    (What::Get(0, "a"), FIRST, "value cart", 1),
+    (What::Incr(0, "a"), FIRST, "not number", 1),
+    (What::Append(0, "a", "er"), FIRST, "ticket 2", 0),
+    (What::From(FIRST), PARITY, "done", 0),
+    (What::From(PARITY), FIRST, "done", 1),
+    (What::Get(0, "a"), FIRST, "value carter", 1),
+    (What::Touch(0, "a"), FIRST, "ticket 3", 0),
+    (What::From(FIRST), PARITY, "done", 0),
+    (What::From(PARITY), FIRST, "done", 1),
+    (What::Set(0, "b", "17 bytes of value"), FIRST, "no space", 0),
+    (What::Add(0, "a", "x"), FIRST, "not stored", 1),
+    (What::Replace(0, "b", "x"), FIRST, "not stored", 1),
+    (What::Delete(0, "a"), FIRST, "ticket 4", 0),
+    (What::From(FIRST), PARITY, "done", 0),
+    (What::From(PARITY), FIRST, "done", 1),
+    (What::Get(0, "a"), FIRST, "miss", 1),
+    (What::Set(0, "a", "CART"), FIRST, "ticket 5", 0),
+    (What::From(FIRST), PARITY, "done", 0),
+    (What::From(PARITY), FIRST, "done", 1),
+    (What::Get(0, "a"), FIRST, "value CART", 1),
+    (What::Flush, FIRST, "done", 0),
+    (What::From(FIRST), PARITY, "done", 0),
+];
+
 pub const A_DATA_PROCESS_DIES: [Row; 14] = [
     (What::Set(0, "a", "A"), FIRST, "ticket 1", 0),
     (What::Fail(9), FIRST, "done", 0),
@@ -75,7 +112,7 @@ pub const A_DATA_PROCESS_DIES: [Row; 14] = [
     (What::From(PARITY), SECOND, "done", 0),
     (What::From(SECOND), PARITY, "done", 0),
     (What::From(SECOND), PARITY, "done", 0),
-    (What::Get(1, "a"), PARITY, "value", 1),
+    (What::Get(1, "a"), PARITY, "value A", 1),
 ];
 
 pub const TWO_SETS: [Row; 2] = [

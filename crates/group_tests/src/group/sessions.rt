@@ -34,8 +34,8 @@ pub const BOTH_BLOCKS_ARE_LOST: [Row; 19] = [
     (What::From(PARITY), OTHER, "done", 0),
     (What::From(PARITY), OTHER, "idle", 0),
     (What::From(OTHER), PARITY, "done", 0),
-    (What::Get(1, "a"), PARITY, "value", 1),
-    (What::Get(1, "b"), PARITY, "value", 1),
+    (What::Get(1, "a"), PARITY, "value A", 1),
+    (What::Get(1, "b"), PARITY, "value A", 1),
 ];
 
 // The second data process dies once it has sent its block, and keeps that without its mark.
@@ -63,8 +63,8 @@ pub const A_SESSION_LOSES_ITS_OTHER_BLOCK: [Row; 25] = [
     (What::From(PARITY), OTHER, "done", 0),
     (What::From(OTHER), PARITY, "done", 0),
     (What::From(OTHER), PARITY, "idle", 0),
-    (What::Get(1, "a"), PARITY, "value", 1),
-    (What::Get(1, "b"), PARITY, "value", 1),
+    (What::Get(1, "a"), PARITY, "value A", 1),
+    (What::Get(1, "b"), PARITY, "value A", 1),
 ];
 
 // The row has got a second update that is not settled where the second data process marks the first.
@@ -83,7 +83,7 @@ pub const A_MARK_BETWEEN_TWO_UPDATES: [Row; 19] = [
     (What::From(SECOND), PARITY, "done", 0),
     (What::From(SECOND), PARITY, "done", 0),
     (What::From(SECOND), PARITY, "idle", 0),
-    (What::Get(1, "a"), PARITY, "value", 1),
+    (What::Get(1, "a"), PARITY, "value A", 1),
     (What::From(PARITY), SECOND, "done", 0),
     (What::From(SECOND), OTHER, "done", 0),
     (What::From(OTHER), SECOND, "done", 1),
@@ -154,6 +154,6 @@ pub const A_COPY_OF_A_CEASED_SESSION: [Row; 64] = [
     (What::From(LAST), PARITY, "done", 0),
     (What::From(OTHER), PARITY, "idle", 0),
     (What::From(LAST), PARITY, "idle", 0),
-    (What::Get(2, "g"), PARITY, "value", 1),
-    (What::Get(2, "a"), PARITY, "value", 1),
+    (What::Get(2, "g"), PARITY, "value A", 1),
+    (What::Get(2, "a"), PARITY, "value A", 1),
 ];
