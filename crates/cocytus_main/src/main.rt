@@ -4,13 +4,8 @@
 //! what a person reads on standard error of words, a line or a shape that was refused.
 #![tactic(auto)]
 
-mod help;
-mod program;
-mod serving;
-
-use crate::help::help_at;
-use crate::program::run_program;
 use edge_io::{MemoryListener, ReadEdge, SystemClock, WriteEdge, write_all};
+use group_program::{help_at, run_program};
 use scenario_play::Status;
 use scenario_play::tell::tell;
 use std::alloc::AllocError;

@@ -1,5 +1,5 @@
 // Scripts that are refused, or nearly empty.
-use crate::program::tests::rows::Row;
+use crate::rows::Row;
 use group_types::Field;
 use scenario_play::Status;
 

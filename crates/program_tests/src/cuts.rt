@@ -1,5 +1,5 @@
 // A script that is cut after each of its bytes.
-use crate::program::tests::run;
+use crate::runs::run;
 use group_types::Field;
 use scenario_play::Status;
 use std::alloc::{AllocError, Global};

@@ -8,8 +8,8 @@ use Rattle.scenario_play.specs.declared.status.Status.TheVariants.{BadWords, Don
 use Rattle.scenario_session.specs.declared.end.SessionEnd.{SessionEnd}
 use Rattle.scenario_session.specs.declared.end.SessionEnd.TheVariants as end
 use Rattle.scenario_play.proofs.Ending.{came_from}
-use Rattle.cocytus_main.specs.Program.{HasStopped}
-use Rattle.cocytus_main.specs.Session.{HasTold, status_of}
+use Rattle.group_program.specs.Program.{HasStopped}
+use Rattle.group_program.specs.Session.{HasTold, status_of}
 
 -- what is told by the call that writes the last line
 pub has_told : (wanted asked : Status) (before now : Outside) (status : Status) → asked ≡ wanted → (status ≡ asked) ⊎ (status ≡ Want)

@@ -30,7 +30,7 @@ A process is d<n> or p<n>; a value is -, hexadecimal digits, or *<len>*<hh>.
 const LENGTH: &str = "a script has at most 16777216 bytes\n";
 
 /// What a person is told beside the last line: what was expected there.
-pub(crate) fn help_at(alloc: Global, status: Status) -> Result<String, AllocError> {
+pub fn help_at(alloc: Global, status: Status) -> Result<String, AllocError> {
     match status {
         Status::BadWords => COMMANDS.to_string(alloc),
         Status::BadLine(_) => LINES.to_string(alloc),

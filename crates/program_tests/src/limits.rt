@@ -1,5 +1,5 @@
 // The longest keys and values, and the most unfinished updates.
-use crate::program::tests::run;
+use crate::runs::run;
 use scenario_play::Status;
 use std::alloc::{AllocError, Global};
 use std::fmt::Write;

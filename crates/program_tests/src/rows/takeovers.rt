@@ -1,5 +1,5 @@
 // Two processes are lost.
-use crate::program::tests::rows::Row;
+use crate::rows::Row;
 use scenario_play::Status;
 
 pub(crate) const ROWS: [Row; 3] = [

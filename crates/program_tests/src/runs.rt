@@ -1,15 +1,10 @@
+// Whole runs of the program: what is written, and how it ends.
 ghost use Rattle.std.specs.Prelude.{◌≤◌};
 
-mod cuts;
-mod faults;
-mod limits;
-mod rows;
-mod sessions;
-
-use crate::program::run_program;
-use crate::program::tests::rows::CHAPTERS;
-use crate::program::tests::sessions::SESSIONS;
+use crate::rows::CHAPTERS;
+use crate::sessions::SESSIONS;
 use edge_io::{FixedClock, MemoryListener, MemorySink, MemorySource};
+use group_program::run_program;
 use scenario_play::Status;
 use std::alloc::Global;
 use std::sync::Wait;
@@ -22,7 +17,7 @@ const WRITTEN: &str =
     "reply stored\n= 0.0 set a 0 41 stored\nreply value 0 1 41\n= 0.1 get a value 0 1 41\n";
 
 // Runs the words on a script in pieces of this size, with reads and writes that fail by their number.
-fn run<R: Threads + Wait + Sync>(
+pub(crate) fn run<R: Threads + Wait + Sync>(
     rt: &R,
     alloc: Global,
     words: &[&str],

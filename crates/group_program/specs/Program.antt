@@ -9,7 +9,7 @@ use Rattle.scenario_play.specs.Status.{told}
 use Rattle.scenario_play.specs.Trial.{trial_text}
 use Rattle.scenario_play.specs.declared.status.Status.{Status}
 use Rattle.scenario_play.specs.declared.status.Status.TheVariants.{BadWords, Done, Want}
-use Rattle.cocytus_main.specs.Session.{HasTold, IsSession}
+use Rattle.group_program.specs.Session.{HasTold, IsSession}
 
 -- what comes of a command, which is none where the words say none
 abbrev pub HasRun : Option Command → Option ℕ → Outside → Outside → Status → Type 0

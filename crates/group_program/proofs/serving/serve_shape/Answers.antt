@@ -1,8 +1,8 @@
 use Rattle.std.proofs.Common.{refl}
 use Rattle.scenario_play.specs.Outside.{Outside, outside}
-use Rattle.cocytus_main.specs.Session.{status_of}
-use Rattle.cocytus_main.proofs.Telling.{has_told}
-use Rattle.cocytus_main.proofs.serving.serve_shape.Goals as goal
+use Rattle.group_program.specs.Session.{status_of}
+use Rattle.group_program.proofs.Telling.{has_told}
+use Rattle.group_program.proofs.serving.serve_shape.Goals as goal
 
 pub returns-clause-served : goal.returns-clause-served
 returns-clause-served g c =

@@ -5,9 +5,9 @@ use Rattle.command_line.specs.declared.command.Command.{Command}
 use Rattle.command_line.specs.declared.command.Command.TheVariants.{Make, Play, Session, Trial}
 use Rattle.scenario_play.specs.Outside.{Outside, outside}
 use Rattle.scenario_play.specs.declared.status.Status.TheVariants.{BadWords}
-use Rattle.cocytus_main.specs.Program.{HasRun}
-use Rattle.cocytus_main.proofs.Telling.{has_told, promises_of, stopped}
-use Rattle.cocytus_main.proofs.program.run_program.Goals as goal
+use Rattle.group_program.specs.Program.{HasRun}
+use Rattle.group_program.proofs.Telling.{has_told, promises_of, stopped}
+use Rattle.group_program.proofs.program.run_program.Goals as goal
 
 pub returns-in-Ok-Play-clause-ran : goal.returns-in-Ok-Play-clause-ran
 returns-in-Ok-Play-clause-ran g c =

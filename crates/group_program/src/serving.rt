@@ -3,7 +3,7 @@ ghost use Rattle.edge_io.specs.Faults.{Rose};
 ghost use Rattle.group_types.specs.Dimensions.{Dimensions};
 ghost use Rattle.group_types.specs.Shape.{IsShape};
 ghost use Rattle.scenario_play.specs.Outside.{outside};
-ghost use Rattle.cocytus_main.specs.Session.{HasServed, IsSession, status_of};
+ghost use Rattle.group_program.specs.Session.{HasServed, IsSession, status_of};
 
 use edge_io::{Clock, Sink, Source};
 use group_types::Shape;

@@ -6,8 +6,8 @@ ghost use Rattle.group_types.specs.Dimensions.{Dimensions};
 ghost use Rattle.group_types.specs.Shape.{IsShape};
 ghost use Rattle.scenario_run.specs.Promises.{KeepsPromises};
 ghost use Rattle.scenario_play.specs.Outside.{outside};
-ghost use Rattle.cocytus_main.specs.Program.{HasRun, HasStopped};
-ghost use Rattle.cocytus_main.specs.Words.{ReadsNothing};
+ghost use Rattle.group_program.specs.Program.{HasRun, HasStopped};
+ghost use Rattle.group_program.specs.Words.{ReadsNothing};
 
 use crate::serving::serve_session;
 use command_line::{Command, WordsFault, read_words};
@@ -59,6 +59,3 @@ pub fn run_program<R: Threads + Wait + Sync, S: Source, K: Sink, L: Listener, T:
         Err(WordsFault::Want) => tell(alloc, sink, Status::Want),
     }
 }
-
-#[cfg(test)]
-mod tests;

@@ -1,5 +1,5 @@
 // Updates on their way.
-use crate::program::tests::rows::Row;
+use crate::rows::Row;
 use scenario_play::Status;
 
 pub(crate) const ROWS: [Row; 7] = [

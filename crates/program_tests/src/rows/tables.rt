@@ -1,5 +1,5 @@
 // The table, spaces and moments of a single process.
-use crate::program::tests::rows::Row;
+use crate::rows::Row;
 use scenario_play::Status;
 
 pub(crate) const ROWS: [Row; 5] = [

@@ -1,5 +1,5 @@
 // A connection whose reads and writes fail in turn.
-use crate::program::tests::run;
+use crate::runs::run;
 use scenario_play::Status;
 use std::alloc::{AllocError, Global};
 use std::fmt::Write;

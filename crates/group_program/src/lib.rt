@@ -1,0 +1,11 @@
+//! The call that everything goes through, `run_program`: it reads the words of a command line and does what they
+//! ask for over any input, output, listener and clock. Its contract says, by cases of the command, what is written and
+//! when each status comes. Which streams are meant is left to the program that calls it.
+#![tactic(auto)]
+
+mod help;
+mod program;
+mod serving;
+
+pub use help::help_at;
+pub use program::run_program;
