@@ -25,7 +25,7 @@ use group_calls::Answer;
 use group_message::Update;
 use group_types::Partition;
 use partition_replica::Replica;
-use std::alloc::AllocError;
+use std::alloc::{AllocError, Global};
 
 /// The head of a partition issues an update: it tells the others, and settles what it may. After want of
 /// memory nothing but room has changed.
@@ -106,24 +106,74 @@ fn prepare<B: Beneath>(
     ensures settled { IfOk result (λ p. p.settled.items ≡ []) }
     ensures fits { IfOk result (λ p. p.number - replica.old.replica.applied ≤ vec_capacity p.settled) }
 {
+    make_room(partition, update, replica, held, below)?;
+    Prepared::of(
+        *held.allocator(),
+        partition,
+        head,
+        peers,
+        update,
+        replica.applied(),
+    )
+}
+
+/// Room for an update at a replica, among the held calls and beneath.
+fn make_room<B: Beneath>(
+    partition: Partition,
+    update: &Update,
+    replica: &mut Replica,
+    held: &mut Vec<Held>,
+    below: &mut B,
+) -> Result<(), AllocError>
+    requires writes { Writes (space_of (B.shape below.old)) update.now.body }
+    ensures shape { replica.new.shape ≡ replica.old.shape }
+    ensures replica { replica.new.replica ≡ replica.old.replica }
+    ensures held { held.new.items ≡ held.old.items }
+    ensures below { B.shape below.new ≡ B.shape below.old }
+    ensures bytes { B.process below.new ≡ B.process below.old }
+    ensures kept { (d : ℕ) (u : Update) → B.is_ready below.old d u → B.is_ready below.new d u }
+    ensures owed { (owed : List ℕ → Bool) → IsTidyBut replica.old owed → IsTidyBut replica.new (λ q. owed q || is_touched (update.now ∷ []) q) }
+    ensures room { OnOk result (HasRoom replica.new.room (update.now ∷ [])) }
+    ensures place { OnOk result (vec_len held.new < vec_capacity held.new) }
+    ensures ready { OnOk result (B.is_ready below.new partition.0 update.now) }
+{
     replica.reserve(update)?;
     below.reserve(partition, update)?;
-    held.reserve(1)?;
-    let alloc = *held.allocator();
-    let stable = replica.applied();
-    let number = peers.least_acked(head, update.number);
-    let news = News::Issued {
-        update: copy_of(update)?,
-        stable,
-    };
-    let mut sent = Vec::new(alloc);
-    peers.tell(head.rank(), partition, &news, &mut sent)?;
-    let settled = Vec::with_capacity(alloc, number.saturating_sub(stable) as usize)?;
-    Ok(Prepared {
-        sent,
-        settled,
-        number,
-    })
+    held.reserve(1)
+}
+
+impl Prepared {
+    /// What is sent of an issued update, and room for what it settles.
+    fn of(
+        alloc: Global,
+        partition: Partition,
+        head: &Head,
+        peers: &Peers,
+        update: &Update,
+        applied: u64,
+    ) -> Result<Prepared, AllocError>
+        requires acks { length head.now.acks ≡ peers.now.m }
+        ensures number { IfOk result (λ p. p.number ≡ settles peers.now head.now update.now.number) }
+        ensures sent { IfOk result (λ p. p.sent.items
+            ≡ to_all peers.now (message_of (record { 0 = head.now.rank }) partition (Issued update.now applied))) }
+        ensures settled { IfOk result (λ p. p.settled.items ≡ []) }
+        ensures fits { IfOk result (λ p. p.number - applied ≤ vec_capacity p.settled) }
+    {
+        let number = peers.least_acked(head, update.number);
+        let settled = Vec::with_capacity(alloc, number.saturating_sub(applied) as usize)?;
+        let update = copy_of(update)?;
+        let news = News::Issued {
+            update,
+            stable: applied,
+        };
+        let mut sent = Vec::new(alloc);
+        peers.tell(head.rank(), partition, &news, &mut sent)?;
+        Ok(Prepared {
+            sent,
+            settled,
+            number,
+        })
+    }
 }
 
 fn carry_out<B: Beneath>(

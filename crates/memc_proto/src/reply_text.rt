@@ -1,5 +1,6 @@
-ghost use Rattle.std.specs.Prelude.{◌≡◌, ◌++◌, ◌∷◌, [], IfOk};
-ghost use Rattle.memc_proto.specs.Text.{end_text, reply_text, item_text, fail_text, refusal_text, version_text, end_of_items, too_long_text, cas_text};
+ghost use Rattle.std.specs.Prelude.{◌≡◌, ◌++◌, [], length, IfOk};
+ghost use Rattle.std.specs.String.{string_bytes};
+ghost use Rattle.memc_proto.specs.Text.{end_text, reply_text, item_text, fail_text, refusal_text, version_text, end_of_items, too_long_text, cas_text, next_number, line};
 
 use crate::end::{CallEnd, FailEnd};
 use crate::request::Refusal;
@@ -57,18 +58,33 @@ fn reply_bytes(
 fn item_bytes(alloc: Global, key: &Key, with_cas: bool, item: &Item) -> Result<ByteList, AllocError>
     ensures { IfOk result (λ text. text ≡ item_text key.now with_cas item.now) }
 {
+    let line = line_behind_key(alloc, with_cas, item)?;
     let mut text = Vec::with_capacity(alloc, item.value.len().saturating_add(320))?;
     text.extend_from_slice(b"VALUE ")?;
     text.extend_from_slice(key.bytes())?;
-    text.extend_from_slice(format!(in alloc; " {}", item.flags)?.as_bytes())?;
-    text.extend_from_slice(format!(in alloc; " {}", item.value.len())?.as_bytes())?;
-    if with_cas {
-        text.extend_from_slice(format!(in alloc; " {}", item.cas)?.as_bytes())?;
-    }
-    text.extend_from_slice(b"\r\n")?;
+    text.extend_from_slice(line.as_bytes())?;
     text.extend_from_slice(item.value.bytes())?;
     text.extend_from_slice(b"\r\n")?;
     Ok(ByteList::from(text))
+}
+
+/// What stands behind the key in the line of an item that was found, with the line's end.
+fn line_behind_key(alloc: Global, with_cas: bool, item: &Item) -> Result<String, AllocError>
+    ensures { IfOk result (λ text. string_bytes text
+        ≡ next_number item.now.flags ++ (next_number (length item.now.value) ++ (cas_text with_cas item.now.cas ++ line []))) }
+{
+    let cas = cas_word(alloc, with_cas, item.cas)?;
+    format!(in alloc; " {} {}{}\r\n", item.flags, item.value.len(), cas)
+}
+
+/// The cas number behind a space, where it is asked.
+fn cas_word(alloc: Global, with_cas: bool, cas: u64) -> Result<String, AllocError>
+    ensures { IfOk result (λ text. string_bytes text ≡ cas_text with_cas cas) }
+{
+    if !with_cas {
+        return Ok(String::new(alloc));
+    }
+    format!(in alloc; " {cas}")
 }
 
 /// The text of the end of an order that a process fail.

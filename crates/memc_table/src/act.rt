@@ -1,7 +1,10 @@
+ghost use Rattle.std.specs.Prelude.{◌≡◌, IfOk};
+
 use group_types::{Key, Payload};
+use std::alloc::AllocError;
 
 /// What a call asks of the item on its key, as memcached's protocol has it.
-#[derive(Debug, Drop, PartialEq, Eq, Clone)]
+#[derive(Debug, Drop, PartialEq, Eq)]
 pub enum Act {
     Get {
         key: Key,
@@ -78,4 +81,103 @@ impl Act {
             | Act::Decr { key, .. } => key,
         }
     }
+}
+
+impl Clone for Act {
+    ghost is_clone = { λ act copy. copy ≡ act };
+
+    fn clone(&self) -> Result<Act, AllocError> {
+        match self {
+            Act::Get { key } => Ok(Act::Get { key: key.clone()? }),
+            Act::Set {
+                key,
+                flags,
+                expiry,
+                value,
+            } => {
+                let (key, value) = both(key, value)?;
+                Ok(Act::Set {
+                    key,
+                    flags: *flags,
+                    expiry: *expiry,
+                    value,
+                })
+            }
+            Act::Add {
+                key,
+                flags,
+                expiry,
+                value,
+            } => {
+                let (key, value) = both(key, value)?;
+                Ok(Act::Add {
+                    key,
+                    flags: *flags,
+                    expiry: *expiry,
+                    value,
+                })
+            }
+            Act::Replace {
+                key,
+                flags,
+                expiry,
+                value,
+            } => {
+                let (key, value) = both(key, value)?;
+                Ok(Act::Replace {
+                    key,
+                    flags: *flags,
+                    expiry: *expiry,
+                    value,
+                })
+            }
+            Act::Cas {
+                key,
+                flags,
+                expiry,
+                cas,
+                value,
+            } => {
+                let (key, value) = both(key, value)?;
+                Ok(Act::Cas {
+                    key,
+                    flags: *flags,
+                    expiry: *expiry,
+                    cas: *cas,
+                    value,
+                })
+            }
+            Act::Delete { key } => Ok(Act::Delete { key: key.clone()? }),
+            Act::Touch { key, expiry } => {
+                let key = key.clone()?;
+                Ok(Act::Touch {
+                    key,
+                    expiry: *expiry,
+                })
+            }
+            Act::Append { key, value } => {
+                let (key, value) = both(key, value)?;
+                Ok(Act::Append { key, value })
+            }
+            Act::Prepend { key, value } => {
+                let (key, value) = both(key, value)?;
+                Ok(Act::Prepend { key, value })
+            }
+            Act::Incr { key, by } => Ok(Act::Incr {
+                key: key.clone()?,
+                by: *by,
+            }),
+            Act::Decr { key, by } => Ok(Act::Decr {
+                key: key.clone()?,
+                by: *by,
+            }),
+        }
+    }
+}
+
+/// Copies of a key and of a value.
+fn both(key: &Key, value: &Payload) -> Result<(Key, Payload), AllocError>
+    ensures { IfOk result (λ copies. copies ≡ (key.now, value.now)) }
+{
+    Ok((key.clone()?, value.clone()?))
 }

@@ -1,4 +1,4 @@
-ghost use Rattle.std.specs.Prelude.{◌≡◌, ◌<◌, All, map, IfOk};
+ghost use Rattle.std.specs.Prelude.{◌≡◌, ◌<◌, All, map, IfOk, [], ◌∷◌};
 ghost use Rattle.memc_table.specs.Act.{value_of};
 ghost use Rattle.scenario_text.specs.Acts.{act_of, act_by, stored, store_of, exptime_of};
 ghost use Rattle.scenario_text.specs.Reads.{IsReadAs};
@@ -33,56 +33,147 @@ pub(crate) fn read_act(alloc: Global, words: &[&[u8]]) -> Result<Act, LineFault>
     }
 }
 
-#[tactic(auto, unfolding(crate::specs::Acts::act_by))]
 fn act(alloc: Global, verb: Verb, key: &[u8], words: &[&[u8]]) -> Result<Act, LineFault>
     ensures meaning { IsReadAs result (act_by verb key.now (map (λ word. word.now) words.now)) }
     ensures bytes { IfOk result (λ act. All (λ b. b < 256) (value_of act)) }
 {
-    match (verb, words) {
-        (Verb::Get, []) => Ok(Act::Get {
-            key: read_key(alloc, key)?,
-        }),
-        (Verb::Store(mode), [flags, words @ ..]) => {
-            let key = read_key(alloc, key)?;
-            Ok(stored(mode, key, read_store(alloc, flags, words)?))
-        }
-        (Verb::Cas, [flags, cas, words @ ..]) => {
-            let key = read_key(alloc, key)?;
-            let cas = read_u64(cas)?;
-            let store = read_store(alloc, flags, words)?;
-            Ok(Act::Cas {
-                key,
-                flags: store.flags,
-                expiry: store.expiry,
-                cas,
-                value: store.value,
-            })
-        }
-        (Verb::Delete, []) => Ok(Act::Delete {
-            key: read_key(alloc, key)?,
-        }),
-        (Verb::Touch, [exptime]) => Ok(Act::Touch {
-            key: read_key(alloc, key)?,
-            expiry: read_exptime(exptime)?,
-        }),
-        (Verb::Append, [value]) => Ok(Act::Append {
-            key: read_key(alloc, key)?,
-            value: read_value(alloc, value)?,
-        }),
-        (Verb::Prepend, [value]) => Ok(Act::Prepend {
-            key: read_key(alloc, key)?,
-            value: read_value(alloc, value)?,
-        }),
-        (Verb::Incr, [by]) => Ok(Act::Incr {
-            key: read_key(alloc, key)?,
-            by: read_u64(by)?,
-        }),
-        (Verb::Decr, [by]) => Ok(Act::Decr {
-            key: read_key(alloc, key)?,
-            by: read_u64(by)?,
-        }),
-        _ => Err(LineFault::BadLine),
+    match verb {
+        Verb::Get => get(alloc, key, words),
+        Verb::Store(mode) => read_stored(alloc, mode, key, words),
+        Verb::Cas => compare(alloc, key, words),
+        Verb::Delete => delete(alloc, key, words),
+        Verb::Touch => touch(alloc, key, words),
+        Verb::Append => append(alloc, key, words),
+        Verb::Prepend => prepend(alloc, key, words),
+        Verb::Incr => incr(alloc, key, words),
+        Verb::Decr => decr(alloc, key, words),
     }
+}
+
+#[tactic(auto, unfolding(crate::specs::Acts::act_by))]
+fn get(alloc: Global, key: &[u8], words: &[&[u8]]) -> Result<Act, LineFault>
+    ensures meaning { IsReadAs result (act_by Verb.Get key.now (map (λ word. word.now) words.now)) }
+    ensures bytes { IfOk result (λ act. value_of act ≡ []) }
+{
+    let [] = words else {
+        return Err(LineFault::BadLine);
+    };
+    let key = read_key(alloc, key)?;
+    Ok(Act::Get { key })
+}
+
+#[tactic(auto, unfolding(crate::specs::Acts::act_by))]
+fn read_stored(
+    alloc: Global,
+    mode: StoreMode,
+    key: &[u8],
+    words: &[&[u8]],
+) -> Result<Act, LineFault>
+    ensures meaning { IsReadAs result (act_by (Verb.Store mode) key.now (map (λ word. word.now) words.now)) }
+    ensures bytes { IfOk result (λ act. All (λ b. b < 256) (value_of act)) }
+{
+    let [flags, words @ ..] = words else {
+        return Err(LineFault::BadLine);
+    };
+    let key = read_key(alloc, key)?;
+    Ok(stored(mode, key, read_store(alloc, flags, words)?))
+}
+
+#[tactic(auto, unfolding(crate::specs::Acts::act_by))]
+fn compare(alloc: Global, key: &[u8], words: &[&[u8]]) -> Result<Act, LineFault>
+    ensures meaning { IsReadAs result (act_by Verb.Cas key.now (map (λ word. word.now) words.now)) }
+    ensures bytes { IfOk result (λ act. All (λ b. b < 256) (value_of act)) }
+{
+    let [flags, cas, words @ ..] = words else {
+        return Err(LineFault::BadLine);
+    };
+    let key = read_key(alloc, key)?;
+    let cas = read_u64(cas)?;
+    let store = read_store(alloc, flags, words)?;
+    Ok(Act::Cas {
+        key,
+        flags: store.flags,
+        expiry: store.expiry,
+        cas,
+        value: store.value,
+    })
+}
+
+#[tactic(auto, unfolding(crate::specs::Acts::act_by))]
+fn delete(alloc: Global, key: &[u8], words: &[&[u8]]) -> Result<Act, LineFault>
+    ensures meaning { IsReadAs result (act_by Verb.Delete key.now (map (λ word. word.now) words.now)) }
+    ensures bytes { IfOk result (λ act. value_of act ≡ []) }
+{
+    let [] = words else {
+        return Err(LineFault::BadLine);
+    };
+    let key = read_key(alloc, key)?;
+    Ok(Act::Delete { key })
+}
+
+#[tactic(auto, unfolding(crate::specs::Acts::act_by))]
+fn touch(alloc: Global, key: &[u8], words: &[&[u8]]) -> Result<Act, LineFault>
+    ensures meaning { IsReadAs result (act_by Verb.Touch key.now (map (λ word. word.now) words.now)) }
+    ensures bytes { IfOk result (λ act. value_of act ≡ []) }
+{
+    let [exptime] = words else {
+        return Err(LineFault::BadLine);
+    };
+    let key = read_key(alloc, key)?;
+    let expiry = read_exptime(exptime)?;
+    Ok(Act::Touch { key, expiry })
+}
+
+#[tactic(auto, unfolding(crate::specs::Acts::act_by))]
+fn append(alloc: Global, key: &[u8], words: &[&[u8]]) -> Result<Act, LineFault>
+    ensures meaning { IsReadAs result (act_by Verb.Append key.now (map (λ word. word.now) words.now)) }
+    ensures bytes { IfOk result (λ act. All (λ b. b < 256) (value_of act)) }
+{
+    let [value] = words else {
+        return Err(LineFault::BadLine);
+    };
+    let key = read_key(alloc, key)?;
+    let value = read_value(alloc, value)?;
+    Ok(Act::Append { key, value })
+}
+
+#[tactic(auto, unfolding(crate::specs::Acts::act_by))]
+fn prepend(alloc: Global, key: &[u8], words: &[&[u8]]) -> Result<Act, LineFault>
+    ensures meaning { IsReadAs result (act_by Verb.Prepend key.now (map (λ word. word.now) words.now)) }
+    ensures bytes { IfOk result (λ act. All (λ b. b < 256) (value_of act)) }
+{
+    let [value] = words else {
+        return Err(LineFault::BadLine);
+    };
+    let key = read_key(alloc, key)?;
+    let value = read_value(alloc, value)?;
+    Ok(Act::Prepend { key, value })
+}
+
+#[tactic(auto, unfolding(crate::specs::Acts::act_by))]
+fn incr(alloc: Global, key: &[u8], words: &[&[u8]]) -> Result<Act, LineFault>
+    ensures meaning { IsReadAs result (act_by Verb.Incr key.now (map (λ word. word.now) words.now)) }
+    ensures bytes { IfOk result (λ act. value_of act ≡ []) }
+{
+    let [by] = words else {
+        return Err(LineFault::BadLine);
+    };
+    let key = read_key(alloc, key)?;
+    let by = read_u64(by)?;
+    Ok(Act::Incr { key, by })
+}
+
+#[tactic(auto, unfolding(crate::specs::Acts::act_by))]
+fn decr(alloc: Global, key: &[u8], words: &[&[u8]]) -> Result<Act, LineFault>
+    ensures meaning { IsReadAs result (act_by Verb.Decr key.now (map (λ word. word.now) words.now)) }
+    ensures bytes { IfOk result (λ act. value_of act ≡ []) }
+{
+    let [by] = words else {
+        return Err(LineFault::BadLine);
+    };
+    let key = read_key(alloc, key)?;
+    let by = read_u64(by)?;
+    Ok(Act::Decr { key, by })
 }
 
 fn stored(mode: StoreMode, key: Key, store: Store) -> Act

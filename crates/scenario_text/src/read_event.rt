@@ -29,7 +29,6 @@ pub(crate) fn read_event(alloc: Global, shape: Shape, words: &[&[u8]]) -> Result
     }
 }
 
-#[tactic(auto, unfolding(crate::specs::Meaning::line_by))]
 fn read_named(
     alloc: Global,
     shape: Shape,
@@ -39,45 +38,149 @@ fn read_named(
     ensures meaning { IsReadAs result (line_by shape keyword (map (λ word. word.now) words.now)) }
     ensures within { IfOk result (IsWithin shape) }
 {
-    match (keyword, words) {
-        (Keyword::Ask, [caller, at, act @ ..]) => Ok(Line::Ask {
-            caller: read_caller(caller)?,
-            at: read_process(shape, at)?,
-            act: read_act(alloc, act)?,
-        }),
-        (Keyword::Collect, [caller, call, at]) => Ok(Line::Collect {
-            caller: read_caller(caller)?,
-            call: read_u64(call)?,
-            at: read_process(shape, at)?,
-        }),
-        (Keyword::Deliver, [from, to]) => {
-            let from = read_process(shape, from)?;
-            delivery(from, read_process(shape, to)?)
-        }
-        (Keyword::Fail, [at, keep]) => Ok(Line::Fail {
-            at: read_process(shape, at)?,
-            keep: read_keep(keep)?,
-        }),
-        (Keyword::Flush, [at]) => Ok(Line::Flush {
-            at: read_process(shape, at)?,
-        }),
-        (Keyword::Trace, [caller, call, partition, at]) => Ok(Line::Trace {
-            caller: read_caller(caller)?,
-            call: read_u64(call)?,
-            partition: read_partition(shape, partition)?,
-            at: read_process(shape, at)?,
-        }),
-        (Keyword::Drain, []) => Ok(Line::Drain),
-        (Keyword::Show, [at, from, len]) => {
-            let at = read_process(shape, at)?;
-            look(shape, at, read_run(from, len)?)
-        }
-        (Keyword::Time, [moment]) => Ok(Line::Time {
-            moment: read_number(moment, LAST_MOMENT + 1)?,
-        }),
-        (Keyword::Stop, []) => Ok(Line::Stop),
-        _ => Err(LineFault::BadLine),
+    match keyword {
+        Keyword::Ask => ask(alloc, shape, words),
+        Keyword::Collect => collect(shape, words),
+        Keyword::Deliver => deliver(shape, words),
+        Keyword::Fail => fail(shape, words),
+        Keyword::Flush => flush(shape, words),
+        Keyword::Trace => trace(shape, words),
+        Keyword::Drain => drain(shape, words),
+        Keyword::Show => show(shape, words),
+        Keyword::Time => time(shape, words),
+        Keyword::Stop => stop(shape, words),
     }
+}
+
+#[tactic(auto, unfolding(crate::specs::Meaning::line_by))]
+fn ask(alloc: Global, shape: Shape, words: &[&[u8]]) -> Result<Line, LineFault>
+    ensures meaning { IsReadAs result (line_by shape Keyword.Ask (map (λ word. word.now) words.now)) }
+    ensures within { IfOk result (IsWithin shape) }
+{
+    let [caller, at, act @ ..] = words else {
+        return Err(LineFault::BadLine);
+    };
+    let caller = read_caller(caller)?;
+    let at = read_process(shape, at)?;
+    let act = read_act(alloc, act)?;
+    Ok(Line::Ask { caller, at, act })
+}
+
+#[tactic(auto, unfolding(crate::specs::Meaning::line_by))]
+fn collect(shape: Shape, words: &[&[u8]]) -> Result<Line, LineFault>
+    ensures meaning { IsReadAs result (line_by shape Keyword.Collect (map (λ word. word.now) words.now)) }
+    ensures within { IfOk result (IsWithin shape) }
+{
+    let [caller, call, at] = words else {
+        return Err(LineFault::BadLine);
+    };
+    let caller = read_caller(caller)?;
+    let call = read_u64(call)?;
+    let at = read_process(shape, at)?;
+    Ok(Line::Collect { caller, call, at })
+}
+
+#[tactic(auto, unfolding(crate::specs::Meaning::line_by))]
+fn deliver(shape: Shape, words: &[&[u8]]) -> Result<Line, LineFault>
+    ensures meaning { IsReadAs result (line_by shape Keyword.Deliver (map (λ word. word.now) words.now)) }
+    ensures within { IfOk result (IsWithin shape) }
+{
+    let [from, to] = words else {
+        return Err(LineFault::BadLine);
+    };
+    let from = read_process(shape, from)?;
+    delivery(from, read_process(shape, to)?)
+}
+
+#[tactic(auto, unfolding(crate::specs::Meaning::line_by))]
+fn fail(shape: Shape, words: &[&[u8]]) -> Result<Line, LineFault>
+    ensures meaning { IsReadAs result (line_by shape Keyword.Fail (map (λ word. word.now) words.now)) }
+    ensures within { IfOk result (IsWithin shape) }
+{
+    let [at, keep] = words else {
+        return Err(LineFault::BadLine);
+    };
+    let at = read_process(shape, at)?;
+    let keep = read_keep(keep)?;
+    Ok(Line::Fail { at, keep })
+}
+
+#[tactic(auto, unfolding(crate::specs::Meaning::line_by))]
+fn flush(shape: Shape, words: &[&[u8]]) -> Result<Line, LineFault>
+    ensures meaning { IsReadAs result (line_by shape Keyword.Flush (map (λ word. word.now) words.now)) }
+    ensures within { IfOk result (IsWithin shape) }
+{
+    let [at] = words else {
+        return Err(LineFault::BadLine);
+    };
+    let at = read_process(shape, at)?;
+    Ok(Line::Flush { at })
+}
+
+#[tactic(auto, unfolding(crate::specs::Meaning::line_by))]
+fn trace(shape: Shape, words: &[&[u8]]) -> Result<Line, LineFault>
+    ensures meaning { IsReadAs result (line_by shape Keyword.Trace (map (λ word. word.now) words.now)) }
+    ensures within { IfOk result (IsWithin shape) }
+{
+    let [caller, call, partition, at] = words else {
+        return Err(LineFault::BadLine);
+    };
+    let caller = read_caller(caller)?;
+    let call = read_u64(call)?;
+    let partition = read_partition(shape, partition)?;
+    let at = read_process(shape, at)?;
+    Ok(Line::Trace {
+        caller,
+        call,
+        partition,
+        at,
+    })
+}
+
+#[tactic(auto, unfolding(crate::specs::Meaning::line_by))]
+fn drain(shape: Shape, words: &[&[u8]]) -> Result<Line, LineFault>
+    ensures meaning { IsReadAs result (line_by shape Keyword.Drain (map (λ word. word.now) words.now)) }
+    ensures within { IfOk result (IsWithin shape) }
+{
+    let [] = words else {
+        return Err(LineFault::BadLine);
+    };
+    Ok(Line::Drain)
+}
+
+#[tactic(auto, unfolding(crate::specs::Meaning::line_by))]
+fn show(shape: Shape, words: &[&[u8]]) -> Result<Line, LineFault>
+    ensures meaning { IsReadAs result (line_by shape Keyword.Show (map (λ word. word.now) words.now)) }
+    ensures within { IfOk result (IsWithin shape) }
+{
+    let [at, from, len] = words else {
+        return Err(LineFault::BadLine);
+    };
+    let at = read_process(shape, at)?;
+    look(shape, at, read_run(from, len)?)
+}
+
+#[tactic(auto, unfolding(crate::specs::Meaning::line_by))]
+fn time(shape: Shape, words: &[&[u8]]) -> Result<Line, LineFault>
+    ensures meaning { IsReadAs result (line_by shape Keyword.Time (map (λ word. word.now) words.now)) }
+    ensures within { IfOk result (IsWithin shape) }
+{
+    let [moment] = words else {
+        return Err(LineFault::BadLine);
+    };
+    let moment = read_number(moment, LAST_MOMENT + 1)?;
+    Ok(Line::Time { moment })
+}
+
+#[tactic(auto, unfolding(crate::specs::Meaning::line_by))]
+fn stop(shape: Shape, words: &[&[u8]]) -> Result<Line, LineFault>
+    ensures meaning { IsReadAs result (line_by shape Keyword.Stop (map (λ word. word.now) words.now)) }
+    ensures within { IfOk result (IsWithin shape) }
+{
+    let [] = words else {
+        return Err(LineFault::BadLine);
+    };
+    Ok(Line::Stop)
 }
 
 fn read_caller(word: &[u8]) -> Result<u32, LineFault>
