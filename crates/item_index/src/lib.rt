@@ -3,7 +3,7 @@
 //! ready key without memory. What a slot refers to is left to the caller.
 #![tactic(auto)]
 
-ghost use Rattle.std.specs.Prelude.{true, ◌≡◌, [], IsTrue, IsSome, IfOk, OnOk, OnErr, option_copied, ◌||◌, ◌&&◌, not, is_some, Some, None, if◌then◌else◌};
+ghost use Rattle.std.specs.Prelude.{true, ◌≡◌, [], IsTrue, IsSome, IfOk, IsOk, OnOk, OnErr, option_copied, ◌||◌, ◌&&◌, not, is_some, Some, None, if◌then◌else◌};
 ghost use Rattle.item_index.specs.Keys.{slot_of, is_ready, count_of, IsListing, CopiesEqual};
 
 use indexmap::IndexMap;
@@ -56,6 +56,7 @@ impl<K: Eq + Hash + Clone> Index<K> {
         ensures slots { (q : K) → slot_of K.eq self.new q ≡ slot_of K.eq self.old q }
         ensures ready { OnOk result ((q : K) → is_ready K.eq self.new q ≡ (K.eq key.now q || is_ready K.eq self.old q)) }
         ensures err { OnErr result (self.new ≡ self.old) }
+        ensures succeeds { is_ready K.eq self.old key.now ≡ true → IsOk result }
     {
         if !self.slots.contains_key(key) {
             self.slots.insert(key.clone()?, None)?;

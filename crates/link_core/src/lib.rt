@@ -3,7 +3,7 @@
 //! and how many more messages fit without memory. What a message means is left to the caller.
 #![tactic(auto)]
 
-ghost use Rattle.std.specs.Prelude.{◌≡◌, ℕ, ◌-◌, ◌<◌, ◌≤◌, ◌==◌, max, [], ◌∷◌, ◌++◌, length, take, drop, replicate, slice_get, IfOk, OnOk, option_copied};
+ghost use Rattle.std.specs.Prelude.{◌≡◌, ℕ, ◌-◌, ◌<◌, ◌≤◌, ◌==◌, max, [], ◌∷◌, ◌++◌, length, take, drop, replicate, slice_get, IfOk, IsOk, OnOk, option_copied};
 ghost use Rattle.link_core.specs.Outgoing.{link_to, empty_link, with_link};
 
 use link::Link;
@@ -46,6 +46,7 @@ impl<M: Drop> Links<M> {
         ensures messages { (to : ℕ) → (link_to self.new to).messages ≡ (link_to self.old to).messages }
         ensures spare { (to : ℕ) → (link_to self.old to).spare ≤ (link_to self.new to).spare }
         ensures most { (to : ℕ) → (link_to self.new to).spare ≤ max (link_to self.old to).spare each }
+        ensures succeeds { ((to : ℕ) → to < length self.old → each ≤ (link_to self.old to).spare) → IsOk result }
         ensures ok { OnOk result ((to : ℕ) → to < length self.new → (link_to self.new to).spare ≡ max (link_to self.old to).spare each) }
     {
         'targets: for to in 0..self.links.len() {

@@ -1,5 +1,5 @@
 // The link to one target.
-ghost use Rattle.std.specs.Prelude.{◌≡◌, ◌+◌, ◌-◌, ◌<◌, ◌==◌, max, [], ◌∷◌, ◌++◌, length, take, drop, slice_get, OnOk, OnErr, option_copied};
+ghost use Rattle.std.specs.Prelude.{◌≡◌, ◌+◌, ◌-◌, ◌<◌, ◌≤◌, ◌==◌, IsOk, max, [], ◌∷◌, ◌++◌, length, take, drop, slice_get, OnOk, OnErr, option_copied};
 ghost use Rattle.link_core.specs.Outgoing.{empty_link};
 
 use std::alloc::{AllocError, Global};
@@ -39,6 +39,7 @@ impl<M: Drop> Link<M> {
         ensures messages { self.new.messages ≡ self.old.messages }
         ensures ok { OnOk result (self.new.spare ≡ max self.old.spare n) }
         ensures err { OnErr result (self.new.spare ≡ self.old.spare) }
+        ensures succeeds { n ≤ self.old.spare → IsOk result }
     {
         self.messages.reserve(n)?;
         self.spare = self.spare.max(n);

@@ -1,4 +1,4 @@
-ghost use Rattle.std.specs.Prelude.{◌≡◌, ◌↔◌, ◌+◌, ◌-◌, ◌*◌, ◌<◌, ◌≤◌, max, length, IsTrue, IfOk, IfErr, OnOk, OnErr, IfSome, IfNone, vec_len, vec_capacity, option_copied, Some, None, IsSome};
+ghost use Rattle.std.specs.Prelude.{◌≡◌, ◌↔◌, ◌+◌, ◌-◌, ◌*◌, ◌<◌, ◌≤◌, max, length, IsTrue, IfOk, IsOk, IfErr, OnOk, OnErr, IfSome, IfNone, vec_len, vec_capacity, option_copied, Some, None, IsSome};
 ghost use Rattle.std.specs.Borrow.{sem};
 ghost use Rattle.std.specs.List.Sorted.{IsStrictlyIncreasing};
 ghost use Rattle.page_map.specs.Order.{IsAt, IsGapFor, IsStrictlySorted};
@@ -89,6 +89,7 @@ impl Pages {
     pub fn make_room(&mut self, count: u32) -> Result<(), AllocError>
         ensures ok { OnOk result (self.new ≡ record self.old { room = max self.old.room count }) }
         ensures err { OnErr result (self.new ≡ self.old) }
+        ensures succeeds { count ≤ self.old.room → IsOk result }
     {
         let room = self.room.max(count);
         self.pages.reserve(room as usize)?;

@@ -1,4 +1,4 @@
-ghost use Rattle.std.specs.Prelude.{◌≡◌, ◌+◌, ◌-◌, ◌*◌, ◌<◌, ◌≤◌, None, IfOk, OnOk, OnErr, ℕ, replicate};
+ghost use Rattle.std.specs.Prelude.{◌≡◌, ◌+◌, ◌-◌, ◌*◌, ◌<◌, ◌≤◌, None, IfOk, IsOk, IsTrue, OnOk, OnErr, ℕ, replicate};
 ghost use Rattle.std.specs.List.Sorted.{IsStrictlyIncreasing};
 ghost use Rattle.page_map.specs.Pages.{AreMissing, HasPage, HasPages, IsUnion, MakesZeros, SameDimensions, byte_in, made_in, numbers_in, page_in};
 
@@ -17,6 +17,24 @@ impl Pages {
         ensures room { OnOk result (self.new.room ≡ self.old.room) }
         ensures dimensions { SameDimensions self.old self.new }
         ensures err { OnErr result (self.new ≡ self.old) }
+        ensures succeeds { HasPages self.old at len → IsOk result }
+    {
+        if self.has_all(at, len) {
+            self.numbers_rise();
+            return Ok(());
+        }
+        self.make_missing(at, len)
+    }
+
+    fn make_missing(&mut self, at: u32, len: u32) -> Result<(), AllocError>
+        requires { at + len ≤ self.old.blocks * self.old.block }
+        ensures pages { OnOk result (MakesZeros self.old self.new at len) }
+        ensures there { OnOk result (HasPages self.new at len) }
+        ensures bytes { (a : ℕ) → byte_in self.new a ≡ byte_in self.old a }
+        ensures rising { OnOk result (IsStrictlyIncreasing (numbers_in self.new)) }
+        ensures room { OnOk result (self.new.room ≡ self.old.room) }
+        ensures dimensions { SameDimensions self.old self.new }
+        ensures err { OnErr result (self.new ≡ self.old) }
     {
         let fresh = self.missing(at, len)?;
         let room = self.room().checked_add(fresh.made()).ok_or(AllocError)?;
@@ -24,6 +42,24 @@ impl Pages {
         self.add_all(fresh);
         self.numbers_rise();
         Ok(())
+    }
+
+    // Whether each block of the range has a page.
+    fn has_all(&self, at: u32, len: u32) -> bool
+        requires { at + len ≤ self.now.blocks * self.now.block }
+        ensures all { IsTrue result → HasPages self.now at len }
+        ensures some { HasPages self.now at len → IsTrue result }
+    {
+        if len == 0 {
+            return true;
+        }
+        let block = self.block();
+        'numbers: for number in at / block..(at + len - 1) / block + 1 {
+            if !self.has(number) {
+                return false;
+            }
+        }
+        true
     }
 
     // A page of zeros for each block of the range that has none.

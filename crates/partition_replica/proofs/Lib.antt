@@ -6,3 +6,4 @@ pub mod Owners
 pub mod Places
 pub mod Sound
 pub mod Owed
+pub mod Rooms

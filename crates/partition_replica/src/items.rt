@@ -1,5 +1,5 @@
 // What updates do to an index of items.
-ghost use Rattle.std.specs.Prelude.{true, ◌≡◌, ℕ, List, All, OnOk, ◌||◌, ◌&&◌, not};
+ghost use Rattle.std.specs.Prelude.{true, ◌≡◌, ℕ, List, All, IsOk, OnOk, ◌||◌, ◌&&◌, not};
 ghost use Rattle.group_message.specs.declared.update.Body.TheVariants.{Touch};
 ghost use Rattle.std.specs.List.{list_any};
 ghost use Rattle.group_types.specs.Lists.{same_key};
@@ -20,6 +20,7 @@ pub fn prepare(index: &mut Index<Key>, updates: &[Update]) -> Result<(), AllocEr
     ensures kept { (q : List ℕ) → is_among (ready_in index.old) q ≡ true → is_among (ready_in index.new) q ≡ true }
     ensures ready { OnOk result (All (λ u. is_among (ready_in index.new) u.key ≡ true) updates.now) }
     ensures most { (q : List ℕ) → is_among (ready_in index.new) q ≡ true → (is_among (ready_in index.old) q || is_touched updates.now q) ≡ true }
+    ensures succeeds { All (λ u. is_among (ready_in index.old) u.key ≡ true) updates.now → IsOk result }
 {
     'updates: for update in updates {
         index.prepare(&update.key)?;

@@ -3,7 +3,7 @@
 //! memory. What an update does is left to the caller.
 #![tactic(auto)]
 
-ghost use Rattle.std.specs.Prelude.{◌≡◌, ℕ, ◌+◌, ◌-◌, ◌<◌, ◌≤◌, ◌==◌, max, [], ◌∷◌, ◌++◌, length, drop, find, IfSome, IfNone, OnOk, OnErr, option_copied};
+ghost use Rattle.std.specs.Prelude.{◌≡◌, ℕ, ◌+◌, ◌-◌, ◌<◌, ◌≤◌, ◌==◌, max, [], ◌∷◌, ◌++◌, length, drop, find, IfSome, IfNone, IsOk, OnOk, OnErr, option_copied};
 ghost use Rattle.std.specs.Option.{option_map};
 ghost use Rattle.std.specs.VecDeque.Iter.{deque_iter_rest, deque_iter_steps};
 ghost use Rattle.std.specs.Iterator.Runs.{YieldsRefsInOrder};
@@ -59,6 +59,7 @@ impl<N: Numbering> Log<N> {
         ensures updates { self.new.updates ≡ self.old.updates }
         ensures ok { OnOk result (self.new.spare ≡ max self.old.spare n) }
         ensures err { OnErr result (self.new.spare ≡ self.old.spare) }
+        ensures succeeds { n ≤ self.old.spare → IsOk result }
     {
         self.updates.reserve(n as usize)?;
         self.spare = self.spare.max(n as usize);

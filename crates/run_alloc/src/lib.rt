@@ -3,7 +3,7 @@
 //! kept. What the addresses hold is left to the caller.
 #![tactic(auto)]
 
-ghost use Rattle.std.specs.Prelude.{◌≡◌, ℕ, ◌+◌, ◌<◌, ◌≤◌, ◌||◌, ◌&&◌, Some, codes, max, nat_lt, not, IfOk, OnOk, OnErr, MatchOption, MatchResult};
+ghost use Rattle.std.specs.Prelude.{◌≡◌, ℕ, ◌+◌, ◌<◌, ◌≤◌, ◌||◌, ◌&&◌, Some, codes, max, nat_lt, not, IfOk, IsOk, OnOk, OnErr, MatchOption, MatchResult};
 ghost use Rattle.run_alloc.specs.Free.{is_free, in_run, AllFree, NoneFree, IsPlace, NoPlace};
 
 use cuts::carve;
@@ -79,6 +79,7 @@ impl FreeRuns {
         ensures ok { OnOk result (n ≤ self.new.spare) }
         ensures most { self.new.spare ≤ max self.old.spare n }
         ensures err { OnErr result (self.new.spare ≡ self.old.spare) }
+        ensures succeeds { n ≤ self.old.spare → IsOk result }
     {
         self.kept.reserve(n)
     }

@@ -1,5 +1,5 @@
 // Runs with gaps between them, searched by their addresses and by their lengths.
-ghost use Rattle.std.specs.Prelude.{◌≡◌, ◌≢◌, ◌+◌, ◌<◌, ◌≤◌, ◌^◌, [], max, MatchOption, IfOk, OnOk, OnErr};
+ghost use Rattle.std.specs.Prelude.{◌≡◌, ◌≢◌, ◌+◌, ◌<◌, ◌≤◌, ◌^◌, [], max, MatchOption, IfOk, IsOk, OnOk, OnErr};
 ghost use Rattle.std.specs.List.{All, Contains};
 ghost use Rattle.run_alloc.specs.Runs.{IsSpread, IsApart, IsShortest, IsCut, IsJoined};
 ghost use Rattle.run_alloc.specs.Shelves.{Adds, IsLastBelow};
@@ -47,6 +47,7 @@ impl Runs {
         ensures runs { self.new.runs ≡ self.old.runs }
         ensures ok { OnOk result (self.new.spare ≡ max self.old.spare n) }
         ensures err { OnErr result (self.new.spare ≡ self.old.spare) }
+        ensures succeeds { n ≤ self.old.spare → IsOk result }
     {
         self.by_address.reserve(n)?;
         self.by_length.reserve(n)?;

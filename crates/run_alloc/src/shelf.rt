@@ -1,5 +1,5 @@
 // A set of runs in one order, which is searched by halves and changed in one chunk.
-ghost use Rattle.std.specs.Prelude.{◌≡◌, ◌≢◌, ◌+◌, ◌<◌, ◌≤◌, ◌^◌, [], length, max, IfOk, OnOk, OnErr, MatchOption};
+ghost use Rattle.std.specs.Prelude.{◌≡◌, ◌≢◌, ◌+◌, ◌<◌, ◌≤◌, ◌^◌, [], length, max, IfOk, IsOk, OnOk, OnErr, MatchOption};
 ghost use Rattle.std.specs.List.{All, Contains};
 ghost use Rattle.run_alloc.specs.Order.{rank_of};
 ghost use Rattle.run_alloc.specs.Shelves.{Rises, Adds, IsFirstFrom, IsLastBelow};
@@ -58,6 +58,7 @@ impl Shelf {
         ensures ok { OnOk result (max self.old.spare n ≤ self.new.spare) }
         ensures most { self.new.spare ≤ max self.old.spare (n + 127) }
         ensures err { OnErr result (self.new.spare ≡ self.old.spare) }
+        ensures succeeds { n ≤ self.old.spare → IsOk result }
     {
         let n = n as usize;
         if n <= self.spare {

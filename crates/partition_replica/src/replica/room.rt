@@ -1,4 +1,4 @@
-ghost use Rattle.std.specs.Prelude.{◌≡◌, ℕ, ◌+◌, ◌*◌, ◌||◌, ◌&&◌, not, [], ◌∷◌, length, Bool, List, IfOk, OnOk, OnErr};
+ghost use Rattle.std.specs.Prelude.{◌≡◌, ℕ, ◌+◌, ◌*◌, ◌≤◌, ◌||◌, ◌&&◌, not, [], ◌∷◌, length, Bool, List, IfOk, IsOk, OnOk, OnErr};
 ghost use Rattle.group_types.specs.Lists.{same_key};
 ghost use Rattle.partition_replica.specs.State.{GrowsFor, HasRoom, IsTidyBut, is_among, is_needed, is_touched};
 
@@ -22,6 +22,7 @@ impl Replica {
         ensures most { GrowsFor self.old.room self.new.room (update.now ∷ []) }
         ensures owed { (owed : List ℕ → Bool) → IsTidyBut self.old owed → IsTidyBut self.new (λ q. owed q || is_touched (update.now ∷ []) q) }
         ensures err { OnErr result (self.new.room.spare ≡ self.old.room.spare) }
+        ensures succeeds { HasRoom self.old.room (update.now ∷ []) → IsOk result }
     {
         self.reserve_all(slice::from_ref(update))
     }
@@ -35,6 +36,7 @@ impl Replica {
         ensures most { GrowsFor self.old.room self.new.room list.now }
         ensures owed { (owed : List ℕ → Bool) → IsTidyBut self.old owed → IsTidyBut self.new (λ q. owed q || is_touched list.now q) }
         ensures err { OnErr result (self.new.room.spare ≡ self.old.room.spare) }
+        ensures succeeds { HasRoom self.old.room list.now → IsOk result }
     {
         self.reserve_all(list.updates())
     }
@@ -46,12 +48,28 @@ impl Replica {
         ensures kept { (us : List Update) → HasRoom self.old.room us → HasRoom self.new.room us }
         ensures most { GrowsFor self.old.room self.new.room updates.now }
         ensures err { OnErr result (self.new.room.spare ≡ self.old.room.spare) }
+        ensures succeeds { HasRoom self.old.room updates.now → IsOk result }
     {
+        items::prepare(&mut self.index, updates)?;
+        if updates.len() <= self.spare as usize {
+            return Ok(());
+        }
         let count = u32::try_from(updates.len()).map_err(|_| AllocError)?;
-        let spare = self.spare.max(count);
+        self.grow(count)
+    }
+
+    // Room for `spare` updates, which is more than there is, in the log and among the free runs.
+    fn grow(&mut self, spare: u32) -> Result<(), AllocError>
+        requires { self.old.room.spare ≤ spare }
+        ensures shape { self.new.shape ≡ self.old.shape }
+        ensures replica { self.new.replica ≡ self.old.replica }
+        ensures ready { self.new.room.ready ≡ self.old.room.ready }
+        ensures spare { self.old.room.spare ≤ self.new.room.spare }
+        ensures ok { OnOk result (self.new.room.spare ≡ spare) }
+        ensures err { OnErr result (self.new.room.spare ≡ self.old.room.spare) }
+    {
         self.log.reserve(spare)?;
         self.runs.reserve(runs_needed(&self.log, spare)?)?;
-        items::prepare(&mut self.index, updates)?;
         self.spare = spare;
         Ok(())
     }

@@ -1,12 +1,13 @@
-use Rattle.std.proofs.Common.{◌≡◌, ℕ, true, slice_index_or, ◌||◌, ap, ◌∙◌, take, subst, List, All, arith}
+use Rattle.std.proofs.Common.{◌≡◌, ℕ, true, slice_index_or, ◌||◌, ap, sym, ◌∙◌, take, subst, List, All, arith}
 use Rattle.std.proofs.Math.Bool.{or-true}
-use Rattle.std.proofs.lemmas.Bool.{or_left}
+use Rattle.std.proofs.lemmas.Bool.{or_left, true≢false}
 use Rattle.std.proofs.lemmas.List.{take_all}
 use Rattle.group_message.specs.declared.update.Update.{Update}
 use Rattle.group_types.specs.Lists.{same_key}
 use Rattle.partition_replica.specs.Inside.{ready_in}
 use Rattle.partition_replica.specs.State.{is_among}
-use Rattle.partition_replica.proofs.Keys.{itself, items_in-same, ready_in-prepare}
+use Rattle.partition_replica.proofs.Keys.{itself, items_in-same, ready_in-is, ready_in-prepare}
+use Rattle.partition_replica.proofs.Rooms.{ready_at}
 use Rattle.partition_replica.proofs.Owed.{most_next, touched_at}
 use Rattle.partition_replica.proofs.Indices.{all_next}
 use Rattle.partition_replica.proofs.items.prepare.Goals as goal
@@ -28,3 +29,9 @@ updates-preserved c =
 pub returns-clause-ready : goal.returns-clause-ready
 returns-clause-ready c =
     subst (λ (us : List Update). All (λ u. is_among (ready_in c.updates.index) u.key ≡ true) us) (take_all c.updates.update-index c.args.updates.now (omega arith)) c.updates.invariant.ready
+
+pub returns-in_err-prepare-clause-succeeds : goal.returns-in_err-prepare-clause-succeeds
+returns-in_err-prepare-clause-succeeds c all =
+    let was = ready_at (ready_in c.args.index.now) c.args.updates.now c.updates.update-index c.update-item.result (omega arith) c.update-item.is all in
+    let ready = sym (ready_in-is c.updates.index c.update-item.result.key) ∙ c.updates.invariant.kept c.update-item.result.key was in
+    absurd (true≢false (sym (c.in_err-prepare.ensures.succeeds ready)))
