@@ -1,4 +1,4 @@
-ghost use Rattle.std.specs.Prelude.{◌≡◌, ◌<◌, [], None, IfOk, OnErr};
+ghost use Rattle.std.specs.Prelude.{◌≡◌, ◌<◌, [], None, true, IfOk, OnErr};
 ghost use Rattle.group_run.specs.Applying.{head_at};
 ghost use Rattle.group_run.specs.Heading.{acknowledge};
 ghost use Rattle.head_service.specs.Serving.{serving};
@@ -32,6 +32,7 @@ impl Service {
             acknowledge self.old.shape parity rank.0 partition.0 number (head_at (serving self.old (B.process below.old)) partition.0)
             (serving self.old (B.process below.old))
             ≡ record { process = serving self.new (B.process below.new); sent = []; settled = settled.items }) }
+        ensures wanted { OnErr result (is_under rank.0 (at None self.old.heads partition.0) ≡ true) }
         ensures self_err { OnErr result (self.new ≡ self.old) }
         ensures bytes_err { OnErr result (B.process below.new ≡ B.process below.old) }
     {

@@ -1,4 +1,4 @@
-ghost use Rattle.std.specs.Prelude.{◌≡◌, ◌<◌, ◌^◌, ℕ, false, List, Option, length, map, All, IfOk, IfSome, OnErr};
+ghost use Rattle.std.specs.Prelude.{◌≡◌, ◌<◌, ◌^◌, ℕ, false, IsSome, None, List, Option, length, map, All, IfOk, IfSome, OnErr};
 ghost use Rattle.group_types.specs.Dimensions.{Dimensions};
 ghost use Rattle.group_types.specs.Hash.{home_of};
 ghost use Rattle.group_types.specs.Lists.{at};
@@ -37,6 +37,7 @@ impl Service {
         ensures asked { IfOk result (λ asked. IsAsked self.old.shape (name_of call) op.now (serving self.old (B.process below.old)) asked
             (serving self.new (B.process below.new))) }
         ensures block { IfOk result (NeedsOf self.old.shape) }
+        ensures wanted { OnErr result (IsSome (at None self.old.heads (home_of (key_of op.now.act) self.old.shape.k))) }
         ensures self_err { OnErr result (self.new ≡ self.old) }
         ensures bytes_err { OnErr result (B.process below.new ≡ B.process below.old) }
     {

@@ -39,6 +39,7 @@ impl Service {
         ensures beneath { IsBeneath self.new (B.shape below.new) (B.process below.new) (B.is_ready below.new) }
         ensures step { IfOk result (λ step. update_comes self.old.shape from rank.0 partition.0 update.now stable (serving self.old (B.process below.old))
             ≡ stepped (serving self.new (B.process below.new)) step) }
+        ensures wanted { OnErr result (at 0 self.old.ranks partition.0 ≤ rank.0) }
         ensures self_err { OnErr result (self.new ≡ self.old) }
         ensures bytes_err { OnErr result (B.process below.new ≡ B.process below.old) }
     {
@@ -67,6 +68,7 @@ impl Service {
         ensures beneath { IsBeneath self.new (B.shape below.new) (B.process below.new) (B.is_ready below.new) }
         ensures step { IfOk result (λ step. stable_comes self.old.shape rank.0 partition.0 number (serving self.old (B.process below.old))
             ≡ stepped (serving self.new (B.process below.new)) step) }
+        ensures wanted { OnErr result (at 0 self.old.ranks partition.0 ≤ rank.0) }
         ensures self_err { OnErr result (self.new ≡ self.old) }
         ensures bytes_err { OnErr result (B.process below.new ≡ B.process below.old) }
     {
@@ -98,6 +100,7 @@ impl Service {
         ensures beneath { IsBeneath self.new (B.shape below.new) (B.process below.new) (B.is_ready below.new) }
         ensures step { IfOk result (λ step. adopt_comes self.old.shape from rank.0 partition.0 base list.now (serving self.old (B.process below.old))
             ≡ stepped (serving self.new (B.process below.new)) step) }
+        ensures wanted { OnErr result (at 0 self.old.ranks partition.0 ≤ rank.0) }
         ensures self_err { OnErr result (self.new ≡ self.old) }
         ensures bytes_err { OnErr result (B.process below.new ≡ B.process below.old) }
     {
