@@ -1,0 +1,7 @@
+pub mod Decisions
+pub mod Each
+pub mod Fine
+pub mod Laws
+pub mod Placing
+pub mod Right
+pub mod Store
