@@ -26,7 +26,7 @@ use Rattle.law_answers.proofs.OwnMarks.{own_marks_always}
 use Rattle.group_node.specs.Delivering.{Comes}
 use Rattle.group_node.specs.Standing.{Standing}
 use Rattle.leader_role.specs.Sound.{IsOfGroup}
-use Rattle.law_headline.specs.Shown.{process_stamp, stamp_of}
+use Rattle.group_run.specs.Shown.{process_stamp, stamp_of}
 use Rattle.group_core.specs.Runs.{HasHeadline, HasRun}
 use Rattle.group_core.specs.Seats.{IsKnownLow}
 use Rattle.group_core.proofs.Runs.{named, numbers-low}

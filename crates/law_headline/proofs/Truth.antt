@@ -11,7 +11,8 @@ use Rattle.group_run.specs.Headline.{AgreeOnStamp}
 use Rattle.group_run.specs.Meaning.{AgreesOn, Lives, process_of}
 use Rattle.group_run.specs.World.{World}
 use Rattle.law_headline.proofs.Headlines.{headline_always}
-use Rattle.law_headline.specs.Shown.{TruthAlways, stamp_of, told_space}
+use Rattle.group_run.specs.Shown.{stamp_of, told_space}
+use Rattle.law_headline.specs.Shown.{TruthAlways}
 
 get-mapped : (f : ℕ → ℕ) (a n d : ℕ) → d < n → slice_get (map f (range_with_len a n)) d ≡ Some (f (a + d))
 get-mapped f a zero d low = absurd (omega (arith, low))

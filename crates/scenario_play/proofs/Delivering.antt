@@ -13,7 +13,7 @@ use Rattle.group_run.specs.World.{World, step, turns_from, world_after}
 use Rattle.law_moves.proofs.Reading.{grown-is}
 use Rattle.group_calls.specs.declared.event.Answer.{Answer}
 use Rattle.scenario_text.specs.Texts.{answer_text, entries_text, entry_text}
-use Rattle.law_headline.specs.Shown.{is_down}
+use Rattle.group_run.specs.Shown.{is_down}
 use Rattle.scenario_run.specs.Playing.{drained_text, draining, turn_text}
 use Rattle.scenario_run.proofs.Draining.{Lightens, burden, lightens}
 use Rattle.scenario_run.proofs.Leading.{IsLedTo, led-step}

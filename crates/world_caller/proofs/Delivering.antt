@@ -16,7 +16,7 @@ use Rattle.law_progress.specs.Drains.{NextComes}
 use Rattle.law_progress.specs.Ends.{IsDelivery}
 use Rattle.law_progress.proofs.Whole.{next-comes}
 use Rattle.law_progress.proofs.Steps.{world-is}
-use Rattle.law_headline.specs.Shown.{is_down}
+use Rattle.group_run.specs.Shown.{is_down}
 use Rattle.scenario_run.proofs.Draining.{Lightens, lightens}
 use Rattle.scenario_run.proofs.Truth.{up}
 use Rattle.world_caller.specs.Calling.{due}
