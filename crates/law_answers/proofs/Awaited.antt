@@ -1,5 +1,5 @@
 -- A block that a call has to wait for is awaited after the step, or rebuilt where there is one partition.
-use Rattle.std.proofs.Common.{ℕ, zero, suc, ◌≡◌, ◌≢◌, ◌<◌, ◌≤◌, ◌+◌, ◌==◌, Bool, true, false, not, ◌&&◌, ◌||◌, List, [], ◌∷◌, ◌++◌, length, slice_index_or, is_some, map, take, filter, Option, Some, None, option_map, ◌⊎◌, inl, inr, sym, ap, subst, ◌∙◌, refl, arith, if◌then◌else◌}
+use Rattle.std.proofs.Common.{ℕ, zero, suc, ◌≡◌, ◌≢◌, ◌<◌, ◌≤◌, ◌+◌, ◌==◌, Bool, true, false, not, ◌&&◌, ◌||◌, List, [], ◌∷◌, ◌++◌, length, slice_index_or, is_some, map, filter, Option, Some, None, option_map, ◌⊎◌, inl, inr, sym, ap, subst, ◌∙◌, refl, arith, if◌then◌else◌}
 use Rattle.std.specs.Prelude.{Contains}
 use Rattle.std.specs.List.{list_all, list_any, range_with_len}
 use Rattle.std.proofs.lemmas.Bool.{cases_eq, cases_lt, eq-eqb}
@@ -23,11 +23,11 @@ use Rattle.group_run.specs.World.{World}
 use Rattle.law_bytes.specs.Decoding.{Rising}
 use Rattle.law_bytes.proofs.Copies.{stays-decoded}
 use Rattle.law_bytes.proofs.Applying.{at-rebuilt}
-use Rattle.law_updates.specs.Each.{Each, EachTwo}
 use Rattle.law_bytes.proofs.Rising.{rising-filtered}
-use Rattle.law_moves.proofs.Eaches.{each-take}
+use Rattle.law_bytes.proofs.Finds.{rising-take}
 use Rattle.membership.specs.Members.{knows_dead}
 use Rattle.group_types.specs.declared.run.Run.{Run}
+use Rattle.group_types.specs.Each.{Each, EachTwo}
 use Rattle.law_answers.proofs.Distinct.{Differ, IsDistinct, mark-still, opened-distinct, start-still}
 use Rattle.law_answers.proofs.Walks.{found-there}
 
@@ -350,11 +350,6 @@ module _ (s : Dimensions) (p : Process) (b d : ℕ) (low : d < s.k) (missing : i
     by : (c : Bool) → list_any (λ g. g.block == b) p.as_leader.sessions ≡ c → process_of after y ≡ (when (not c) p (start_session s b p)).process → ComesToBe after y b
     by true some is = there-is (any-there (λ g. g.block == b) p.as_leader.sessions some) is
     by false none is = opened after y none is same
-
-rising-take : (n : ℕ) (xs : List ℕ) → Rising xs → Rising (take n xs)
-rising-take zero xs rises = tt
-rising-take (suc n) [] rises = tt
-rising-take (suc n) (x ∷ xs) rises = (each-take (λ y. x < y) n xs rises.0, rising-take n xs rises.1)
 
 -- the rows of a session are in order
 pub rows-rise : (s : Dimensions) (p : Process) → Rising (rows_of s p)

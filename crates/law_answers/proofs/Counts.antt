@@ -9,6 +9,7 @@ use Rattle.group_types.specs.declared.process.ProcessId.TheVariants.{DataNode, P
 use Rattle.group_message.specs.declared.message.Message.{Message}
 use Rattle.group_run.specs.Applying.{Sent}
 use Rattle.group_run.specs.World.{front_if, sent_to}
+use Rattle.group_run.specs.Locality.{times}
 
 -- how many messages go to a process
 abbrev pub count_to : ProcessId → List Sent → ℕ
@@ -36,11 +37,6 @@ count-flat q f c each (x ∷ xs) =
     let here = each x in
     let rest = count-flat q f c each xs in
     omega (arith, both, here, rest)
-
--- how often a number stands in a list
-abbrev pub times : ℕ → List ℕ → ℕ
-times j [] = 0
-times j (i ∷ is) = (if i == j then 1 else 0) + times j is
 
 -- one message to each of some parity processes, or data processes
 pub count-parities : (f : ℕ → Message) (q : ProcessId) (is : List ℕ) → ((j : ℕ) → times j is ≤ 1)

@@ -9,6 +9,8 @@ use Rattle.group_types.specs.Names.{IsProcess, same_process}
 use Rattle.group_types.specs.declared.process.ProcessId.{ProcessId}
 use Rattle.group_types.specs.declared.process.ProcessId.TheVariants.{DataNode, ParityNode}
 use Rattle.group_types.proofs.Names.{same-cases}
+use Rattle.group_types.specs.Each.{Each, EachTwo}
+use Rattle.group_types.proofs.Eaches.{each-append, each-weaker, each_two-push}
 use Rattle.memc_table.specs.Act.{key_of}
 use Rattle.memc_table.specs.Asked.{Asked}
 use Rattle.group_message.specs.declared.message.Message.{Message}
@@ -31,9 +33,7 @@ use Rattle.law_moves.specs.Moves.{HoldsAlways}
 use Rattle.law_moves.proofs.Moves.{Asks, Collects, Flushes, Keeps, Treats}
 use Rattle.law_moves.specs.State.{State}
 use Rattle.law_moves.proofs.Runs.{holds_always}
-use Rattle.law_updates.specs.Each.{Each, EachTwo}
 use Rattle.law_updates.proofs.Clears.{none-passes}
-use Rattle.law_updates.proofs.Eaches.{each-append, each-weaker, each_two-push}
 
 -- two sessions of different numbers, for different blocks
 abbrev pub Differ : Gathering → Gathering → Type 0

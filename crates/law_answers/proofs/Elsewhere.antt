@@ -1,7 +1,6 @@
 -- Only a partition that a process keeps gets updates there.
-use Rattle.std.proofs.Common.{ℕ, ◌≡◌, ◌≢◌, ◌<◌, ◌+◌, ◌==◌, nat_le, Bool, true, false, not, List, [], ◌∷◌, length, find, Option, Some, None, ◌⊎◌, inl, inr, refl, sym, ap, subst, ◌∙◌, if◌then◌else◌, arith}
+use Rattle.std.proofs.Common.{ℕ, ◌≡◌, ◌≢◌, ◌<◌, ◌+◌, ◌==◌, nat_le, Bool, true, false, not, List, [], ◌∷◌, length, find, Option, Some, None, ◌⊎◌, inl, inr, refl, sym, ap, subst, ◌∙◌}
 use Rattle.std.proofs.lemmas.Bool.{cases_eq}
-use Rattle.std.proofs.lemmas.Grind.{common_steps}
 use Rattle.std.specs.List.{list_any, range_with_len}
 use Rattle.group_types.specs.Dimensions.{Dimensions, space_of}
 use Rattle.group_types.specs.Hash.{home_of}
@@ -29,8 +28,7 @@ use Rattle.group_run.specs.Replica.{Replica, empty_replica, last_of, with_update
 use Rattle.group_run.specs.Rows.{parity_number}
 use Rattle.law_moves.proofs.Moves.{Asks, Collects, Flushes, Treats}
 use Rattle.law_moves.specs.State.{State}
-use Rattle.law_moves.proofs.Members.{IsParity, MayStand, Sits}
-use Rattle.law_moves.proofs.Calls.{seat-head}
+use Rattle.law_moves.proofs.Members.{IsParity, MayStand}
 use Rattle.law_histories.proofs.Reach.{IsKeeper}
 use Rattle.law_histories.proofs.Plain.{onward-notice, plain-apply, plain-judge, plain-mark, plain-session, plain-when}
 
@@ -45,20 +43,6 @@ KeepsOr s x d p q = Keeps s x d ⊎ (last_of (replica_of q d) ≡ last_of (repli
 parity-keeps : (d : ℕ) (x : ProcessId) → IsParity x → IsKeeper d x
 parity-keeps d (ParityNode i) parity = tt
 parity-keeps d (DataNode e) parity = absurd parity
-
-seat-if : Bool → Option ℕ
-seat-if b = if b then Some 0 else None
-
--- where a process heads a partition, it keeps it
-pub head-keeps : (p : Process) (d : ℕ) (h : Head) (x : ProcessId) → Sits p d x → head_at p d ≡ Some h → IsKeeper d x
-unfolding seat-if
-head-keeps p d h (ParityNode i) sits heads = tt
-head-keeps p d h (DataNode e) sits heads = by (cases_eq d e) where
-  by : (d ≡ e) ⊎ (d ≢ e) → e ≡ d
-  by (inl same) = sym same
-  by (inr other) =
-      let not_own : (d == e) ≡ false = grind (arith, common_steps) in
-      absurd (cc (seat-head p d h heads, sits.0, ap seat-if not_own))
 
 module _ (s : Dimensions) (d : ℕ) where
   -- another partition's replica

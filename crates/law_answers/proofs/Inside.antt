@@ -7,6 +7,8 @@ use Rattle.group_types.specs.Lists.{at}
 use Rattle.group_types.specs.Names.{IsProcess, same_process}
 use Rattle.group_types.specs.declared.process.ProcessId.{ProcessId}
 use Rattle.group_types.specs.declared.process.ProcessId.TheVariants.{DataNode, ParityNode}
+use Rattle.group_types.specs.Each.{Each}
+use Rattle.group_types.proofs.Eaches.{each-append, each-take, each-map}
 use Rattle.membership.specs.Members.{knows_dead}
 use Rattle.memc_table.specs.Act.{key_of}
 use Rattle.memc_table.specs.Asked.{Asked}
@@ -27,12 +29,11 @@ use Rattle.group_run.specs.Process.{Copy, Gathering, Head, Process}
 use Rattle.group_run.specs.Receiving.{ack_to, death_known, enthroned, log_adopted, notice_comes, read_comes, receive, take_over_if, taken_over, takes_over, update_taken}
 use Rattle.group_run.specs.Replica.{with_update}
 use Rattle.group_run.specs.Rows.{accepts_mark, begin_copy, copy_in, is_marked, marked, parity_number, with_copies, without_copy}
-use Rattle.law_moves.specs.Members.{Each}
 use Rattle.law_moves.proofs.Calls.{each-below}
-use Rattle.law_moves.proofs.Eaches.{each-append, each-map, each-take}
+use Rattle.law_moves.proofs.Members.{IsParity}
 use Rattle.law_histories.proofs.Deciding.{RestsWell, decides-well}
 use Rattle.law_answers.specs.Steps.{AlwaysSendsInside}
-use Rattle.law_answers.proofs.Starting.{HasRow, copy-led, missing-row, owns-silent, row-named}
+use Rattle.law_answers.proofs.Starting.{copy-led, missing-row, owns-silent, row-named}
 
 all-each : (s : Dimensions) (sent : List Sent) → Each (λ z. IsProcess s z.to) sent → All (λ z. IsProcess s z.to) sent
 all-each s [] all k z below = absurd (omega (arith, below))
@@ -193,7 +194,7 @@ module _ (s : Dimensions) where
           (each-take (λ i. i < s.m) (length (lost_of s p)) (filter (λ i. not (knows_dead p.known (ParityNode i))) (range_with_len 0 s.m))
           (each-filter (λ i. i < s.m) (λ i. not (knows_dead p.known (ParityNode i))) (range_with_len 0 s.m) (each-below s.m))))
 
-  inside-start : (block : ℕ) (p : Process) → HasRow p.name → Inside (start_session s block p).sent
+  inside-start : (block : ℕ) (p : Process) → IsParity p.name → Inside (start_session s block p).sent
   inside-start block p parity =
       let leader : ℕ = parity_number p.name in
       let number : ℕ = suc p.as_leader.last_session in
@@ -202,7 +203,7 @@ module _ (s : Dimensions) where
       (inside-starts leader number block p)
       (subst Inside (sym silent) tt)
 
-  inside-retry : (block : ℕ) (o : Option Oldest) (p : Process) → HasRow p.name → Inside (retry_block s block o p).step.sent
+  inside-retry : (block : ℕ) (o : Option Oldest) (p : Process) → IsParity p.name → Inside (retry_block s block o p).step.sent
   inside-retry block (Some o) p parity = tt
   inside-retry block None p parity = inside-when (not (list_any (λ g. g.block == block) p.as_leader.sessions)) p (start_session s block p) (inside-start block p parity)
 
@@ -216,7 +217,7 @@ module _ (s : Dimensions) where
       let update : Message = tells.Update (rank h.rank) (partition d) u (replica_of p d).applied in
       inside-append (to_others s p update) (judge s d after).sent (inside-others p update) (inside-judge d after)
 
-  inside-act : (name : CallName) (op : Asked) (d : ℕ) (h : Head) (p : Process) (decision : Decision) → RestsWell (replica_of p d) (HasRow p.name) decision
+  inside-act : (name : CallName) (op : Asked) (d : ℕ) (h : Head) (p : Process) (decision : Decision) → RestsWell (replica_of p d) (IsParity p.name) decision
       → Inside (act_on s name op d h p decision).step.sent
   inside-act name op d h p (decides.Answer reply) well = tt
   inside-act name op d h p (decides.Retry n) well = tt
@@ -231,7 +232,7 @@ module _ (s : Dimensions) where
   inside-ask name op d p None = tt
   inside-ask name op d p (Some h) =
       inside-act name op d h p (decide (space_of s) h.inherited (replica_of p d) op (found_at s d p p.name))
-      (decides-well (space_of s) (replica_of p d) op (found_at s d p p.name) (HasRow p.name) (missing-row s d p p.name) h.inherited)
+      (decides-well (space_of s) (replica_of p d) op (found_at s d p p.name) (IsParity p.name) (missing-row s d p p.name) h.inherited)
 
 pub sends_inside : AlwaysSendsInside
 sends_inside s p = record {

@@ -11,6 +11,7 @@ use Rattle.group_types.specs.declared.process.ProcessId.{ProcessId}
 use Rattle.group_types.specs.declared.run.Run.{Run}
 use Rattle.group_types.proofs.Lists.{at-map, length-put, map-indices, put-at}
 use Rattle.group_types.proofs.Names.{index-below, process_at-index, same-cases}
+use Rattle.group_types.specs.Each.{Each}
 use Rattle.membership.specs.Members.{knows_dead}
 use Rattle.memc_table.specs.Act.{key_of}
 use Rattle.memc_table.specs.Asked.{Asked}
@@ -32,7 +33,7 @@ use Rattle.group_run.specs.Asking.{CallStep, Oldest, act_on, ask_head, ask_proce
 use Rattle.group_run.specs.Causes.{AskLeaves, KeepsLedger}
 use Rattle.group_run.specs.Deciding.{decide}
 use Rattle.group_run.specs.Headline.{IsRun, MayCome}
-use Rattle.group_run.specs.Leaders.{copy_kept, copy_marked, lost_of, mark_taken, own_mark, row_finished, session_opened, start_session}
+use Rattle.group_run.specs.Leaders.{copy_kept, copy_marked, lost_of, mark_taken, own_mark, session_opened, start_session}
 use Rattle.group_run.specs.Meaning.{process_of}
 use Rattle.group_run.specs.Process.{Copy, Head, Node, Process}
 use Rattle.group_run.specs.Receiving.{receive}
@@ -46,9 +47,9 @@ use Rattle.law_log.proofs.Calls.{AreAsked, asked_always, next_call}
 use Rattle.law_log.proofs.Entries.{accepted-from, call-ne}
 use Rattle.law_log.proofs.Logging.{LogsOf, logs_always}
 use Rattle.law_log.proofs.Logs.{next-new}
-use Rattle.law_updates.specs.Each.{Each}
 use Rattle.law_headline.proofs.All.{whole-always}
 use Rattle.law_headline.proofs.Promises.{stands-always}
+use Rattle.law_headline.proofs.Nexts.{row-none}
 use Rattle.law_answers.specs.Laws.{AsksLeaveAlways}
 
 -- every node has a link to each process
@@ -162,13 +163,8 @@ tickets-stay name op reply (t ∷ ts) other =
     let rest : map (op_moved (entry_of name op reply ∷ [])) ts ≡ ts = tickets-stay name op reply ts other.1 in
     λ i. here i ∷ rest i
 
--- a session settles nothing as it starts
-row_finished-settles : (b : Bool) (s : Dimensions) (copy : Copy) (p : Process) → (row_finished b s copy p).settled ≡ []
-row_finished-settles true s copy p = refl
-row_finished-settles false s copy p = refl
-
 copy_kept-settles : (b : Bool) (s : Dimensions) (copy : Copy) (p : Process) → (copy_kept b s copy p).settled ≡ []
-copy_kept-settles true s copy p = row_finished-settles _ s copy _
+copy_kept-settles true s copy p = row-none _ s copy _
 copy_kept-settles false s copy p = refl
 
 copy_marked-settles : (s : Dimensions) (d n : ℕ) (o : Option Copy) (p : Process) → (copy_marked s d n o p).settled ≡ []

@@ -11,6 +11,7 @@ use Rattle.group_types.specs.Shape.{IsShape}
 use Rattle.group_types.specs.declared.process.ProcessId.{ProcessId}
 use Rattle.group_types.proofs.Lists.{at-put, at-put-other, at-replicate, at_index}
 use Rattle.group_types.proofs.Names.{same-cases}
+use Rattle.group_types.specs.Each.{Each}
 use Rattle.memc_table.specs.Act.{key_of}
 use Rattle.memc_table.specs.Asked.{Asked}
 use Rattle.group_message.specs.declared.message.Message.{Message}
@@ -30,7 +31,6 @@ use Rattle.law_moves.proofs.Moves.{Acted, Failed, Moves, Received, Stays, Treate
 use Rattle.law_moves.specs.State.{State, state_of}
 use Rattle.law_moves.proofs.State.{Opens}
 use Rattle.law_moves.proofs.Runs.{runs_move}
-use Rattle.law_moves.specs.Members.{Each}
 use Rattle.law_moves.proofs.Members.{MayStand, Members, is_notice}
 use Rattle.law_moves.proofs.Keeping as members
 use Rattle.law_histories.proofs.HistoryWords.{HistoryLaws, history}
@@ -40,8 +40,9 @@ use Rattle.law_histories.proofs.Keeping as reaching
 use Rattle.law_histories.proofs.Weaker.{reach-weaker}
 use Rattle.law_log.specs.Book.{book_of, booked, no_book}
 use Rattle.law_log.proofs.Books.{book-history, book-shape, book-world, book_always}
+use Rattle.law_headline.proofs.Issues.{head-keeps}
 use Rattle.law_answers.specs.Numbers.{NumbersAreLow, NumbersLowAlways}
-use Rattle.law_answers.proofs.Elsewhere.{Keeps, KeepsOr, head-keeps, received-last, treated-last}
+use Rattle.law_answers.proofs.Elsewhere.{Keeps, KeepsOr, received-last, treated-last}
 use Rattle.law_answers.proofs.Leaving.{noticed-last, rests-received, starts-treated}
 
 -- a history of no more than so many updates

@@ -9,6 +9,7 @@ use Rattle.group_types.specs.declared.process.ProcessId.{ProcessId}
 use Rattle.group_types.specs.declared.process.ProcessId.TheVariants.{DataNode, ParityNode}
 use Rattle.group_types.specs.declared.process.Rank.{Rank}
 use Rattle.group_types.proofs.Names.{same-refl}
+use Rattle.group_types.specs.Each.{Each}
 use Rattle.group_message.specs.declared.message.Message.{Message}
 use Rattle.group_message.specs.declared.message.Message.TheVariants as tells
 use Rattle.group_message.specs.declared.message.Session.{Session}
@@ -17,7 +18,6 @@ use Rattle.group_run.specs.Rows.{parity_number}
 use Rattle.group_run.specs.World.{World}
 use Rattle.law_moves.specs.State.{State, state_of}
 use Rattle.law_moves.proofs.Runs.{holds_always, world-from}
-use Rattle.law_moves.specs.Members.{Each}
 use Rattle.law_moves.proofs.Members.{IsParity, MayStand}
 use Rattle.law_bytes.proofs.Finding.{and-join}
 use Rattle.law_bytes.proofs.Tokens.{Row, Token, is_token, one_if, tokens}

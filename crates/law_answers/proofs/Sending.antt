@@ -18,7 +18,8 @@ use Rattle.group_run.specs.Leaders.{close_sessions, copy_kept, copy_marked, mark
 use Rattle.group_run.specs.Process.{Copy, Gathering, Head, Process}
 use Rattle.group_run.specs.Receiving.{ack_to, data_marks, death_known, enthroned, log_adopted, notice_comes, read_comes, receive, take_over_if, taken_over, takes_over, update_taken}
 use Rattle.group_run.specs.Rows.{accepts_mark, begin_copy, block_in, copy_in, is_marked, marked, parity_number, stamp_of, with_copies, without_copy}
-use Rattle.law_answers.proofs.Counts.{count-append, count-flat, count-one, count-parities, count_to, once-differing, once-range, times, times-filtered}
+use Rattle.group_run.specs.Locality.{times}
+use Rattle.law_answers.proofs.Counts.{count-append, count-flat, count-one, count-parities, count_to, once-differing, once-range, times-filtered}
 
 -- the other parity processes, each once
 once-others : (m : ℕ) (name : ProcessId) (known : Membership) (j : ℕ) → times j (other_parities m name known) ≤ 1

@@ -59,7 +59,7 @@ settles-when true p t step = step
 settles-when false p t step = omega arith
 
 -- where a test fails nothing is settled
-none-when : (b : Bool) (p : Process) (t : ProcessStep) → t.settled ≡ [] → (when b p t).settled ≡ []
+pub none-when : (b : Bool) (p : Process) (t : ProcessStep) → t.settled ≡ [] → (when b p t).settled ≡ []
 none-when true p t none = none
 none-when false p t none = refl
 

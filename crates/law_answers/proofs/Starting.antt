@@ -29,22 +29,19 @@ use Rattle.group_run.specs.Leaders.{copy_kept, copy_marked, leader_marks, left_o
 use Rattle.group_run.specs.Process.{Copy, Head, Held, Process}
 use Rattle.group_run.specs.Replica.{Replica, with_update}
 use Rattle.group_run.specs.Rows.{accepts_mark, begin_copy, copy_begun, copy_in, is_copy, is_marked, marked, parity_number, with_copies, without_copy}
+use Rattle.group_run.specs.Locality.{times}
+use Rattle.law_moves.proofs.Members.{IsParity}
 use Rattle.law_histories.proofs.Deciding.{RestsWell, decides-well}
 use Rattle.law_answers.specs.Steps.{AlwaysSendsFew}
-use Rattle.law_answers.proofs.Counts.{count-append, count-datas, count-flat, count-parities, count_to, length-filtered, once-range, times, times-filtered, times-taken}
+use Rattle.law_answers.proofs.Counts.{count-append, count-datas, count-flat, count-parities, count_to, length-filtered, once-range, times-filtered, times-taken}
 use Rattle.law_answers.proofs.Sending.{flush-sends, judge-sends, others-send, receive-sends, sent-when}
 
--- the process may lead sessions
-abbrev pub HasRow : ProcessId → Type 0
-HasRow (DataNode _) = ⊥
-HasRow (ParityNode _) = Unit {0}
-
-pub row-named : (x : ProcessId) → HasRow x → x ≡ ParityNode (parity_number x)
+pub row-named : (x : ProcessId) → IsParity x → x ≡ ParityNode (parity_number x)
 row-named (ParityNode i) parity = refl
 row-named (DataNode e) parity = absurd parity
 
 -- only a parity process misses a block
-pub missing-row : (s : Dimensions) (d : ℕ) (p : Process) (name : ProcessId) (run : Run) (b : ℕ) → found_at s d p name run ≡ Missing b → HasRow name
+pub missing-row : (s : Dimensions) (d : ℕ) (p : Process) (name : ProcessId) (run : Run) (b : ℕ) → found_at s d p name run ≡ Missing b → IsParity name
 missing-row s d p (ParityNode i) run b missing = tt
 missing-row s d p (DataNode e) run b missing = cc missing
 
@@ -153,7 +150,7 @@ module _ (s : Dimensions) (q : ProcessId) where
       once : (j : ℕ) → times j (left_of s p) ≤ 1
       once j = let less = times-filtered (λ d. not (knows_dead p.known (DataNode d))) j (range_with_len 0 s.k) in let one = once-range j 0 s.k in omega (arith, less, one)
 
-  start-sends : (block : ℕ) (p : Process) → HasRow p.name → count_to q (start_session s block p).sent ≤ suc s.k
+  start-sends : (block : ℕ) (p : Process) → IsParity p.name → count_to q (start_session s block p).sent ≤ suc s.k
   start-sends block p parity =
       let leader : ℕ = parity_number p.name in
       let number : ℕ = suc p.as_leader.last_session in
@@ -165,7 +162,7 @@ module _ (s : Dimensions) (q : ProcessId) where
       omega (arith, starts, silent, both)
 
   -- a call that is asked
-  retry-sends : (block : ℕ) (o : Option Oldest) (p : Process) → HasRow p.name → count_to q (retry_block s block o p).step.sent ≤ suc s.k
+  retry-sends : (block : ℕ) (o : Option Oldest) (p : Process) → IsParity p.name → count_to q (retry_block s block o p).step.sent ≤ suc s.k
   retry-sends block (Some o) p parity = omega arith
   retry-sends block None p parity =
       let less = sent-when s q (not (list_any (λ g. g.block == block) p.as_leader.sessions)) p (start_session s block p) in
@@ -185,7 +182,7 @@ module _ (s : Dimensions) (q : ProcessId) where
       let none = ap (count_to q) (judge-sends s q d after (head_at after d)) in
       omega (arith, both, first, none)
 
-  act-sends : (name : CallName) (op : Asked) (d : ℕ) (h : Head) (p : Process) (r : Replica) (decision : Decision) → RestsWell r (HasRow p.name) decision
+  act-sends : (name : CallName) (op : Asked) (d : ℕ) (h : Head) (p : Process) (r : Replica) (decision : Decision) → RestsWell r (IsParity p.name) decision
       → count_to q (act_on s name op d h p decision).step.sent ≤ suc s.k
   act-sends name op d h p r (decides.Answer reply) well = omega arith
   act-sends name op d h p r (decides.Retry n) well = omega arith
@@ -202,7 +199,7 @@ module _ (s : Dimensions) (q : ProcessId) where
   ask-sends name op d p None = omega arith
   ask-sends name op d p (Some h) =
       act-sends name op d h p (replica_of p d) (decide (space_of s) h.inherited (replica_of p d) op (found_at s d p p.name))
-      (decides-well (space_of s) (replica_of p d) op (found_at s d p p.name) (HasRow p.name) (missing-row s d p p.name) h.inherited)
+      (decides-well (space_of s) (replica_of p d) op (found_at s d p p.name) (IsParity p.name) (missing-row s d p p.name) h.inherited)
 
 -- a collect sends nothing
 collect-sends : (caller call : ℕ) (p : Process) (ds : List ℕ) → (collect_from caller call p ds).step.sent ≡ []

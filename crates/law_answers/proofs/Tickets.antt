@@ -5,6 +5,8 @@ use Rattle.std.specs.List.{list_any}
 use Rattle.group_types.specs.Lists.{at, put}
 use Rattle.group_types.proofs.Lists.{at-put, at-put-other}
 use Rattle.group_types.specs.Dimensions.{Dimensions}
+use Rattle.group_types.specs.Each.{Each, EachTwo}
+use Rattle.group_types.proofs.Eaches.{each-append, each-weaker, each_two-push}
 use Rattle.group_calls.specs.Turns.{CallName, name_of}
 use Rattle.group_calls.specs.declared.entry.Entry.{Entry}
 use Rattle.group_calls.specs.declared.event.Answer.{Answer}
@@ -12,8 +14,6 @@ use Rattle.group_calls.specs.declared.event.Event.{Event}
 use Rattle.group_calls.specs.declared.event.Event.TheVariants.{Ask, Collect, Deliver, Fail, Flush, Trace}
 use Rattle.group_run.specs.Headline.{IsRun, MayCome}
 use Rattle.group_run.specs.World.{Call, Ticket, World, after, asked_after, call_of, group_step, is_issued, next_name, op_moved, ops_moved, same_call, step, ticket_if, tickets_after}
-use Rattle.law_updates.specs.Each.{Each, EachTwo}
-use Rattle.law_updates.proofs.Eaches.{each-append, each-weaker, each_two-push}
 use Rattle.law_log.specs.Book.{book_of, booked}
 use Rattle.law_log.proofs.Books.{book-world, book_always}
 use Rattle.law_answers.specs.Tickets.{TicketsAlways, TicketsStand}

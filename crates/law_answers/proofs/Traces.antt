@@ -29,12 +29,8 @@ use Rattle.law_moves.proofs.Calls.{seat-head}
 use Rattle.law_moves.proofs.Keeping.{members_always}
 use Rattle.law_answers.specs.Laws.{TracesAlways, TracesHaveCauses}
 use Rattle.law_moves.proofs.Aways.{ready-from, seat-from-ready}
+use Rattle.law_moves.proofs.Notices.{both}
 use Rattle.law_answers.proofs.Walks.{is-down, is-up, not-down}
-
-and-both : (a b : Bool) → (a && b) ≡ true → (a ≡ true) × (b ≡ true)
-and-both true true is = (refl, refl)
-and-both true false is = cc is
-and-both false b is = cc is
 
 -- a test that all members pass that another one lets through
 every-other : (f g : ℕ → Bool) (n a i : ℕ) → a ≤ i → i < a + n → g i ≡ true → list_all f (filter g (range_with_len a n)) ≡ true → f i ≡ true
@@ -42,8 +38,8 @@ every-other f g zero a i low high lets all = absurd (omega (arith, low, high))
 every-other f g (suc n) a i low high lets all = by (g a) refl all (cases_eq i a) (λ later. every-other f g n (a + 1) i (omega (arith, later)) (omega (arith, high)) lets) where
   by : (b : Bool) → g a ≡ b → list_all f (if b then a ∷ filter g (range_with_len (a + 1) n) else filter g (range_with_len (a + 1) n)) ≡ true → (i ≡ a) ⊎ (i ≢ a)
       → (a < i → list_all f (filter g (range_with_len (a + 1) n)) ≡ true → f i ≡ true) → f i ≡ true
-  by true test all (inl same) later = ap f same ∙ (and-both (f a) (list_all f (filter g (range_with_len (a + 1) n))) all).0
-  by true test all (inr other) later = later (omega (arith, low, other)) (and-both (f a) (list_all f (filter g (range_with_len (a + 1) n))) all).1
+  by true test all (inl same) later = ap f same ∙ (both (f a) (list_all f (filter g (range_with_len (a + 1) n))) all).0
+  by true test all (inr other) later = later (omega (arith, low, other)) (both (f a) (list_all f (filter g (range_with_len (a + 1) n))) all).1
   by false test all (inl same) later = absurd (let lets_it : g a ≡ true = ap g (sym same) ∙ lets in cc (lets_it, test))
   by false test all (inr other) later = later (omega (arith, low, other)) all
 

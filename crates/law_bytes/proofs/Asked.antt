@@ -10,6 +10,7 @@ use Rattle.group_types.specs.Shape.{IsShape}
 use Rattle.group_types.specs.declared.process.ProcessId.{ProcessId}
 use Rattle.group_types.specs.declared.process.ProcessId.TheVariants.{DataNode, ParityNode}
 use Rattle.group_types.proofs.Lists.{at-replicate}
+use Rattle.group_types.proofs.Eaches.{each-all}
 use Rattle.membership.specs.Members.{knows_dead}
 use Rattle.memc_table.specs.Act.{key_of}
 use Rattle.memc_table.specs.Asked.{Asked}
@@ -28,7 +29,6 @@ use Rattle.law_moves.proofs.Moves.{Acted, Treats, Asks, Collects, Flushes}
 use Rattle.law_moves.specs.State.{IsUp, State}
 use Rattle.law_moves.proofs.Members.{Members, Sits, knows_lower}
 use Rattle.law_moves.proofs.Calls.{Seated, seat-lower}
-use Rattle.law_moves.proofs.Eaches.{each-all}
 use Rattle.erasure_code.proofs.Nodes.{Among}
 use Rattle.law_bytes.specs.Premises.{SettledWrite}
 use Rattle.law_bytes.proofs.Premises.{GoesOn, NextIsNew}

@@ -1,9 +1,9 @@
 -- What the laws of sessions carry along a run gives what this crate asks of a state.
 use Rattle.group_types.specs.Dimensions.{Dimensions}
+use Rattle.group_types.proofs.Eaches.{each-weaker}
 use Rattle.group_message.specs.declared.message.Message.{Message}
 use Rattle.group_message.specs.declared.message.Message.TheVariants as tells
 use Rattle.law_moves.specs.State.{State}
-use Rattle.law_moves.proofs.Eaches.{each-weaker}
 use Rattle.law_bytes.proofs.Held.{HoldsBytes}
 use Rattle.law_bytes.proofs.LeadingWords.{SessionsFit}
 use Rattle.law_bytes.proofs.TokensKeeping.{Carried}

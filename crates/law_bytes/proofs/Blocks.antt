@@ -9,12 +9,12 @@ use Rattle.std.specs.List.{range_with_len}
 use Rattle.erasure_code.proofs.Nodes.{Among}
 use Rattle.group_types.specs.Dimensions.{Dimensions}
 use Rattle.group_types.specs.declared.run.Run.{Run}
+use Rattle.group_types.specs.Each.{Each}
 use Rattle.group_message.specs.declared.update.Body.{Body}
 use Rattle.group_message.specs.declared.update.Body.TheVariants.{Put, Remove, Touch}
 use Rattle.group_message.specs.declared.update.Update.{Update}
 use Rattle.group_run.specs.Leaders.{blocks_met, missing_block, rebuilt_block}
 use Rattle.group_run.specs.Process.{LeaderState}
-use Rattle.law_moves.specs.Members.{Each}
 use Rattle.law_bytes.specs.Areas.{change, shifted, value}
 use Rattle.law_bytes.proofs.Areas.{shifted-before, shifted-from}
 use Rattle.law_bytes.proofs.Finds.{found-none}

@@ -16,6 +16,8 @@ use Rattle.group_types.specs.declared.process.ProcessId.{ProcessId}
 use Rattle.group_types.specs.declared.process.ProcessId.TheVariants.{DataNode, ParityNode}
 use Rattle.group_types.proofs.Lists.{at-replicate}
 use Rattle.group_types.proofs.Names.{same-cases}
+use Rattle.group_types.specs.Each.{Each}
+use Rattle.group_types.proofs.Eaches.{each-weaker}
 use Rattle.group_message.specs.declared.message.Message.{Message}
 use Rattle.group_message.specs.declared.message.Message.TheVariants as tells
 use Rattle.group_message.specs.declared.update.Update.{Update}
@@ -27,10 +29,8 @@ use Rattle.group_run.specs.Replica.{Replica, empty_replica}
 use Rattle.group_run.specs.World.{new_ones, settled_in}
 use Rattle.law_moves.proofs.Moves.{Acted}
 use Rattle.law_moves.specs.State.{State}
-use Rattle.law_moves.specs.Members.{Each}
 use Rattle.law_moves.proofs.Members.{IsParity, MayStand, Members, Sits}
 use Rattle.law_moves.proofs.Calls.{seat-head}
-use Rattle.law_moves.proofs.Eaches.{each-weaker}
 use Rattle.law_bytes.specs.Areas.{IsBlock, held, value}
 use Rattle.law_bytes.specs.Held.{CopyHolds, Holds, marked_at, marked_stand, stand}
 use Rattle.law_bytes.proofs.Held.{HoldsBytes}

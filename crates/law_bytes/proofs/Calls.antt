@@ -1,6 +1,6 @@
 -- A process treats a call: what it has and sends goes on following the plan, or it opens the session, with a plan
 -- of its own.
-use Rattle.std.proofs.Common.{◌≡◌, ℕ, suc, ◌<◌, ◌≤◌, ◌==◌, nat_le, Bool, true, false, not, List, [], ◌∷◌, ◌++◌, map, filter, find, flat_map, length, option_map, replicate, Option, Some, None, IfSome, ◌⊎◌, inl, inr, sym, ap, subst, ◌∙◌, refl, arith}
+use Rattle.std.proofs.Common.{◌≡◌, ℕ, suc, ◌<◌, ◌≤◌, ◌==◌, nat_le, Bool, true, false, not, List, [], ◌∷◌, ◌++◌, map, filter, find, flat_map, option_map, replicate, Option, Some, None, IfSome, ◌⊎◌, inl, inr, sym, ap, subst, ◌∙◌, refl, arith}
 use Rattle.std.specs.Prelude.{Contains}
 use Rattle.std.specs.List.{list_all, list_any, range_with_len}
 use Rattle.group_types.specs.Dimensions.{Dimensions, space_of}
@@ -9,8 +9,9 @@ use Rattle.group_types.specs.Lists.{at}
 use Rattle.group_types.specs.Names.{IsProcess}
 use Rattle.group_types.specs.declared.process.ProcessId.{ProcessId}
 use Rattle.group_types.specs.declared.process.ProcessId.TheVariants.{DataNode, ParityNode}
-use Rattle.group_types.specs.declared.run.Run.{Run}
 use Rattle.group_types.proofs.Lists.{at-replicate}
+use Rattle.group_types.specs.Each.{Each}
+use Rattle.group_types.proofs.Eaches.{each-append, each-weaker, each-all, each-map, each-filter}
 use Rattle.membership.specs.Members.{knows_dead}
 use Rattle.memc_table.specs.Act.{key_of}
 use Rattle.memc_table.specs.Asked.{Asked}
@@ -21,31 +22,22 @@ use Rattle.group_calls.specs.declared.decision.Decision.{Decision}
 use Rattle.group_calls.specs.declared.decision.Decision.TheVariants as decides
 use Rattle.group_run.specs.Applying.{ProcessStep, Sent, and_then, for_each, head_at, held_at, quiet, replica_of, sending, when, with_held, with_replica}
 use Rattle.group_run.specs.Asking.{Oldest, act_on, ask_head, collect_from, collect_held, found_at, handed_out, holding, is_call, issued, oldest_inherited, retry_block, ticketed, update_of}
-use Rattle.item_index.specs.declared.slot.Slot.{Slot}
-use Rattle.memc_table.specs.declared.holding.Holding as held_item
-use Rattle.memc_table.specs.declared.reply.Reply.{Reply}
-use Rattle.memc_table.specs.declared.ruling.Ruling.{Ruling}
-use Rattle.memc_table.specs.declared.ruling.Ruling.TheVariants.{Refused, Accepted}
-use Rattle.group_message.specs.declared.update.Outcome.{Outcome}
-use Rattle.group_run.specs.Free.{place_for}
-use Rattle.group_run.specs.Deciding.{Bytes, Found, Missing, blind_reply, decide, decide_accepted, decide_blind, decide_found, decide_left, decide_placed, decide_ruled, decide_waiting, decide_written, is_touch, item_found, length_of, outcome_of, ruling_with, run_needed, unseen, waits_for, window}
+use Rattle.group_run.specs.Deciding.{decide}
 use Rattle.group_run.specs.Heading.{judge, partition, rank, tell_stable, tell_stables, to_others}
 use Rattle.group_run.specs.Leaders.{leader_marks, left_of, lost_of, new_session, open_session, own_mark, rows_of, session_of, session_opened, session_starts, start_session}
 use Rattle.group_run.specs.Process.{Head, Held, Process}
-use Rattle.group_run.specs.Replica.{Replica, number_on, slot_in, with_update}
+use Rattle.group_run.specs.Replica.{with_update}
 use Rattle.group_run.specs.Rows.{copy_in, parity_number}
 use Rattle.law_moves.proofs.Moves.{Treats, Asks, Collects, Flushes}
-use Rattle.law_moves.specs.Members.{Each}
 use Rattle.law_moves.proofs.Members.{Sits, knows_lower}
-use Rattle.law_moves.proofs.Calls.{Seated, each-below, seat-lower}
-use Rattle.law_moves.proofs.Eaches.{each-all, each-append, each-map, each-weaker}
+use Rattle.law_moves.proofs.Calls.{Seated, each-below, seat-lower, Wants, wants_at_parity}
 use Rattle.erasure_code.proofs.Nodes.{Among}
 use Rattle.law_bytes.specs.Premises.{SettledWrite}
 use Rattle.law_bytes.proofs.Premises.{GoesOn, NextIsNew}
 use Rattle.law_bytes.proofs.Applying.{Holding}
 use Rattle.law_bytes.proofs.Copies.{holding-leader}
 use Rattle.law_bytes.proofs.Finding.{and-split, found-behind, found-passes}
-use Rattle.law_bytes.proofs.Finds.{each-filter, if-weaker}
+use Rattle.law_bytes.proofs.Finds.{if-weaker}
 use Rattle.law_bytes.proofs.Marking.{IsOpen, OpenIn}
 use Rattle.law_bytes.proofs.Rising.{all-among, among-contains, among-each, among-filter, among-range, differ-rising, rising-filtered}
 use Rattle.law_bytes.proofs.Local.{Silent, number-is, silent-others}
@@ -56,48 +48,9 @@ use Rattle.law_bytes.proofs.Following.{Passes, any, passes-judge, passes-self, p
 use Rattle.law_bytes.proofs.PlanMarking.{t}
 use Rattle.law_bytes.proofs.Opening.{leads-rows, opening_plan, owns-pass}
 
--- where all bytes are there, no block needs to be rebuilt
-module _ (space : ℕ) (r : Replica) (op : Asked) (read : Run → Found) (there : (run : Run) (b : ℕ) → read run ≡ Missing b → ⊥) (b : ℕ) where
-  written-never : (outcome : Outcome) (h : held_item.Holding) (run : Run) (found : Found) → read run ≡ found → decide_written outcome h run found ≡ decides.NeedBlock b → ⊥
-  written-never outcome h run (Missing c) found is = there run c found
-  written-never outcome h run (Bytes under) found is = cc is
-
-  left-never : (outcome : Outcome) (touch : Bool) (o : Option held_item.Holding) → decide_left space r read outcome touch o ≡ decides.NeedBlock b → ⊥
-  left-never outcome touch None is = cc is
-  left-never outcome true (Some h) is = cc is
-  left-never outcome false (Some h) is = by (place_for space r (length h.item.value)) is where
-    by : (o : Option Run) → decide_placed read outcome h o ≡ decides.NeedBlock b → ⊥
-    by None placed = cc placed
-    by (Some run) placed = written-never outcome h run (read run) refl placed
-
-  ruled-never : (ruling : Ruling) → decide_ruled space r op read ruling ≡ decides.NeedBlock b → ⊥
-  ruled-never (Refused refusal) is = cc is
-  ruled-never (Accepted accepted leaves) is = by (nat_le window (length r.log)) is where
-    by : (c : Bool) → decide_accepted c r (decide_left space r read (outcome_of accepted) (is_touch op.act) leaves) ≡ decides.NeedBlock b → ⊥
-    by true retries = cc retries
-    by false left = left-never (outcome_of accepted) (is_touch op.act) leaves left
-
-  found-never : (slot : Option Slot) (found : Found) → ((c : ℕ) → found ≡ Missing c → ⊥) → decide_found space r op read slot found ≡ decides.NeedBlock b → ⊥
-  found-never slot (Missing c) bytes is = bytes c refl
-  found-never slot (Bytes bs) bytes is = ruled-never (ruling_with r op slot bs) is
-
-  item-there : (slot : Option Slot) (o : Option Run) (c : ℕ) → item_found read slot o ≡ Missing c → ⊥
-  item-there slot None c is = cc is
-  item-there slot (Some run) c is = there run c is
-
-  blind-never : (slot : Option Slot) (o : Option Reply) → decide_blind space r op read slot o ≡ decides.NeedBlock b → ⊥
-  blind-never slot (Some blind) is = cc is
-  blind-never slot None is = found-never slot (item_found read slot (run_needed op slot)) (item-there slot (run_needed op slot)) is
-
-  pub never-needs : (inherited : ℕ) → decide space inherited r op read ≡ decides.NeedBlock b → ⊥
-  never-needs inherited is = by (waits_for inherited op.act (number_on r.log (key_of op.act))) is where
-    by : (o : Option ℕ) → decide_waiting space r op read (slot_in r.items (key_of op.act)) o ≡ decides.NeedBlock b → ⊥
-    by (Some k) waits = cc waits
-    by None decided = blind-never (slot_in r.items (key_of op.act)) (blind_reply (length_of (slot_in r.items (key_of op.act))) (ruling_with r op (slot_in r.items (key_of op.act)) (unseen (slot_in r.items (key_of op.act))))) decided
-
 -- a data process never needs a block to be rebuilt
 pub data-never : (s : Dimensions) (inherited : ℕ) (op : Asked) (d e b : ℕ) (p : Process) → decide (space_of s) inherited (replica_of p d) op (found_at s d p (DataNode e)) ≡ decides.NeedBlock b → ⊥
-data-never s inherited op d e b p is = never-needs (space_of s) (replica_of p d) op (found_at s d p (DataNode e)) (λ run c missing. cc missing) b inherited is
+data-never s inherited op d e b p is = wants_at_parity s d inherited op p (DataNode e) (subst Wants (sym is) tt)
 
 module _ (s : Dimensions) (settled : ℕ → List Update) (l n : ℕ) (write : SettledWrite s settled) (old : ℕ → ℕ → Bool) where
   module _ (p : Process) (i : ℕ) (name : p.name ≡ ParityNode i) (goes : (d : ℕ) → d < s.k → GoesOn (settled d) (replica_of p d)) (next : NextIsNew s p) (holds : Holding s settled old p) (block : ℕ) where

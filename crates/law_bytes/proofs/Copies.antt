@@ -9,17 +9,17 @@ use Rattle.group_types.specs.Names.{same_process}
 use Rattle.group_types.specs.declared.process.ProcessId.{ProcessId}
 use Rattle.group_types.specs.declared.process.ProcessId.TheVariants.{ParityNode}
 use Rattle.group_types.proofs.Lists.{at-put, at-put-other, at-replicate}
+use Rattle.group_types.specs.Each.{Each}
+use Rattle.group_types.proofs.Eaches.{each-append, each-weaker, each-map, each-filter}
 use Rattle.group_message.specs.declared.update.Update.{Update}
 use Rattle.group_run.specs.Applying.{replica_of}
 use Rattle.group_run.specs.Leaders.{block_gathered, copy_kept, copy_marked, decoded_of, gathered_when, is_complete, open_session, rebuilt_block, rebuilt_unless, row_finished, row_gathered, with_decoded, with_leader}
 use Rattle.group_run.specs.Process.{Copy, Gathering, LeaderState, Process}
 use Rattle.group_run.specs.Rows.{block_in, copy_begun, copy_in, is_copy, is_marked, marked, new_copy, with_copies, with_copy, without_copy}
-use Rattle.law_moves.specs.Members.{Each}
-use Rattle.law_moves.proofs.Eaches.{each-append, each-map, each-weaker}
 use Rattle.law_bytes.specs.Areas.{IsArea, IsBlock, block_size, held, value}
 use Rattle.law_bytes.specs.Held.{CopyHolds, marked_stand, stand}
 use Rattle.law_bytes.proofs.Applying.{Holding}
-use Rattle.law_bytes.proofs.Finds.{each-filter, found-each, if-some}
+use Rattle.law_bytes.proofs.Finds.{found-each, if-some}
 use Rattle.law_bytes.proofs.Values.{Inside, area-same, held-same}
 
 -- functions with the same values are the same

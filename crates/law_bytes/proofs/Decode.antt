@@ -23,11 +23,11 @@ use Rattle.group_types.specs.Names.{IsProcess}
 use Rattle.group_types.specs.Shape.{IsShape}
 use Rattle.group_types.specs.declared.process.ProcessId.{ProcessId}
 use Rattle.group_types.specs.declared.process.ProcessId.TheVariants.{DataNode, ParityNode}
+use Rattle.group_types.specs.Each.{Each}
+use Rattle.group_types.proofs.Eaches.{each-append, each-take, each-weaker}
 use Rattle.group_message.specs.declared.update.Update.{Update}
 use Rattle.group_run.specs.Leaders.{columns_from, decoded_of, is_complete}
 use Rattle.group_run.specs.Process.{Gathering}
-use Rattle.law_moves.specs.Members.{Each}
-use Rattle.law_moves.proofs.Eaches.{each-append, each-take, each-weaker}
 use Rattle.law_bytes.specs.Areas.{IsArea, IsBlock, WritesBytes, block_size, code, held, value}
 use Rattle.law_bytes.specs.Decoding.{GathersRight, Rising, SessionsDecode, SpaceIs, SpacesStand, columns, values}
 use Rattle.law_bytes.specs.Held.{stand}

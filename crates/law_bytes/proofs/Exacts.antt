@@ -7,6 +7,8 @@ use Rattle.group_types.specs.Names.{IsProcess}
 use Rattle.group_types.specs.declared.process.ProcessId.{ProcessId}
 use Rattle.group_types.specs.declared.process.ProcessId.TheVariants.{DataNode, ParityNode}
 use Rattle.group_types.proofs.Names.{same-cases}
+use Rattle.group_types.specs.Each.{Each}
+use Rattle.group_types.proofs.Eaches.{each-append, each-take, each-weaker, each-both}
 use Rattle.group_message.specs.declared.message.Message.{Message}
 use Rattle.group_message.specs.declared.message.Message.TheVariants as tells
 use Rattle.group_message.specs.declared.update.Update.{Update}
@@ -15,9 +17,8 @@ use Rattle.group_run.specs.Receiving.{receive}
 use Rattle.group_run.specs.World.{sent_to}
 use Rattle.law_moves.proofs.Moves.{Acted, Died, Popped, Treats}
 use Rattle.law_moves.specs.State.{State}
-use Rattle.law_moves.specs.Members.{Each}
 use Rattle.law_moves.proofs.Members.{MayStand, Members}
-use Rattle.law_moves.proofs.Eaches.{each-append, each-both, each-sent_to, each-take, each-weaker}
+use Rattle.law_moves.proofs.Eaches.{each-sent_to}
 use Rattle.law_bytes.specs.Areas.{IsBlock, block_size, code, value}
 use Rattle.law_bytes.specs.Held.{Holds}
 use Rattle.law_bytes.proofs.Held.{HoldsBytes}

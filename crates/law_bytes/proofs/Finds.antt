@@ -1,6 +1,8 @@
 -- Lists: what is found in them, and each of their members.
-use Rattle.std.proofs.Common.{◌≡◌, Bool, true, false, List, [], ◌∷◌, ◌++◌, map, filter, find, cond, Option, Some, None, IfSome, refl, subst}
-use Rattle.law_moves.specs.Members.{Each}
+use Rattle.std.proofs.Common.{◌≡◌, Bool, true, false, List, [], ◌∷◌, ◌++◌, map, find, cond, Option, Some, None, IfSome, refl, subst, ℕ, zero, suc, ◌<◌, take}
+use Rattle.group_types.specs.Each.{Each}
+use Rattle.group_types.proofs.Eaches.{each-take}
+use Rattle.law_bytes.specs.Decoding.{Rising}
 
 -- what is found passes the test, and what is said of each member is said of it
 pub found-each : {X : Type 0} (test : X → Bool) (P : X → Type 0) (xs : List X) (x : X) → find test xs ≡ Some x → Each P xs → (test x ≡ true) × P x
@@ -51,13 +53,11 @@ pub if-some : {X : Type 0} (P : X → Type 0) (o : Option X) (x : X) → o ≡ S
 if-some P None x is holds = absurd (cc is)
 if-some P (Some y) x is holds = let same : y ≡ x = cc is in subst P same holds
 
-pub each-filter : {X : Type 0} (P : X → Type 0) (test : X → Bool) (xs : List X) → Each P xs → Each P (filter test xs)
-each-filter P test [] all = tt
-each-filter P test (x ∷ xs) all = by (test x) (each-filter P test xs all.1) where
-  by : (b : Bool) → Each P (filter test xs) → Each P (cond b (x ∷ filter test xs) (filter test xs))
-  by true rest = (all.0, rest)
-  by false rest = rest
-
 pub if-weaker : {X : Type 0} (P Q : X → Type 0) → ((x : X) → P x → Q x) → (o : Option X) → IfSome o P → IfSome o Q
 if-weaker P Q turn None holds = tt
 if-weaker P Q turn (Some x) holds = turn x holds
+
+pub rising-take : (n : ℕ) (xs : List ℕ) → Rising xs → Rising (take n xs)
+rising-take zero xs rises = tt
+rising-take (suc n) [] rises = tt
+rising-take (suc n) (x ∷ xs) rises = (each-take (λ y. x < y) n xs rises.0, rising-take n xs rises.1)

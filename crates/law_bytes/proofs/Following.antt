@@ -6,6 +6,8 @@ use Rattle.group_types.specs.Dimensions.{Dimensions}
 use Rattle.group_types.specs.Lists.{at}
 use Rattle.group_types.specs.declared.process.ProcessId.{ProcessId}
 use Rattle.group_types.specs.declared.process.ProcessId.TheVariants.{DataNode, ParityNode}
+use Rattle.group_types.specs.Each.{Each}
+use Rattle.group_types.proofs.Eaches.{each-append, each-weaker}
 use Rattle.group_message.specs.declared.message.Message.{Message}
 use Rattle.group_message.specs.declared.message.Message.TheVariants as tells
 use Rattle.group_message.specs.declared.update.Update.{Update}
@@ -16,8 +18,6 @@ use Rattle.group_run.specs.Process.{Copy, Gathering, Head, LeaderState, Process,
 use Rattle.group_run.specs.Receiving.{death_known, enthroned, notice_comes, take_over_if, taken_over, takes_over}
 use Rattle.group_run.specs.Replica.{up_to}
 use Rattle.group_run.specs.Rows.{copies_ceased, copy_in, is_copy, parity_number}
-use Rattle.law_moves.specs.Members.{Each}
-use Rattle.law_moves.proofs.Eaches.{each-append, each-weaker}
 use Rattle.law_bytes.proofs.Finding.{found-filter}
 use Rattle.law_bytes.proofs.Finds.{found-map}
 use Rattle.law_bytes.proofs.Marking.{copy-test}

@@ -8,6 +8,7 @@ use Rattle.group_types.specs.Names.{IsProcess, same_process}
 use Rattle.group_types.specs.declared.process.ProcessId.{ProcessId}
 use Rattle.group_types.specs.declared.process.ProcessId.TheVariants.{DataNode, ParityNode}
 use Rattle.group_types.proofs.Names.{same-ne, same-refl}
+use Rattle.group_types.specs.Each.{Each}
 use Rattle.group_message.specs.declared.message.Message.{Message}
 use Rattle.group_message.specs.declared.message.Message.TheVariants as tells
 use Rattle.group_message.specs.declared.message.Session.{Session}
@@ -15,7 +16,6 @@ use Rattle.group_run.specs.Process.{Copy}
 use Rattle.group_run.specs.Rows.{copy_in, parity_number}
 use Rattle.law_moves.specs.State.{State}
 use Rattle.law_moves.proofs.Runs.{holds_always}
-use Rattle.law_moves.specs.Members.{Each}
 use Rattle.law_moves.proofs.Members.{IsParity, MayStand}
 use Rattle.law_bytes.proofs.Finding.{and-join}
 use Rattle.law_bytes.proofs.FreshWords.{IsUnmarked, MarksAlwaysNew, MarksAreNew}

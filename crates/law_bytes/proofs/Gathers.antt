@@ -9,7 +9,6 @@ use Rattle.group_types.proofs.Lists.{at-put-other}
 use Rattle.group_message.specs.declared.update.Update.{Update}
 use Rattle.group_run.specs.Leaders.{is_complete}
 use Rattle.group_run.specs.Process.{Gathering}
-use Rattle.law_moves.proofs.Eaches.{each-take}
 use Rattle.law_bytes.specs.Areas.{IsBlock, WritesBytes, code, value}
 use Rattle.law_bytes.specs.Decoding.{GathersRight}
 use Rattle.law_bytes.specs.Premises.{SettledWrite}
@@ -20,6 +19,7 @@ use Rattle.law_bytes.specs.Leading.{IsSound}
 use Rattle.law_bytes.proofs.Finds.{found-each, if-some}
 use Rattle.group_run.specs.Leaders.{open_session}
 use Rattle.group_types.specs.declared.process.ProcessId.TheVariants.{ParityNode}
+use Rattle.group_types.proofs.Eaches.{each-take}
 use Rattle.law_bytes.proofs.Rebuilt.{SessionsGather}
 use Rattle.law_bytes.proofs.Stamps.{GatheringFollows, Plan, planned}
 

@@ -5,13 +5,13 @@ use Rattle.group_types.specs.Dimensions.{Dimensions}
 use Rattle.group_types.specs.Names.{IsProcess}
 use Rattle.group_types.specs.declared.process.ProcessId.{ProcessId}
 use Rattle.group_types.specs.declared.process.ProcessId.TheVariants.{DataNode, ParityNode}
+use Rattle.group_types.proofs.Eaches.{each-weaker}
 use Rattle.group_message.specs.declared.message.Message.{Message}
 use Rattle.group_message.specs.declared.message.Message.TheVariants as tells
 use Rattle.group_message.specs.declared.update.Update.{Update}
 use Rattle.group_run.specs.Leaders.{open_session}
 use Rattle.group_run.specs.Process.{Process}
 use Rattle.law_moves.specs.State.{State}
-use Rattle.law_moves.proofs.Eaches.{each-weaker}
 use Rattle.law_bytes.specs.Areas.{IsBlock, block_size, code, value}
 use Rattle.law_bytes.proofs.Finds.{if-weaker}
 use Rattle.law_bytes.proofs.BytesKeeping.{Prolongs}

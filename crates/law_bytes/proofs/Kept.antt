@@ -4,6 +4,7 @@ use Rattle.group_types.specs.Dimensions.{Dimensions, space_of}
 use Rattle.group_types.specs.Names.{IsProcess}
 use Rattle.group_types.specs.Shape.{IsShape}
 use Rattle.group_types.specs.declared.process.ProcessId.{ProcessId}
+use Rattle.group_types.specs.Each.{Each}
 use Rattle.group_message.specs.declared.message.Message.{Message}
 use Rattle.group_message.specs.declared.message.Message.TheVariants as tells
 use Rattle.group_message.specs.declared.update.Update.{Update}
@@ -17,7 +18,6 @@ use Rattle.group_run.specs.Receiving.{receive}
 use Rattle.law_moves.proofs.Moves.{Acted, Died, Popped, Treats}
 use Rattle.law_moves.specs.State.{State}
 use Rattle.law_moves.proofs.State.{Opens}
-use Rattle.law_moves.specs.Members.{Each}
 use Rattle.law_moves.proofs.Members.{IsParity, Members}
 use Rattle.law_bytes.proofs.Held.{HoldsBytes}
 use Rattle.law_bytes.specs.Premises.{SettledWrite}

@@ -10,6 +10,8 @@ use Rattle.group_types.specs.declared.process.ProcessId.{ProcessId}
 use Rattle.group_types.specs.declared.process.ProcessId.TheVariants.{DataNode, ParityNode}
 use Rattle.group_types.proofs.Lists.{at-put-other, at-replicate}
 use Rattle.group_types.proofs.Names.{same-cases}
+use Rattle.group_types.specs.Each.{Each}
+use Rattle.group_types.proofs.Eaches.{each-append, each-weaker, each-map, each-filter}
 use Rattle.std.proofs.lemmas.Bool.{cases_eq}
 use Rattle.membership.specs.Members.{Membership, knows_dead}
 use Rattle.memc_table.specs.Act.{key_of}
@@ -33,11 +35,9 @@ use Rattle.group_run.specs.Rows.{accepts_mark, begin_copy, copy_begun, copy_in, 
 use Rattle.law_moves.proofs.Moves.{Acted, Asks, Collects, Flushes, Keeps, Treats}
 use Rattle.law_moves.specs.State.{State}
 use Rattle.law_moves.proofs.Runs.{holds_always}
-use Rattle.law_moves.specs.Members.{Each}
 use Rattle.law_moves.proofs.Members.{Members, Stands}
 use Rattle.law_moves.proofs.Keeping as members
-use Rattle.law_moves.proofs.Eaches.{each-append, each-map, each-weaker}
-use Rattle.law_bytes.proofs.Finds.{each-filter, found-each}
+use Rattle.law_bytes.proofs.Finds.{found-each}
 use Rattle.law_bytes.proofs.LeadingWords.{IsFor, SessionsAlwaysFit, SessionsFit}
 use Rattle.law_bytes.proofs.Marks.{decoded-same}
 

@@ -7,11 +7,11 @@ use Rattle.group_types.specs.Lists.{at}
 use Rattle.group_types.specs.Names.{IsProcess}
 use Rattle.group_types.specs.declared.process.ProcessId.{ProcessId}
 use Rattle.group_types.specs.declared.process.ProcessId.TheVariants.{DataNode, ParityNode}
+use Rattle.group_types.specs.Each.{Each}
 use Rattle.membership.specs.Members.{Membership, knows_dead}
 use Rattle.group_run.specs.Process.{Gathering}
 use Rattle.law_moves.specs.Moves.{HoldsAlways}
 use Rattle.law_moves.specs.State.{State}
-use Rattle.law_moves.specs.Members.{Each}
 
 -- the partitions that are lost, and the parity processes that are left, as far as is known
 abbrev pub lost_by : Dimensions → Membership → List ℕ

@@ -8,6 +8,8 @@ use Rattle.group_types.specs.Lists.{at}
 use Rattle.group_types.specs.Names.{same_process}
 use Rattle.group_types.specs.declared.process.ProcessId.{ProcessId}
 use Rattle.group_types.specs.declared.process.ProcessId.TheVariants.{DataNode, ParityNode}
+use Rattle.group_types.specs.Each.{Each}
+use Rattle.group_types.proofs.Eaches.{each-append, each-weaker, each-all, each-map}
 use Rattle.group_message.specs.declared.message.Message.{Message}
 use Rattle.group_message.specs.declared.message.Message.TheVariants as tells
 use Rattle.group_message.specs.declared.update.Update.{Update}
@@ -18,9 +20,7 @@ use Rattle.group_run.specs.Process.{Copy, Gathering, Head, Process}
 use Rattle.group_run.specs.Receiving.{death_known, enthroned, notice_comes, take_over_if, taken_over, takes_over}
 use Rattle.group_run.specs.Replica.{up_to}
 use Rattle.group_run.specs.Rows.{copies_ceased, copy_in, is_copy, parity_number}
-use Rattle.law_moves.specs.Members.{Each}
 use Rattle.law_moves.proofs.Members.{IsParity}
-use Rattle.law_moves.proofs.Eaches.{each-all, each-append, each-map, each-weaker}
 use Rattle.law_bytes.proofs.Marking.{copy-mark, copy-test}
 use Rattle.law_bytes.proofs.Rising.{Differ}
 use Rattle.law_bytes.proofs.Tokens.{Own, Row, Token, Way, at_process, in_copy, in_session, is_kept_in, is_marked_in, is_token, one_if}

@@ -9,6 +9,8 @@ use Rattle.group_types.specs.Names.{IsProcess, same_process}
 use Rattle.group_types.specs.declared.process.ProcessId.{ProcessId}
 use Rattle.group_types.specs.declared.process.ProcessId.TheVariants.{DataNode, ParityNode}
 use Rattle.group_types.proofs.Names.{same-ne, same-refl}
+use Rattle.group_types.specs.Each.{Each}
+use Rattle.group_types.proofs.Eaches.{each-weaker, each-both}
 use Rattle.group_message.specs.declared.message.Message.{Message}
 use Rattle.group_message.specs.declared.message.Message.TheVariants as tells
 use Rattle.group_message.specs.declared.message.Session.{Session}
@@ -18,9 +20,7 @@ use Rattle.group_run.specs.Leaders.{open_session}
 use Rattle.group_run.specs.Process.{Copy, Gathering, Process}
 use Rattle.group_run.specs.Rows.{copy_in}
 use Rattle.law_moves.specs.State.{State}
-use Rattle.law_moves.specs.Members.{Each}
 use Rattle.law_moves.proofs.Members.{MayStand}
-use Rattle.law_moves.proofs.Eaches.{each-both, each-weaker}
 use Rattle.law_bytes.specs.Areas.{IsBlock, value}
 use Rattle.law_bytes.proofs.Finding.{and-join}
 use Rattle.law_bytes.proofs.Tokens.{Own, Row, Token, Way, around, at_process, between, everyone, in_copy, in_link, in_session, is_kept_in, is_marked_in, is_token, of_session, one_if, sum_of, tokens}

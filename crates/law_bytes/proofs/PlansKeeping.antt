@@ -10,6 +10,8 @@ use Rattle.group_types.specs.Shape.{IsShape}
 use Rattle.group_types.specs.declared.process.ProcessId.{ProcessId}
 use Rattle.group_types.specs.declared.process.ProcessId.TheVariants.{DataNode, ParityNode}
 use Rattle.group_types.proofs.Names.{same-cases, same-refl}
+use Rattle.group_types.specs.Each.{Each}
+use Rattle.group_types.proofs.Eaches.{each-append, each-take, each-weaker}
 use Rattle.group_message.specs.declared.message.Message.{Message}
 use Rattle.group_message.specs.declared.message.Message.TheVariants as tells
 use Rattle.group_message.specs.declared.message.Session.{Session}
@@ -22,10 +24,9 @@ use Rattle.group_run.specs.World.{sent_to}
 use Rattle.law_moves.proofs.Moves.{Acted, Died, Popped, Treats}
 use Rattle.law_moves.specs.State.{State}
 use Rattle.law_moves.proofs.State.{Opens}
-use Rattle.law_moves.specs.Members.{Each}
 use Rattle.law_moves.proofs.Members.{IsData, MayStand, Members}
 use Rattle.law_moves.proofs.Keeping.{known-is-dead}
-use Rattle.law_moves.proofs.Eaches.{each-append, each-sent_to, each-take, each-weaker}
+use Rattle.law_moves.proofs.Eaches.{each-sent_to}
 use Rattle.law_bytes.specs.Held.{Holds}
 use Rattle.law_bytes.proofs.Premises.{MarksNew, NextIsNew}
 use Rattle.law_bytes.proofs.Applying.{holding-from, rebuilt_at}

@@ -1,5 +1,5 @@
 -- A block that a step newly rebuilds is given at the numbers of a plan.
-use Rattle.std.proofs.Common.{◌≡◌, ◌≢◌, ℕ, zero, suc, ◌<◌, ◌≤◌, ◌==◌, nat_le, Bool, true, false, not, List, [], ◌∷◌, length, find, take, IfSome, sym, ap, subst, ◌∙◌, refl}
+use Rattle.std.proofs.Common.{◌≡◌, ◌≢◌, ℕ, ◌<◌, ◌≤◌, ◌==◌, nat_le, Bool, true, false, not, List, ◌∷◌, length, find, IfSome, sym, ap, subst, ◌∙◌, refl}
 use Rattle.std.specs.Prelude.{Contains}
 use Rattle.std.specs.List.{range_with_len}
 use Rattle.std.proofs.lemmas.List.{length-take-le}
@@ -9,6 +9,8 @@ use Rattle.group_types.specs.Names.{IsProcess}
 use Rattle.group_types.specs.Shape.{IsShape}
 use Rattle.group_types.specs.declared.process.ProcessId.{ProcessId}
 use Rattle.group_types.specs.declared.process.ProcessId.TheVariants.{DataNode, ParityNode}
+use Rattle.group_types.specs.Each.{Each}
+use Rattle.group_types.proofs.Eaches.{each-take, each-weaker, each-filter}
 use Rattle.membership.specs.Members.{Membership, knows_dead}
 use Rattle.group_message.specs.declared.message.Message.{Message}
 use Rattle.group_message.specs.declared.message.Message.TheVariants as tells
@@ -21,16 +23,14 @@ use Rattle.group_run.specs.Replica.{Replica, empty_replica}
 use Rattle.group_run.specs.Rows.{accepts_mark, begin_copy, copy_in, parity_number}
 use Rattle.law_moves.proofs.Moves.{Acted, Popped}
 use Rattle.law_moves.specs.State.{IsUp, State}
-use Rattle.law_moves.specs.Members.{Each}
 use Rattle.law_moves.proofs.Members.{IsParity, MayStand, Members, Stands}
 use Rattle.law_moves.proofs.Calls.{each-below}
-use Rattle.law_moves.proofs.Eaches.{each-take, each-weaker}
 use Rattle.erasure_code.proofs.Nodes.{Among}
 use Rattle.law_bytes.specs.Decoding.{Rising}
 use Rattle.law_bytes.specs.Premises.{SettledWrite}
 use Rattle.law_bytes.proofs.Premises.{AppliesSettled, MarkIsNew, MarksNew}
 use Rattle.law_bytes.proofs.Applying.{Holding, holding-from, rebuilt_at}
-use Rattle.law_bytes.proofs.Finds.{each-filter, found-if}
+use Rattle.law_bytes.proofs.Finds.{found-if, rising-take}
 use Rattle.law_bytes.proofs.BytesKeeping.{addressed, before-holds, prolongs}
 use Rattle.law_bytes.proofs.Marking.{marked-same}
 use Rattle.law_bytes.proofs.Rising.{among-filter, contains-among, rising-filtered}
@@ -48,11 +48,6 @@ use Rattle.law_bytes.proofs.Receiving.{mark-holds}
 parity-of : (q : ProcessId) → IsParity q → (l : ℕ) × (q ≡ ParityNode l)
 parity-of (ParityNode l) is_parity = (l, refl)
 parity-of (DataNode e) is_parity = absurd is_parity
-
-rising-take : (n : ℕ) (xs : List ℕ) → Rising xs → Rising (take n xs)
-rising-take zero xs rises = tt
-rising-take (suc n) [] rises = tt
-rising-take (suc n) (x ∷ xs) rises = (each-take (λ y. x < y) n xs rises.0, rising-take n xs rises.1)
 
 -- a session that is for what is known is sound, where as many rows are left
 pub sound-for : (s : Dimensions) (known : Membership) → length (lost_by s known) ≤ length (left_by s known) → (g : Gathering) → IsFor s known g → SoundFor s known g

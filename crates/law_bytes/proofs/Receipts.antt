@@ -6,6 +6,7 @@ use Rattle.group_types.specs.Lists.{at, put}
 use Rattle.group_types.specs.declared.process.ProcessId.{ProcessId}
 use Rattle.group_types.specs.declared.process.ProcessId.TheVariants.{DataNode, ParityNode}
 use Rattle.group_types.proofs.Lists.{at-put, at-put-other}
+use Rattle.group_types.proofs.Eaches.{each-filter}
 use Rattle.group_message.specs.declared.message.Message.{Message}
 use Rattle.group_message.specs.declared.message.Message.TheVariants as tells
 use Rattle.group_message.specs.declared.message.Session.{Session}
@@ -22,7 +23,6 @@ use Rattle.law_bytes.specs.Premises.{SettledWrite}
 use Rattle.law_bytes.proofs.Premises.{AppliesSettled, GoesOn, MarksNew}
 use Rattle.law_bytes.proofs.Applying.{Holding}
 use Rattle.law_bytes.proofs.Copies.{holding-leader, holding-same, stays-block, stays-row}
-use Rattle.law_bytes.proofs.Finds.{each-filter}
 use Rattle.law_bytes.proofs.Marking.{mark-received}
 use Rattle.law_bytes.proofs.Stepping.{Ready, apply-keeps, good-judge, good-notice}
 use Rattle.law_bytes.proofs.Values.{Concerns}

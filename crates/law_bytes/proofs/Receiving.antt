@@ -6,6 +6,8 @@ use Rattle.group_types.specs.Lists.{at}
 use Rattle.group_types.specs.Names.{IsProcess}
 use Rattle.group_types.specs.declared.process.ProcessId.{ProcessId}
 use Rattle.group_types.specs.declared.process.ProcessId.TheVariants.{DataNode, ParityNode}
+use Rattle.group_types.specs.Each.{Each}
+use Rattle.group_types.proofs.Eaches.{each-map}
 use Rattle.group_message.specs.declared.message.Message.{Message}
 use Rattle.group_message.specs.declared.message.Message.TheVariants as tells
 use Rattle.group_message.specs.declared.message.Session.{Session}
@@ -18,9 +20,7 @@ use Rattle.group_run.specs.Receiving.{ack_to, adopting, data_marks, log_adopted,
 use Rattle.group_run.specs.Replica.{Replica, empty_replica, with_update}
 use Rattle.group_run.specs.Rows.{accepts_mark, begin_copy, block_in, copy_in, is_copy, marked, parity_number}
 use Rattle.law_moves.specs.State.{State}
-use Rattle.law_moves.specs.Members.{Each}
 use Rattle.law_moves.proofs.Members.{IsParity, MayStand}
-use Rattle.law_moves.proofs.Eaches.{each-map}
 use Rattle.law_bytes.specs.Areas.{IsArea, IsBlock, held, value}
 use Rattle.law_bytes.specs.Held.{CopyHolds, stand}
 use Rattle.law_bytes.specs.Premises.{SettledWrite}

@@ -3,10 +3,9 @@ use Rattle.std.proofs.Common.{◌≡◌, ◌≢◌, ℕ, zero, suc, ◌+◌, ◌
 use Rattle.std.proofs.lemmas.Bool.{cases_eq, ne_eqb}
 use Rattle.std.specs.List.{list_all, list_any, range_with_len}
 use Rattle.erasure_code.proofs.Nodes.{Among}
-use Rattle.law_moves.specs.Members.{Each}
-use Rattle.law_moves.proofs.Eaches.{each-append, each-weaker}
+use Rattle.group_types.specs.Each.{Each}
+use Rattle.group_types.proofs.Eaches.{each-append, each-weaker, each-filter}
 use Rattle.law_bytes.specs.Decoding.{Rising}
-use Rattle.law_bytes.proofs.Finds.{each-filter}
 
 -- no number stands twice
 abbrev pub Differ : List ℕ → Type 0

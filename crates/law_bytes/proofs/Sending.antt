@@ -10,6 +10,8 @@ use Rattle.group_types.specs.declared.process.ProcessId.{ProcessId}
 use Rattle.group_types.specs.declared.process.ProcessId.TheVariants.{DataNode, ParityNode}
 use Rattle.group_types.proofs.Lists.{at-map-range}
 use Rattle.group_types.proofs.Names.{same-refl}
+use Rattle.group_types.specs.Each.{Each}
+use Rattle.group_types.proofs.Eaches.{each-append, each-weaker, each-all, each-map, each-filter}
 use Rattle.membership.specs.Members.{knows_dead}
 use Rattle.memc_table.specs.Act.{key_of}
 use Rattle.memc_table.specs.Asked.{Asked}
@@ -30,9 +32,7 @@ use Rattle.group_run.specs.Receiving.{ack_to, death_known, enthroned, log_adopte
 use Rattle.group_run.specs.Replica.{Replica, empty_replica}
 use Rattle.group_run.specs.Rows.{accepts_mark, begin_copy, copy_in, is_copy, is_marked, marked, parity_number, stamp_of, with_copies, without_copy}
 use Rattle.law_moves.proofs.Moves.{Treats, Asks, Collects, Flushes}
-use Rattle.law_moves.specs.Members.{Each}
 use Rattle.law_moves.proofs.Calls.{each-below}
-use Rattle.law_moves.proofs.Eaches.{each-all, each-append, each-map, each-weaker}
 use Rattle.law_bytes.specs.Areas.{IsArea, IsBlock, block_size, code, held, value}
 use Rattle.law_bytes.specs.Held.{CopyHolds, Holds, marked_stand, stand}
 use Rattle.law_bytes.specs.Premises.{SettledWrite}
@@ -40,7 +40,7 @@ use Rattle.law_bytes.proofs.Premises.{AppliesSettled, GoesOn, MarkIsNew, MarksNe
 use Rattle.law_bytes.proofs.Applying.{Holding}
 use Rattle.law_bytes.proofs.Copies.{block-of-space, marked-holds}
 use Rattle.law_bytes.proofs.Finding.{found-passes}
-use Rattle.law_bytes.proofs.Finds.{each-filter, found-each, if-some}
+use Rattle.law_bytes.proofs.Finds.{found-each, if-some}
 use Rattle.law_bytes.proofs.Marking.{AtMark, at-mark, begun-same, marked-same}
 use Rattle.law_bytes.proofs.Receipts.{Addresses}
 use Rattle.law_bytes.proofs.Rising.{all-among, among-range}

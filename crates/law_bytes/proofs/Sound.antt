@@ -1,5 +1,5 @@
 -- While at most m processes are dead, there are as many rows as partitions are lost.
-use Rattle.std.proofs.Common.{◌≡◌, ◌≢◌, ℕ, zero, suc, ◌+◌, ◌<◌, ◌≤◌, Bool, true, false, not, List, [], ◌∷◌, length, take, map, filter, cond, ◌⊎◌, inl, inr, sym, ap, subst, ◌∙◌, refl, arith, if◌then◌else◌}
+use Rattle.std.proofs.Common.{◌≡◌, ◌≢◌, ℕ, zero, suc, ◌+◌, ◌<◌, ◌≤◌, Bool, true, false, not, List, ◌∷◌, length, map, filter, cond, ◌⊎◌, inl, inr, sym, ap, subst, ◌∙◌, refl, arith, if◌then◌else◌}
 use Rattle.std.proofs.lemmas.List.{length-take-le}
 use Rattle.std.proofs.lemmas.List.FromFn.{length-range_with_len}
 use Rattle.std.specs.List.{range_with_len}
@@ -8,27 +8,22 @@ use Rattle.group_types.specs.Names.{IsProcess, process_at}
 use Rattle.group_types.specs.declared.process.ProcessId.{ProcessId}
 use Rattle.group_types.specs.declared.process.ProcessId.TheVariants.{DataNode, ParityNode}
 use Rattle.group_types.proofs.Names.{process_at-index, same-cases}
+use Rattle.group_types.specs.Each.{Each}
+use Rattle.group_types.proofs.Eaches.{each-take, each-weaker, each-filter}
 use Rattle.membership.specs.Members.{Membership, count_dead, knows_dead}
 use Rattle.group_run.specs.Process.{Gathering}
 use Rattle.law_moves.specs.State.{IsUp, State, lost_in}
-use Rattle.law_moves.specs.Members.{Each}
 use Rattle.law_moves.proofs.Members.{Members}
-use Rattle.law_moves.proofs.Eaches.{each-take, each-weaker}
 use Rattle.law_moves.proofs.Keeping as members
 use Rattle.law_moves.proofs.Calls.{each-below}
 use Rattle.law_bytes.specs.Decoding.{Rising}
-use Rattle.law_bytes.proofs.Finds.{each-filter}
 use Rattle.law_bytes.proofs.Rising.{among-filter, contains-among, rising-filtered}
 use Rattle.erasure_code.proofs.Nodes.{Among}
 use Rattle.law_bytes.proofs.Survivors.{count-both}
 use Rattle.law_bytes.specs.Leading.{IsSound, SessionsAlwaysSound}
 use Rattle.law_bytes.proofs.LeadingWords.{IsFor, left_by, lost_by}
 use Rattle.law_bytes.proofs.Leading.{sessions_always_fit}
-
-rising-take : (n : ℕ) (xs : List ℕ) → Rising xs → Rising (take n xs)
-rising-take zero xs rises = tt
-rising-take (suc n) [] rises = tt
-rising-take (suc n) (x ∷ xs) rises = (each-take (λ y. x < y) n xs rises.0, rising-take n xs rises.1)
+use Rattle.law_bytes.proofs.Finds.{rising-take}
 
 -- the dead of a range, counted
 count-filter : (f : ℕ → Bool) (a n : ℕ) → count_dead (map f (range_with_len a n)) ≡ length (filter f (range_with_len a n))

@@ -6,6 +6,7 @@ use Rattle.group_types.specs.Lists.{at}
 use Rattle.group_types.specs.Names.{IsProcess}
 use Rattle.group_types.specs.declared.process.ProcessId.{ProcessId}
 use Rattle.group_types.specs.declared.process.ProcessId.TheVariants.{DataNode, ParityNode}
+use Rattle.group_types.specs.Each.{Each}
 use Rattle.group_message.specs.declared.message.Message.{Message}
 use Rattle.group_message.specs.declared.message.Message.TheVariants as tells
 use Rattle.group_message.specs.declared.message.Session.{Session}
@@ -15,7 +16,6 @@ use Rattle.group_run.specs.Leaders.{open_session}
 use Rattle.group_run.specs.Process.{Copy, Gathering, Process}
 use Rattle.group_run.specs.Rows.{copy_in}
 use Rattle.law_moves.specs.State.{State}
-use Rattle.law_moves.specs.Members.{Each}
 use Rattle.law_bytes.specs.Areas.{IsBlock, code, value}
 
 -- what all of a session has in common: the block, the rows that are to give their code, and the number at

@@ -9,6 +9,8 @@ use Rattle.group_types.specs.declared.process.ProcessId.{ProcessId}
 use Rattle.group_types.specs.declared.process.ProcessId.TheVariants.{DataNode, ParityNode}
 use Rattle.group_types.proofs.Lists.{at-replicate}
 use Rattle.group_types.proofs.Names.{same-eq}
+use Rattle.group_types.specs.Each.{Each}
+use Rattle.group_types.proofs.Eaches.{each-append, each-take, each-weaker, each-all, each-map, each-filter}
 use Rattle.membership.specs.Members.{knows_dead}
 use Rattle.group_message.specs.declared.message.Message.TheVariants as tells
 use Rattle.group_message.specs.declared.message.Session.{Session}
@@ -17,10 +19,7 @@ use Rattle.group_run.specs.Heading.{partition, rank}
 use Rattle.group_run.specs.Leaders.{block_comes, block_gathered, leader_marks, left_of, lost_of, new_session, open_session, own_mark, rows_of, session_of, session_opened, session_starts}
 use Rattle.group_run.specs.Process.{Process}
 use Rattle.group_run.specs.Receiving.{data_marks, read_comes}
-use Rattle.law_moves.specs.Members.{Each}
 use Rattle.law_moves.proofs.Members.{IsParity}
-use Rattle.law_moves.proofs.Eaches.{each-all, each-append, each-map, each-take, each-weaker}
-use Rattle.law_bytes.proofs.Finds.{each-filter}
 use Rattle.law_bytes.proofs.Rising.{Differ, differ-rising, rising-filtered, rising-range}
 use Rattle.law_bytes.proofs.Tokens.{Own, Row, Token, Way, block_way, in_session, is_kept_in, marks_way, of_session, one_if}
 use Rattle.law_bytes.proofs.Finding.{and-join, and-split, found-behind}

@@ -6,6 +6,8 @@ use Rattle.group_types.specs.Dimensions.{Dimensions}
 use Rattle.group_types.specs.Lists.{at}
 use Rattle.group_types.specs.declared.process.ProcessId.{ProcessId}
 use Rattle.group_types.specs.declared.process.ProcessId.TheVariants.{DataNode, ParityNode}
+use Rattle.group_types.specs.Each.{Each}
+use Rattle.group_types.proofs.Eaches.{each-weaker, each-filter}
 use Rattle.group_message.specs.declared.update.Update.{Update}
 use Rattle.group_run.specs.Applying.{ProcessStep, and_then, apply_to, for_each, head_at, quiet, replica_of, sending, when}
 use Rattle.group_run.specs.Heading.{judge, judge_head}
@@ -14,15 +16,12 @@ use Rattle.group_run.specs.Process.{Copy, Gathering, Head, Process}
 use Rattle.group_run.specs.Receiving.{death_known, enthroned, notice_comes, take_over_if, taken_over, takes_over}
 use Rattle.group_run.specs.Replica.{Replica, empty_replica}
 use Rattle.group_run.specs.Rows.{parity_number}
-use Rattle.law_moves.specs.Members.{Each}
 use Rattle.law_moves.proofs.Calls.{each-below}
-use Rattle.law_moves.proofs.Eaches.{each-weaker}
 use Rattle.law_bytes.specs.Held.{CopyHolds}
 use Rattle.law_bytes.specs.Premises.{SettledWrite}
 use Rattle.law_bytes.proofs.Premises.{GoesOn}
 use Rattle.law_bytes.proofs.Applying.{Holding, applied-here, applied-holds, applied-rises, applied-settled, goes-applied, replica-here, replica-other}
 use Rattle.law_bytes.proofs.Copies.{holding-same}
-use Rattle.law_bytes.proofs.Finds.{each-filter}
 use Rattle.law_bytes.proofs.Values.{Concerns}
 
 -- a process whose logs go on as the settled updates do, and which heads no partition but such as concern it

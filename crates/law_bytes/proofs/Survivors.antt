@@ -16,9 +16,9 @@ use Rattle.group_types.specs.Shape.{IsShape}
 use Rattle.group_types.specs.declared.process.ProcessId.{ProcessId}
 use Rattle.group_types.specs.declared.process.ProcessId.TheVariants.{DataNode, ParityNode}
 use Rattle.group_types.proofs.Names.{same-eq}
+use Rattle.group_types.specs.Each.{Each}
+use Rattle.group_types.proofs.Eaches.{each-map}
 use Rattle.group_run.specs.Meaning.{AreDistinct}
-use Rattle.law_moves.specs.Members.{Each}
-use Rattle.law_moves.proofs.Eaches.{each-map}
 use Rattle.law_bytes.specs.Decoding.{AreSpaces, SpaceIs, SpacesDetermine}
 use Rattle.law_bytes.proofs.Decode.{each-below-of}
 use Rattle.law_bytes.proofs.Rising.{all-each, among-each, among-filter, among-range, differ-pairs, differ-rising, filter-among, range-among, rising-filtered}

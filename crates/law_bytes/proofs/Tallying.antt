@@ -7,6 +7,8 @@ use Rattle.group_types.specs.Lists.{at}
 use Rattle.group_types.specs.Names.{IsProcess, same_process}
 use Rattle.group_types.specs.declared.process.ProcessId.{ProcessId}
 use Rattle.group_types.specs.declared.process.ProcessId.TheVariants.{DataNode, ParityNode}
+use Rattle.group_types.specs.Each.{Each}
+use Rattle.group_types.proofs.Eaches.{each-append}
 use Rattle.membership.specs.Members.{knows_dead}
 use Rattle.memc_table.specs.Act.{key_of}
 use Rattle.memc_table.specs.Asked.{Asked}
@@ -26,11 +28,9 @@ use Rattle.group_run.specs.Receiving.{ack_to, adopting, log_adopted, read_comes,
 use Rattle.group_run.specs.Replica.{with_update}
 use Rattle.group_run.specs.Rows.{copy_in, parity_number}
 use Rattle.law_moves.proofs.Moves.{Treats, Asks, Collects, Flushes}
-use Rattle.law_moves.specs.Members.{Each}
 use Rattle.law_moves.proofs.Members.{IsData, IsParity}
 use Rattle.law_moves.proofs.Calls.{Owes, Seated, step-treats}
 use Rattle.law_moves.proofs.Cores.{SentWell}
-use Rattle.law_moves.proofs.Eaches.{each-append}
 use Rattle.law_bytes.proofs.Unasked.{never-asks}
 use Rattle.law_bytes.proofs.Tokens.{Token, block_way, is_kept_in, is_marked_in, is_token, marks_way, of_session, one_if, row_way}
 use Rattle.law_bytes.proofs.Local.{Fact, Fewer, Gains, Silent, fewer-apply, fewer-at, fewer-ceased, fewer-self, fewer-trans, gains-fewer, gains-from, gains-judge, gains-more, gains-notice, gains-then, gains-when, silent-others}

@@ -7,6 +7,8 @@ use Rattle.group_types.specs.Shape.{IsShape}
 use Rattle.group_types.specs.declared.process.ProcessId.{ProcessId}
 use Rattle.group_types.specs.declared.process.ProcessId.TheVariants.{ParityNode}
 use Rattle.group_types.proofs.Names.{same-cases}
+use Rattle.group_types.specs.Each.{Each}
+use Rattle.group_types.proofs.Eaches.{each-append, each-take}
 use Rattle.membership.specs.Members.{knows_dead}
 use Rattle.group_message.specs.declared.message.Message.{Message}
 use Rattle.group_message.specs.declared.message.Message.TheVariants as tells
@@ -18,10 +20,9 @@ use Rattle.law_moves.proofs.Moves.{Acted, Died, Keeps, Popped, Treats}
 use Rattle.law_moves.specs.State.{State}
 use Rattle.law_moves.proofs.State.{Opens}
 use Rattle.law_moves.proofs.Runs.{holds_always}
-use Rattle.law_moves.specs.Members.{Each}
 use Rattle.law_moves.proofs.Members.{IsParity, MayStand, Members}
 use Rattle.law_moves.proofs.Keeping.{living-unknown}
-use Rattle.law_moves.proofs.Eaches.{each-append, each-sent_to, each-take}
+use Rattle.law_moves.proofs.Eaches.{each-sent_to}
 use Rattle.law_moves.proofs.Keeping as members
 use Rattle.law_bytes.proofs.Tokens.{Own, Row, Token, TokensAlways, TokensHold, Way, around, at_process, between, everyone, in_copy, in_link, in_session, is_kept_in, is_token, one_if, sum_of, tokens}
 use Rattle.law_bytes.proofs.Finding.{and-split, true-false}

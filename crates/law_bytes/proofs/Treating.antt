@@ -24,17 +24,17 @@ use Rattle.group_run.specs.Replica.{Replica, empty_replica, last_of, up_to, with
 use Rattle.group_run.specs.Rows.{copy_in, parity_number}
 use Rattle.group_run.specs.World.{settled_in}
 use Rattle.law_moves.proofs.Moves.{Treats, Asks, Collects, Flushes}
-use Rattle.law_moves.specs.Members.{Each}
 use Rattle.law_moves.proofs.Calls.{Owes, Seated, each-below, step-treats}
 use Rattle.law_moves.proofs.Cores.{SentWell}
-use Rattle.law_moves.proofs.Eaches.{each-weaker}
 use Rattle.group_types.specs.Names.{IsProcess}
 use Rattle.group_types.specs.declared.process.ProcessId.{ProcessId}
+use Rattle.group_types.specs.Each.{Each}
+use Rattle.group_types.proofs.Eaches.{each-weaker, each-filter}
 use Rattle.law_bytes.specs.Premises.{SettledWrite}
 use Rattle.law_bytes.proofs.Premises.{AppliesSettled, SettlesNext, NextIsNew}
 use Rattle.law_bytes.proofs.Applying.{Holding, applied-holds}
 use Rattle.law_bytes.proofs.Copies.{holding-same}
-use Rattle.law_bytes.proofs.Finds.{each-filter, if-weaker}
+use Rattle.law_bytes.proofs.Finds.{if-weaker}
 use Rattle.law_bytes.proofs.Marking.{Differ, IsOpen, owns-hold}
 use Rattle.law_bytes.proofs.Stepping.{Ready}
 use Rattle.law_bytes.proofs.Unasked.{never-asks}

@@ -3,12 +3,12 @@ use Rattle.std.proofs.Common.{map, ◌≡◌, ℕ, suc, ◌<◌, false, not, Lis
 use Rattle.std.specs.List.{range_with_len}
 use Rattle.group_types.specs.Dimensions.{Dimensions}
 use Rattle.group_types.specs.declared.process.ProcessId.TheVariants.{DataNode}
+use Rattle.group_types.specs.Each.{Each}
 use Rattle.membership.specs.Members.{knows_dead}
 use Rattle.group_run.specs.Applying.{Sent}
 use Rattle.group_run.specs.Leaders.{left_of, rows_of, session_of, session_starts, start_session}
 use Rattle.group_run.specs.Process.{Process}
 use Rattle.group_run.specs.Rows.{parity_number}
-use Rattle.law_moves.specs.Members.{Each}
 use Rattle.law_moves.proofs.Members.{IsParity}
 use Rattle.law_moves.proofs.Calls.{Owes}
 use Rattle.law_moves.proofs.Cores.{MaySend, SentWell}

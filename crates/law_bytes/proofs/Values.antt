@@ -15,12 +15,12 @@ use Rattle.erasure_code.proofs.Sums.{byte_added}
 use Rattle.group_types.specs.Dimensions.{Dimensions, space_of}
 use Rattle.group_types.specs.declared.process.ProcessId.{ProcessId}
 use Rattle.group_types.specs.declared.process.ProcessId.TheVariants.{DataNode, ParityNode}
+use Rattle.group_types.specs.Each.{Each}
 use Rattle.group_message.specs.declared.update.Body.{Body}
 use Rattle.group_message.specs.declared.update.Body.TheVariants.{Put, Remove, Touch}
 use Rattle.group_message.specs.declared.update.Update.{Update}
 use Rattle.group_run.specs.Applying.{block_added, block_after, coded_delta, space_added, space_after}
 use Rattle.group_run.specs.Fitting.{IsRunOf, Writes}
-use Rattle.law_moves.specs.Members.{Each}
 use Rattle.law_bytes.specs.Areas.{HasBytes, IsArea, WritesBytes, change, held, shifted, value}
 use Rattle.law_bytes.proofs.Areas.{added-long, area_byte, area_long, shifted-before, shifted-from}
 

@@ -7,13 +7,13 @@ use Rattle.group_types.specs.Names.{IsProcess}
 use Rattle.group_types.specs.Shape.{IsShape}
 use Rattle.group_types.specs.declared.process.ProcessId.{ProcessId}
 use Rattle.group_types.specs.declared.process.ProcessId.TheVariants.{DataNode, ParityNode}
+use Rattle.group_types.specs.Each.{Each}
 use Rattle.group_message.specs.declared.update.Update.{Update}
 use Rattle.erasure_code.specs.Code.{coded}
 use Rattle.group_run.specs.Applying.{space_after}
 use Rattle.group_run.specs.Leaders.{decoded_of, is_complete}
 use Rattle.group_run.specs.Meaning.{AreDistinct}
 use Rattle.group_run.specs.Process.{Gathering, Process}
-use Rattle.law_moves.specs.Members.{Each}
 use Rattle.law_bytes.specs.Areas.{IsBlock, code, value}
 use Rattle.law_bytes.specs.Held.{Holds, stand}
 use Rattle.law_bytes.specs.Premises.{SettledWrite}

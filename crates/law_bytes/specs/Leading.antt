@@ -5,10 +5,10 @@ use Rattle.group_types.specs.Dimensions.{Dimensions}
 use Rattle.group_types.specs.Lists.{at}
 use Rattle.group_types.specs.Names.{IsProcess}
 use Rattle.group_types.specs.declared.process.ProcessId.{ProcessId}
+use Rattle.group_types.specs.Each.{Each}
 use Rattle.group_run.specs.Process.{Gathering}
 use Rattle.law_moves.specs.Moves.{HoldsAlways}
 use Rattle.law_moves.specs.State.{IsUp, State}
-use Rattle.law_moves.specs.Members.{Each}
 use Rattle.law_bytes.specs.Decoding.{Rising}
 
 -- a session's lost partitions and rows are in order and of the group, the rows are as many, and no block is of

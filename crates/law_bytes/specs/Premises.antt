@@ -2,8 +2,8 @@
 -- about blocks that are newly rebuilt.
 use Rattle.std.specs.Prelude.{ℕ, ◌<◌, List}
 use Rattle.group_types.specs.Dimensions.{Dimensions}
+use Rattle.group_types.specs.Each.{Each}
 use Rattle.group_message.specs.declared.update.Update.{Update}
-use Rattle.law_moves.specs.Members.{Each}
 use Rattle.law_bytes.specs.Areas.{WritesBytes}
 
 -- every settled update writes in the space, and bytes

@@ -2,12 +2,12 @@
 use Rattle.std.specs.Prelude.{ℕ, ◌≡◌, ◌+◌, ◌*◌, ◌<◌, ◌≤◌, false, List, drop, take, Some, None}
 use Rattle.group_types.specs.Dimensions.{Dimensions}
 use Rattle.group_types.specs.declared.process.ProcessId.TheVariants.{ParityNode}
+use Rattle.group_types.specs.Each.{Each}
 use Rattle.group_message.specs.declared.update.Update.{Update}
 use Rattle.group_run.specs.Applying.{head_at, replica_of}
 use Rattle.group_run.specs.Leaders.{rebuilt_block}
 use Rattle.group_run.specs.Process.{Head, Process}
 use Rattle.law_moves.specs.State.{State}
-use Rattle.law_moves.specs.Members.{Each}
 use Rattle.law_moves.proofs.Members.{IsParity}
 use Rattle.law_histories.proofs.HistoryWords.{history}
 use Rattle.law_bytes.specs.Areas.{IsBlock, change, value}

@@ -7,6 +7,7 @@ use Rattle.group_types.specs.Shape.{IsShape}
 use Rattle.group_types.specs.declared.process.ProcessId.{ProcessId}
 use Rattle.group_types.specs.declared.process.ProcessId.TheVariants.{DataNode, ParityNode}
 use Rattle.group_types.specs.declared.run.Run.{Run}
+use Rattle.group_types.specs.Each.{Each}
 use Rattle.memc_table.specs.Act.{key_of}
 use Rattle.memc_table.specs.Asked.{Asked}
 use Rattle.group_message.specs.declared.message.Message.{Message}
@@ -28,7 +29,6 @@ use Rattle.law_moves.proofs.Members.{IsParity}
 use Rattle.law_moves.proofs.Keeping as members
 use Rattle.law_histories.proofs.HistoryWords.{history}
 use Rattle.law_histories.proofs.Reach.{ReplicaReaches}
-use Rattle.law_updates.specs.Each as updates_each
 use Rattle.law_updates.proofs.Fine.{IsReplicaOf}
 use Rattle.law_updates.proofs.Laws.{FineFits}
 use Rattle.law_updates.specs.Store.{no_store}
@@ -45,7 +45,7 @@ use Rattle.law_headline.proofs.Sound.{LinksSound, NeedsSound}
 use Rattle.law_headline.proofs.SoundKept.{sound_kept}
 use Rattle.law_headline.proofs.Meets.{messages_fit}
 
-below-own : (a k : ℕ) → 0 < k → a % k < k
+pub below-own : (a k : ℕ) → 0 < k → a % k < k
 below-own a k some = omega (arith, some)
 
 -- only a parity process misses blocks
@@ -80,8 +80,8 @@ module _ (s : Dimensions) (shaped : IsShape s) where
       replica : IsReplicaOf r.applied (history (v.settled d) r) r
       replica = replica-of-history (FineIn s calls) d (v.settled d) r (head_at (v.process p) d) reached
 
-      items : updates_each.Each (λ x. x.1.at + x.1.len ≤ space_of s) r.items
-      items = subst (λ (xs : Items). updates_each.Each (λ x. x.1.at + x.1.len ≤ space_of s) xs) (store-items s d (no_store s) (take r.applied (history (v.settled d) r)) ∙ sym replica.items) (fine.store r.applied).inside
+      items : Each (λ x. x.1.at + x.1.len ≤ space_of s) r.items
+      items = subst (λ (xs : Items). Each (λ x. x.1.at + x.1.len ≤ space_of s) xs) (store-items s d (no_store s) (take r.applied (history (v.settled d) r)) ∙ sym replica.items) (fine.store r.applied).inside
 
     pub needs-sound : (p : ProcessId) → IsProcess s p → v.dead p ≡ false → (op : Asked) → NeedsSound s (v.process p) op
     needs-sound p pin lives op h b heads decided = needs-at p pin lives (home_of (key_of op.act) s.k) (below-own (fnv1a (key_of op.act)) s.k shaped.k.0) op h b heads decided

@@ -4,6 +4,8 @@ use Rattle.std.proofs.Common.{ℕ, zero, suc, ◌≡◌, ◌≤◌, ◌+◌, ◌
 use Rattle.std.proofs.lemmas.List.{drop_all, take-append-drop, take_all}
 use Rattle.group_types.specs.Dimensions.{Dimensions}
 use Rattle.group_types.proofs.Lists.{at-put}
+use Rattle.group_types.specs.Each.{Each}
+use Rattle.group_types.proofs.Eaches.{each-append}
 use Rattle.group_message.specs.declared.update.Update.{Update}
 use Rattle.group_run.specs.Applying.{head_at, replica_of, with_replica}
 use Rattle.group_run.specs.Asking.{issued}
@@ -12,8 +14,6 @@ use Rattle.group_run.specs.Leaders.{rebuilt_block}
 use Rattle.group_run.specs.Process.{Head, Process}
 use Rattle.group_run.specs.Replica.{Replica, applied_to, empty_replica, last_of, up_to, with_update}
 use Rattle.group_run.specs.World.{settled_in}
-use Rattle.law_moves.specs.Members.{Each}
-use Rattle.law_moves.proofs.Eaches.{each-append}
 use Rattle.law_histories.proofs.HistoryWords.{Begins, history}
 use Rattle.law_histories.proofs.Histories.{history-grown, length-history, settled-in-own}
 use Rattle.law_histories.proofs.Heads.{replica-apply_to}

@@ -15,6 +15,8 @@ use Rattle.group_message.specs.declared.update.Body.{Body}
 use Rattle.group_message.specs.declared.update.Body.TheVariants.{Put, Remove, Touch}
 use Rattle.group_run.specs.Applying.{head_at, replica_of}
 use Rattle.group_types.specs.Hash.{home_of}
+use Rattle.group_types.specs.Each.{Each}
+use Rattle.group_types.proofs.Eaches.{each-take}
 use Rattle.memc_table.specs.Act.{key_of}
 use Rattle.group_message.specs.declared.update.Outcome.{Outcome}
 use Rattle.group_calls.specs.declared.decision.Decision.TheVariants as decides
@@ -25,11 +27,8 @@ use Rattle.group_run.specs.Process.{Head, Process}
 use Rattle.group_run.specs.Replica.{Replica, items_after}
 use Rattle.group_run.specs.World.{Call}
 use Rattle.law_moves.specs.State.{State}
-use Rattle.law_moves.specs.Members.{Each}
 use Rattle.law_moves.proofs.Members.{Members, Sits}
 use Rattle.law_moves.proofs.Calls.{seat-head}
-use Rattle.law_moves.proofs.Eaches.{each-take}
-use Rattle.law_updates.specs.Each as updates_each
 use Rattle.law_updates.specs.Decisions.{ReadsFrom}
 use Rattle.law_updates.specs.Store.{store_after}
 use Rattle.law_updates.specs.Fine as updates
@@ -80,7 +79,7 @@ writes-one s u (Put flags until run delta) writes bytes = bytes
 writes-one s u Remove writes bytes = tt
 writes-one s u (Touch until) writes bytes = tt
 
-writes-each : (s : Dimensions) (us : List Update) → updates_each.Each (λ u. Writes (space_of s) u.body) us → updates_each.Each (λ u. laws.WritesBytes u.body) us → Each (WritesBytes s) us
+writes-each : (s : Dimensions) (us : List Update) → Each (λ u. Writes (space_of s) u.body) us → Each (λ u. laws.WritesBytes u.body) us → Each (WritesBytes s) us
 writes-each s [] writes bytes = tt
 writes-each s (u ∷ us) writes bytes = (record { writes = writes.0; bytes = writes-one s u u.body writes.0 bytes.0 }, writes-each s us writes.1 bytes.1)
 

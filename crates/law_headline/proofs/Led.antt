@@ -9,6 +9,7 @@ use Rattle.group_types.specs.declared.process.ProcessId.{ProcessId}
 use Rattle.group_types.specs.declared.process.ProcessId.TheVariants.{DataNode}
 use Rattle.group_types.specs.declared.run.Run.{Run}
 use Rattle.group_types.proofs.Names.{same-cases}
+use Rattle.group_types.specs.Each.{Each}
 use Rattle.membership.specs.Members.{Membership, knows_dead}
 use Rattle.memc_table.specs.Act.{key_of}
 use Rattle.memc_table.specs.Asked.{Asked}
@@ -28,7 +29,6 @@ use Rattle.group_run.specs.Replica.{with_update}
 use Rattle.law_moves.proofs.Moves.{Acted, Died, Popped}
 use Rattle.law_moves.specs.State.{State}
 use Rattle.law_moves.proofs.State.{Opens}
-use Rattle.law_moves.specs.Members.{Each}
 use Rattle.law_moves.proofs.Members.{Members}
 use Rattle.law_histories.proofs.Around.{Since}
 use Rattle.law_histories.proofs.Deciding.{RestsWell, decides-well}

@@ -5,14 +5,14 @@ use Rattle.std.proofs.lemmas.Nat.{mul-le}
 use Rattle.group_types.specs.Dimensions.{Dimensions, space_of}
 use Rattle.group_types.specs.Lists.{at}
 use Rattle.group_types.specs.declared.process.ProcessId.{ProcessId}
+use Rattle.group_types.specs.Each.{Each}
+use Rattle.group_types.proofs.Eaches.{each-weaker, each-map}
 use Rattle.group_message.specs.declared.update.Body.{Body}
 use Rattle.group_message.specs.declared.update.Body.TheVariants.{Put, Remove, Touch}
 use Rattle.group_message.specs.declared.update.Update.{Update}
 use Rattle.group_run.specs.Applying.{block_added, block_after, coded_delta, copy_after}
 use Rattle.group_run.specs.Process.{Copy}
 use Rattle.group_run.specs.Rows.{block_in}
-use Rattle.law_moves.specs.Members.{Each}
-use Rattle.law_moves.proofs.Eaches.{each-map, each-weaker}
 use Rattle.law_bytes.proofs.Areas.{area_long}
 use Rattle.law_headline.proofs.Sound.{CopySound}
 

@@ -8,6 +8,7 @@ use Rattle.group_types.specs.Lists.{at}
 use Rattle.group_types.specs.Names.{IsProcess}
 use Rattle.group_types.specs.declared.process.ProcessId.{ProcessId}
 use Rattle.group_types.specs.declared.process.ProcessId.TheVariants.{DataNode, ParityNode}
+use Rattle.group_types.specs.Each.{Each}
 use Rattle.membership.specs.Members.{knows_dead}
 use Rattle.group_message.specs.declared.message.Message.{Message}
 use Rattle.group_message.specs.declared.message.Message.TheVariants as tells
@@ -17,7 +18,6 @@ use Rattle.group_run.specs.Leaders.{open_session}
 use Rattle.group_run.specs.Process.{Gathering}
 use Rattle.group_run.specs.World.{Call}
 use Rattle.law_moves.specs.State.{State}
-use Rattle.law_moves.specs.Members.{Each}
 use Rattle.law_moves.proofs.Members.{IsData, IsParity, MayStand, Stands}
 use Rattle.law_histories.proofs.Folding.{Along}
 use Rattle.law_histories.proofs.LaneWords.{Goes, next}

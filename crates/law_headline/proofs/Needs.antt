@@ -1,5 +1,5 @@
 -- A block that a head needs rebuilt first is one of its space.
-use Rattle.std.proofs.Common.{ℕ, ◌≡◌, ◌<◌, ◌≤◌, ◌+◌, ◌-◌, ◌/◌, ◌==◌, ◌&&◌, nat_le, nat_lt, not, is_some, Bool, true, false, List, [], ◌∷◌, length, find, cond, Option, Some, None, inl, inr, refl, sym, ap, subst, ◌∙◌, arith, if◌then◌else◌}
+use Rattle.std.proofs.Common.{ℕ, ◌≡◌, ◌<◌, ◌≤◌, ◌+◌, ◌-◌, ◌/◌, ◌==◌, ◌&&◌, nat_lt, not, is_some, Bool, true, false, List, [], ◌∷◌, find, cond, Option, Some, None, inl, inr, refl, sym, ap, subst, ◌∙◌, arith, if◌then◌else◌}
 use Rattle.std.proofs.lemmas.Grind.{common_steps}
 use Rattle.std.proofs.Math.Nat.{div-lt_iff_lt-mul}
 use Rattle.std.specs.List.{range_with_len}
@@ -8,26 +8,21 @@ use Rattle.group_types.specs.Dimensions.{Dimensions, space_of}
 use Rattle.group_types.specs.declared.process.ProcessId.{ProcessId}
 use Rattle.group_types.specs.declared.process.ProcessId.TheVariants.{DataNode, ParityNode}
 use Rattle.group_types.specs.declared.run.Run.{Run}
+use Rattle.group_types.specs.Each.{Each}
 use Rattle.item_index.specs.declared.slot.Slot.{Slot}
 use Rattle.memc_table.specs.Act.{key_of}
 use Rattle.memc_table.specs.Asked.{Asked}
 use Rattle.memc_table.specs.Expiry.{is_live}
-use Rattle.memc_table.specs.declared.holding.Holding.{Holding}
-use Rattle.memc_table.specs.declared.reply.Reply.{Reply}
-use Rattle.memc_table.specs.declared.ruling.Ruling.{Ruling}
-use Rattle.memc_table.specs.declared.ruling.Ruling.TheVariants.{Refused, Accepted}
-use Rattle.group_message.specs.declared.update.Outcome.{Outcome}
 use Rattle.group_calls.specs.declared.decision.Decision.{Decision}
 use Rattle.group_calls.specs.declared.decision.Decision.TheVariants as decides
 use Rattle.group_run.specs.Applying.{replica_of}
 use Rattle.group_run.specs.Asking.{found_at, found_unless}
-use Rattle.group_run.specs.Deciding.{Found, Bytes, Missing, blind_reply, decide, decide_accepted, decide_blind, decide_found, decide_left, decide_placed, decide_ruled, decide_waiting, decide_written, is_touch, item_found, length_of, outcome_of, reads_bytes, ruling_with, run_needed, unseen, waits_for, window}
-use Rattle.group_run.specs.Free.{place_for}
+use Rattle.group_run.specs.Deciding.{Found, Bytes, Missing, decide, reads_bytes, run_needed}
 use Rattle.group_run.specs.Leaders.{blocks_met, missing_block, rebuilt_block, rebuilt_bytes}
 use Rattle.group_run.specs.Process.{Process}
-use Rattle.group_run.specs.Replica.{Replica, number_on, run_in, slot_in}
+use Rattle.group_run.specs.Replica.{Replica, run_in, slot_in}
+use Rattle.group_run.proofs.Deciding.{decides-by}
 use Rattle.law_bytes.proofs.Rising.{range-among}
-use Rattle.law_updates.specs.Each as updates_each
 use Rattle.law_updates.proofs.Decides.{place-free}
 use Rattle.law_updates.proofs.Keys.{OfSlot, each-slot}
 
@@ -68,34 +63,6 @@ abbrev Inside : ℕ → Slot → Type 0
 Inside space slot = slot.at + slot.len ≤ space
 
 module _ (space : ℕ) (r : Replica) (op : Asked) (read : Run → Found) (Wanted : ℕ → Type 0) (wants : (run : Run) (b : ℕ) → run.at + run.len ≤ space → read run ≡ Missing b → Wanted b) where
-  want-written : (outcome : Outcome) (h : Holding) (run : Run) (found : Found) → run.at + run.len ≤ space → read run ≡ found → WantsWhere Wanted (decide_written outcome h run found)
-  want-written outcome h run (Missing b) inside is = wants run b inside is
-  want-written outcome h run (Bytes under) inside is = tt
-
-  want-placed : (outcome : Outcome) (h : Holding) (run : Option Run) → place_for space r (length h.item.value) ≡ run → WantsWhere Wanted (decide_placed read outcome h run)
-  want-placed outcome h None is = tt
-  want-placed outcome h (Some run) is = want-written outcome h run (read run) (place-free space r (length h.item.value) run is).fits.inside refl
-
-  want-left : (outcome : Outcome) (touch : Bool) (left : Option Holding) → WantsWhere Wanted (decide_left space r read outcome touch left)
-  want-left outcome touch None = tt
-  want-left outcome true (Some h) = tt
-  want-left outcome false (Some h) = want-placed outcome h (place_for space r (length h.item.value)) refl
-
-  want-accepted : (full : Bool) (decision : Decision) → WantsWhere Wanted decision → WantsWhere Wanted (decide_accepted full r decision)
-  want-accepted true decision want = tt
-  want-accepted false decision want = want
-
-  want-ruled : (ruling : Ruling) → WantsWhere Wanted (decide_ruled space r op read ruling)
-  want-ruled (Refused refusal) = tt
-  want-ruled (Accepted accepted leaves) = want-accepted (nat_le window (length r.log)) (decide_left space r read (outcome_of accepted) (is_touch op.act) leaves) (want-left (outcome_of accepted) (is_touch op.act) leaves)
-
-  want-found : (slot : Option Slot) (run : Option Run) (found : Found) → ((x : Run) → run ≡ Some x → x.at + x.len ≤ space) → item_found read slot run ≡ found → WantsWhere Wanted (decide_found space r op read slot found)
-  want-found slot run (Bytes bytes) inside is = want-ruled (ruling_with r op slot bytes)
-  want-found slot None (Missing b) inside is = absurd (bytes_not (unseen slot) b is) where
-    bytes_not : (bytes : List ℕ) (b : ℕ) → Bytes bytes ≡ Missing b → ⊥
-    bytes_not bytes b e = cc e
-  want-found slot (Some run) (Missing b) inside is = wants run b (inside run refl) is
-
   needed-inside : (slot : Option Slot) → OfSlot (Inside space) slot → (x : Run) → run_needed op slot ≡ Some x → x.at + x.len ≤ space
   needed-inside None fits x is = absurd (cc is)
   needed-inside (Some slot) fits x is = by (reads_bytes op.act && is_live op.moment slot.until && nat_lt 0 slot.len) is where
@@ -103,16 +70,18 @@ module _ (space : ℕ) (r : Replica) (op : Asked) (read : Run → Found) (Wanted
     by true here = let same : run_in slot ≡ x = cc here in subst (λ (y : Run). y.at + y.len ≤ space) same fits
     by false none = absurd (cc none)
 
-  want-blind : (slot : Option Slot) (blind : Option Reply) → OfSlot (Inside space) slot → WantsWhere Wanted (decide_blind space r op read slot blind)
-  want-blind slot (Some reply) fits = tt
-  want-blind slot None fits = want-found slot (run_needed op slot) (item_found read slot (run_needed op slot)) (needed-inside slot fits) refl
-
-  want-waiting : (slot : Option Slot) (waits : Option ℕ) → OfSlot (Inside space) slot → WantsWhere Wanted (decide_waiting space r op read slot waits)
-  want-waiting slot (Some n) fits = tt
-  want-waiting slot None fits = want-blind slot (blind_reply (length_of slot) (ruling_with r op slot (unseen slot))) fits
-
-  pub wants-where : (inherited : ℕ) → updates_each.Each (λ x. x.1.at + x.1.len ≤ space) r.items → WantsWhere Wanted (decide space inherited r op read)
-  wants-where inherited fits = want-waiting (slot_in r.items (key_of op.act)) (waits_for inherited op.act (number_on r.log (key_of op.act))) (each-slot (Inside space) (key_of op.act) r.items fits)
+  pub wants-where : (inherited : ℕ) → Each (λ x. x.1.at + x.1.len ≤ space) r.items → WantsWhere Wanted (decide space inherited r op read)
+  wants-where inherited fits = decides-by space r op read inherited (WantsWhere Wanted) (record {
+    answers = λ reply. tt;
+    waits = λ n is. tt;
+    full = λ long. tt;
+    no_space = tt;
+    item = λ run b needed missing. wants run b (needed-inside (slot_in r.items (key_of op.act)) (each-slot (Inside space) (key_of op.act) r.items fits) run needed) missing;
+    place = λ len run b is missing. wants run b (place-free space r len run is).fits.inside missing;
+    removes = λ few outcome. tt;
+    touches = λ few h outcome. tt;
+    puts = λ few h run under outcome is. tt;
+  })
 
 -- a block that isn't rebuilt, of a run in the space
 missing-inside : (s : Dimensions) (d : ℕ) (p : Process) (name : ProcessId) (run : Run) (b : ℕ) → 0 < s.block → run.at + run.len ≤ space_of s → found_at s d p name run ≡ Missing b → b < s.blocks
@@ -125,7 +94,7 @@ missing-inside s d p (ParityNode i) run b some inside is = by (missing_block s d
   by (Some c) there found = let same : c ≡ b = cc found in met-inside s run b some inside (find-among (λ x. not (is_some (rebuilt_block p.as_leader d x))) (blocks_met s run) b (there ∙ ap Some same))
 
 -- where the items lie in the space
-pub needs-inside : (s : Dimensions) (d inherited : ℕ) (p : Process) (op : Asked) (b : ℕ) → 0 < s.block → updates_each.Each (λ x. x.1.at + x.1.len ≤ space_of s) (replica_of p d).items
+pub needs-inside : (s : Dimensions) (d inherited : ℕ) (p : Process) (op : Asked) (b : ℕ) → 0 < s.block → Each (λ x. x.1.at + x.1.len ≤ space_of s) (replica_of p d).items
     → decide (space_of s) inherited (replica_of p d) op (found_at s d p p.name) ≡ decides.NeedBlock b → b < s.blocks
 needs-inside s d inherited p op b some items decided =
     subst (WantsWhere (λ c. c < s.blocks)) decided

@@ -36,7 +36,7 @@ use Rattle.law_bytes.proofs.Applying.{applied-settled}
 use Rattle.law_headline.proofs.Applies.{goes-grown}
 
 -- to start a session settles nothing
-row-none : (b : Bool) (s : Dimensions) (copy : Copy) (p : Process) → (row_finished b s copy p).settled ≡ []
+pub row-none : (b : Bool) (s : Dimensions) (copy : Copy) (p : Process) → (row_finished b s copy p).settled ≡ []
 row-none true s copy p = refl
 row-none false s copy p = refl
 

@@ -2,8 +2,8 @@
 use Rattle.std.proofs.Common.{ℕ, zero, suc, ◌≡◌, ◌<◌, ◌==◌, Bool, true, false, List, [], ◌∷◌, ◌++◌, length, slice_index_or, map, filter, find, Some, if◌then◌else◌, refl, ap, subst, ◌∙◌, arith}
 use Rattle.std.proofs.lemmas.Grind.{common_steps}
 use Rattle.std.specs.Prelude.{Contains}
+use Rattle.group_types.specs.Each.{Each}
 use Rattle.group_run.specs.Process.{Gathering}
-use Rattle.law_moves.specs.Members.{Each}
 use Rattle.law_bytes.specs.Decoding.{Rising}
 use Rattle.law_headline.proofs.Rows.{numbers_of}
 

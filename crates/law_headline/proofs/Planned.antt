@@ -5,6 +5,7 @@ use Rattle.group_types.specs.Dimensions.{Dimensions}
 use Rattle.group_types.specs.Names.{IsProcess}
 use Rattle.group_types.specs.declared.process.ProcessId.{ProcessId}
 use Rattle.group_types.specs.declared.process.ProcessId.TheVariants.{DataNode, ParityNode}
+use Rattle.group_types.specs.Each.{Each}
 use Rattle.group_message.specs.declared.message.Message.{Message}
 use Rattle.group_message.specs.declared.message.Message.TheVariants as tells
 use Rattle.group_run.specs.Leaders.{open_session}
@@ -12,7 +13,6 @@ use Rattle.group_run.specs.Process.{Gathering}
 use Rattle.group_run.specs.Rows.{copy_in, parity_number}
 use Rattle.group_run.specs.World.{Call}
 use Rattle.law_moves.specs.State.{State}
-use Rattle.law_moves.specs.Members.{Each}
 use Rattle.law_moves.proofs.Members.{MayStand}
 use Rattle.law_bytes.proofs.Finds.{found-each, if-weaker}
 use Rattle.law_bytes.proofs.Stamps.{CopyFollows, Follows, GatheringFollows, Plan, SessionFollows, SessionsStand}

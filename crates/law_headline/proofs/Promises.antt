@@ -9,6 +9,8 @@ use Rattle.group_types.specs.Names.{IsProcess}
 use Rattle.group_types.specs.Shape.{IsShape}
 use Rattle.group_types.specs.declared.process.ProcessId.{ProcessId}
 use Rattle.group_types.specs.declared.process.ProcessId.TheVariants.{DataNode, ParityNode}
+use Rattle.group_types.specs.Each.{Each}
+use Rattle.group_types.proofs.Eaches.{each-take}
 use Rattle.group_message.specs.declared.update.Update.{Update}
 use Rattle.group_calls.specs.declared.event.Event.{Event}
 use Rattle.erasure_code.specs.Code.{coded}
@@ -20,8 +22,6 @@ use Rattle.group_run.specs.Process.{Head}
 use Rattle.group_run.specs.Replica.{Replica}
 use Rattle.group_run.specs.World.{Call, World, after}
 use Rattle.law_moves.specs.State.{State, state_of}
-use Rattle.law_moves.specs.Members.{Each}
-use Rattle.law_moves.proofs.Eaches.{each-take}
 use Rattle.law_histories.proofs.Histories.{length-history}
 use Rattle.law_histories.proofs.Reach.{IsKeeper, ReplicaReaches}
 use Rattle.law_histories.proofs.Numbers.{data-applied}

@@ -11,6 +11,7 @@ use Rattle.group_types.specs.Lists.{at}
 use Rattle.group_types.specs.declared.process.ProcessId.{ProcessId}
 use Rattle.group_types.specs.declared.process.ProcessId.TheVariants.{DataNode, ParityNode}
 use Rattle.group_types.specs.declared.run.Run.{Run}
+use Rattle.group_types.specs.Each.{Each}
 use Rattle.group_message.specs.declared.update.Update.{Update}
 use Rattle.erasure_code.specs.Spaces.{bytes_at}
 use Rattle.group_run.specs.Applying.{space_after}
@@ -18,7 +19,6 @@ use Rattle.group_run.specs.Asking.{found_at, found_unless}
 use Rattle.group_run.specs.Deciding.{Bytes}
 use Rattle.group_run.specs.Leaders.{blocks_met, missing_block, rebuilt_block, rebuilt_byte, rebuilt_bytes}
 use Rattle.group_run.specs.Process.{LeaderState, Process}
-use Rattle.law_moves.specs.Members.{Each}
 use Rattle.law_updates.specs.Decisions.{ReadsFrom}
 use Rattle.law_updates.specs.Store.{Store, no_store, store_after, store_from, stored}
 use Rattle.law_updates.proofs.Spaces.{get_or-bytes_at, length-bytes_at}

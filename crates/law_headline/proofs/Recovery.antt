@@ -9,6 +9,7 @@ use Rattle.group_types.specs.Lists.{at}
 use Rattle.group_types.specs.Shape.{IsShape}
 use Rattle.group_types.specs.declared.process.ProcessId.{ProcessId}
 use Rattle.group_types.specs.declared.process.ProcessId.TheVariants.{ParityNode}
+use Rattle.group_types.proofs.Eaches.{each-take}
 use Rattle.group_message.specs.declared.update.Update.{Update}
 use Rattle.group_run.specs.Applying.{replica_of}
 use Rattle.group_run.specs.History.{History}
@@ -18,7 +19,6 @@ use Rattle.group_run.specs.Recovery.{CopiesHoldCode, RebuiltIsSettled, code_bloc
 use Rattle.group_run.specs.Rows.{block_in}
 use Rattle.group_run.specs.World.{Call}
 use Rattle.law_moves.specs.State.{state_of}
-use Rattle.law_moves.proofs.Eaches.{each-take}
 use Rattle.law_log.proofs.Calls.{each-contained}
 use Rattle.law_log.proofs.ReplicaWords.{ReplicaStands}
 use Rattle.law_log.proofs.Shown.{LogShows}

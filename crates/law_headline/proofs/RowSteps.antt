@@ -9,6 +9,8 @@ use Rattle.group_types.specs.Names.{same_process}
 use Rattle.group_types.specs.declared.process.ProcessId.{ProcessId}
 use Rattle.group_types.specs.declared.process.ProcessId.TheVariants.{DataNode, ParityNode}
 use Rattle.group_types.proofs.Names.{same-refl}
+use Rattle.group_types.specs.Each.{Each}
+use Rattle.group_types.proofs.Eaches.{each-append, each-weaker, each-all, each-map, each-filter}
 use Rattle.membership.specs.Members.{with_dead}
 use Rattle.memc_table.specs.Act.{key_of}
 use Rattle.memc_table.specs.Asked.{Asked}
@@ -29,10 +31,7 @@ use Rattle.group_run.specs.Receiving.{ack_to, death_known, enthroned, log_adopte
 use Rattle.group_run.specs.Replica.{with_update}
 use Rattle.group_run.specs.Rows.{accepts_mark, begin_copy, copy_begun, copy_in, is_marked, leader_forgotten, marked, parity_number, with_copies, without_copy}
 use Rattle.law_moves.proofs.Moves.{Asks, Collects, Flushes, Treats}
-use Rattle.law_moves.specs.Members.{Each}
-use Rattle.law_moves.proofs.Eaches.{each-all, each-append, each-map, each-weaker}
 use Rattle.law_bytes.specs.Decoding.{Rising}
-use Rattle.law_bytes.proofs.Finds.{each-filter}
 use Rattle.law_bytes.proofs.Marking.{begun-same}
 use Rattle.law_bytes.proofs.Marks.{decoded-same}
 use Rattle.law_headline.proofs.Rows.{Numbered, RowSound, numbers_of}

@@ -4,11 +4,11 @@ use Rattle.std.specs.Prelude.{ℕ, ◌≡◌, ◌≢◌, ◌≤◌, false, List,
 use Rattle.group_types.specs.Dimensions.{Dimensions}
 use Rattle.group_types.specs.Names.{IsProcess}
 use Rattle.group_types.specs.declared.process.ProcessId.{ProcessId}
+use Rattle.group_types.specs.Each.{Each}
 use Rattle.group_message.specs.declared.message.Message.{Message}
 use Rattle.group_message.specs.declared.message.Message.TheVariants as tells
 use Rattle.group_run.specs.Process.{Gathering, LeaderState}
 use Rattle.law_moves.specs.State.{State}
-use Rattle.law_moves.specs.Members.{Each}
 use Rattle.law_bytes.specs.Decoding.{Rising}
 
 -- a row from x to q has a number for each partition, and x isn't q

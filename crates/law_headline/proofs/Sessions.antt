@@ -9,6 +9,7 @@ use Rattle.group_types.specs.Lists.{at}
 use Rattle.group_types.specs.Shape.{IsShape}
 use Rattle.group_types.specs.declared.process.ProcessId.TheVariants.{ParityNode}
 use Rattle.group_types.proofs.Lists.{at-map-range}
+use Rattle.group_types.proofs.Eaches.{each-take}
 use Rattle.group_message.specs.declared.message.Message.TheVariants as tells
 use Rattle.group_run.specs.Headline.{KeepsAll}
 use Rattle.group_run.specs.History.{History}
@@ -19,7 +20,6 @@ use Rattle.group_run.specs.Recovery.{SessionsStand, StandsAt, code_block, value_
 use Rattle.group_run.specs.Replica.{Replica}
 use Rattle.group_run.specs.World.{Call}
 use Rattle.law_moves.specs.State.{state_of}
-use Rattle.law_moves.proofs.Eaches.{each-take}
 use Rattle.law_log.specs.Book.{book_of, no_book}
 use Rattle.law_log.proofs.Books.{book-history, book-shape, book-world}
 use Rattle.law_log.proofs.Calls.{each-contained}

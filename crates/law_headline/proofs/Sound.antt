@@ -7,6 +7,7 @@ use Rattle.group_types.specs.Names.{IsProcess}
 use Rattle.group_types.specs.Shape.{IsShape}
 use Rattle.group_types.specs.declared.process.ProcessId.{ProcessId}
 use Rattle.group_types.specs.declared.process.ProcessId.TheVariants.{ParityNode}
+use Rattle.group_types.specs.Each.{Each}
 use Rattle.memc_table.specs.Act.{key_of}
 use Rattle.memc_table.specs.Asked.{Asked}
 use Rattle.group_message.specs.declared.message.Message.{Message}
@@ -21,7 +22,6 @@ use Rattle.group_run.specs.Receiving.{receive}
 use Rattle.law_moves.proofs.Moves.{Acted, Died, Popped, Treats}
 use Rattle.law_moves.specs.State.{State}
 use Rattle.law_moves.proofs.State.{Opens}
-use Rattle.law_moves.specs.Members.{Each}
 use Rattle.law_moves.proofs.Members.{IsParity, Members}
 use Rattle.law_bytes.proofs.Held.{HoldsBytes}
 

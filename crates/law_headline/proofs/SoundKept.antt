@@ -4,6 +4,8 @@ use Rattle.group_types.specs.Dimensions.{Dimensions}
 use Rattle.group_types.specs.Names.{IsProcess}
 use Rattle.group_types.specs.declared.process.ProcessId.{ProcessId}
 use Rattle.group_types.proofs.Names.{same-cases}
+use Rattle.group_types.specs.Each.{Each}
+use Rattle.group_types.proofs.Eaches.{each-append, each-take}
 use Rattle.memc_table.specs.Asked.{Asked}
 use Rattle.group_message.specs.declared.message.Message.{Message}
 use Rattle.group_message.specs.declared.message.Message.TheVariants as tells
@@ -14,9 +16,8 @@ use Rattle.group_run.specs.World.{sent_to}
 use Rattle.law_moves.proofs.Moves.{Acted, Died, Popped, Treats}
 use Rattle.law_moves.specs.State.{State}
 use Rattle.law_moves.proofs.State.{Opens}
-use Rattle.law_moves.specs.Members.{Each}
 use Rattle.law_moves.proofs.Members.{MayStand, Members}
-use Rattle.law_moves.proofs.Eaches.{each-append, each-sent_to, each-take}
+use Rattle.law_moves.proofs.Eaches.{each-sent_to}
 use Rattle.law_bytes.proofs.Held.{HoldsBytes}
 use Rattle.law_bytes.proofs.TokensKeeping.{unknown}
 use Rattle.law_headline.proofs.Sound.{LinksSound, NeedsSound, ProcessSound, Sound, SoundAlwaysKept}

@@ -1,5 +1,5 @@
 -- Every step of a process keeps its copies and sessions sound, and sends sound messages.
-use Rattle.std.proofs.Common.{◌≡◌, ℕ, zero, suc, ◌+◌, ◌<◌, ◌==◌, ◌&&◌, nat_le, Bool, true, false, not, List, [], ◌∷◌, length, take, map, filter, find, flat_map, is_some, Option, Some, None, sym, ap, subst, ◌∙◌, refl, if◌then◌else◌}
+use Rattle.std.proofs.Common.{◌≡◌, ℕ, suc, ◌+◌, ◌<◌, ◌==◌, ◌&&◌, nat_le, Bool, true, false, not, List, [], ◌∷◌, length, map, filter, find, flat_map, is_some, Option, Some, None, sym, ap, subst, ◌∙◌, refl, if◌then◌else◌}
 use Rattle.std.specs.List.{list_any, range_with_len}
 use Rattle.group_types.specs.Dimensions.{Dimensions, space_of}
 use Rattle.group_types.specs.Hash.{home_of}
@@ -7,6 +7,8 @@ use Rattle.group_types.specs.Lists.{at, put}
 use Rattle.group_types.specs.Names.{IsProcess, same_process}
 use Rattle.group_types.specs.declared.process.ProcessId.{ProcessId}
 use Rattle.group_types.specs.declared.process.ProcessId.TheVariants.{DataNode, ParityNode}
+use Rattle.group_types.specs.Each.{Each}
+use Rattle.group_types.proofs.Eaches.{each-append, each-take, each-weaker, each-all, each-map, each-filter}
 use Rattle.membership.specs.Members.{knows_dead, with_dead}
 use Rattle.memc_table.specs.Act.{key_of}
 use Rattle.memc_table.specs.Asked.{Asked}
@@ -27,22 +29,14 @@ use Rattle.group_run.specs.Receiving.{ack_to, death_known, enthroned, log_adopte
 use Rattle.group_run.specs.Replica.{Replica, empty_replica, up_to, with_update}
 use Rattle.group_run.specs.Rows.{accepts_mark, begin_copy, copies_ceased, copy_begun, copy_in, is_copy, is_marked, leader_forgotten, marked, new_copy, parity_number, with_copies, with_copy, without_copy}
 use Rattle.law_moves.proofs.Moves.{Asks, Collects, Flushes, Treats}
-use Rattle.law_moves.specs.Members.{Each}
 use Rattle.law_moves.proofs.Members.{IsParity}
 use Rattle.law_moves.proofs.Calls.{each-below}
-use Rattle.law_moves.proofs.Eaches.{each-all, each-append, each-map, each-take, each-weaker}
-use Rattle.law_bytes.specs.Decoding.{Rising}
-use Rattle.law_bytes.proofs.Finds.{each-filter, found-each}
+use Rattle.law_bytes.proofs.Finds.{found-each, rising-take}
 use Rattle.law_bytes.proofs.Marking.{begun-same, up_to-applied}
 use Rattle.law_bytes.proofs.Rising.{all-each, differ-pairs, differ-rising, rising-filtered}
 use Rattle.law_bytes.proofs.Marks.{decoded-same}
 use Rattle.law_headline.proofs.Sound.{AsksSound, CopySound, IsLed, NeedsSound, ProcessSound, SessionSound, Sound}
 use Rattle.law_headline.proofs.Lengths.{block-long, copies-after}
-
-rising-take : (n : ℕ) (xs : List ℕ) → Rising xs → Rising (take n xs)
-rising-take zero xs rises = tt
-rising-take (suc n) [] rises = tt
-rising-take (suc n) (x ∷ xs) rises = (each-take (λ y. x < y) n xs rises.0, rising-take n xs rises.1)
 
 -- who takes a message of these kinds is a parity process
 abbrev pub IsTaker : Message → ProcessId → Type 0

@@ -1,11 +1,13 @@
 -- What a head issued, seen byte by byte: it changes no byte of a block that isn't rebuilt.
-use Rattle.std.proofs.Common.{ℕ, zero, suc, ◌≡◌, ◌<◌, ◌≤◌, ◌+◌, ◌-◌, ◌*◌, List, [], ◌∷◌, ◌++◌, length, take, drop, bit_xor, None, refl, sym, ap, subst, ◌∙◌, append_assoc, arith}
+use Rattle.std.proofs.Common.{ℕ, ◌≡◌, ◌<◌, ◌≤◌, ◌+◌, ◌-◌, ◌*◌, List, [], ◌∷◌, ◌++◌, length, take, drop, bit_xor, None, refl, sym, ap, subst, ◌∙◌, append_assoc, arith}
 use Rattle.std.specs.Int.Bits.{xor_zero_r}
 use Rattle.std.proofs.lemmas.List.{drop-drop, length-take-le, take-append-drop, take-take}
 use Rattle.std.proofs.Math.Seq.{drop_at}
 use Rattle.group_types.specs.Dimensions.{Dimensions, space_of}
 use Rattle.group_types.specs.declared.process.ProcessId.{ProcessId}
 use Rattle.group_types.specs.declared.process.ProcessId.TheVariants.{ParityNode}
+use Rattle.group_types.specs.Each.{Each}
+use Rattle.group_types.proofs.Eaches.{each-drop, each-left}
 use Rattle.group_message.specs.declared.update.Body.{Body}
 use Rattle.group_message.specs.declared.update.Body.TheVariants.{Put, Remove, Touch}
 use Rattle.group_message.specs.declared.update.Update.{Update}
@@ -14,7 +16,6 @@ use Rattle.group_run.specs.Asking.{found_at}
 use Rattle.group_run.specs.Fitting.{Writes}
 use Rattle.group_run.specs.Leaders.{rebuilt_block}
 use Rattle.group_run.specs.Process.{Process}
-use Rattle.law_moves.specs.Members.{Each}
 use Rattle.law_histories.proofs.HistoryWords.{history}
 use Rattle.law_bytes.specs.Areas.{change, value}
 use Rattle.law_bytes.proofs.Blocks.{run-apart}
@@ -22,15 +23,6 @@ use Rattle.law_bytes.proofs.Values.{value-append}
 use Rattle.law_headline.proofs.Resting.{BlocksRest}
 use Rattle.law_headline.proofs.Apart.{HeadOff, SameValues, StaysOff}
 use Rattle.law_headline.proofs.Unders.{PutsFound, none-missing}
-
-pub each-drop : {X : Type 0} (P : X → Type 0) (n : ℕ) (xs : List X) → Each P xs → Each P (drop n xs)
-each-drop P zero xs all = all
-each-drop P (suc n) [] all = tt
-each-drop P (suc n) (x ∷ xs) all = each-drop P n xs all.1
-
-pub each-front : {X : Type 0} (P : X → Type 0) (xs ys : List X) → Each P (xs ++ ys) → Each P xs
-each-front P [] ys all = tt
-each-front P (x ∷ xs) ys all = (all.0, each-front P xs ys all.1)
 
 -- a value that a parity process puts where it found bytes stays off the blocks that it hasn't rebuilt
 pub found-off : (s : Dimensions) (d i : ℕ) (p : Process) (name : ProcessId) (b : ℕ) → 0 < s.block → name ≡ ParityNode i → rebuilt_block p.as_leader d b ≡ None
@@ -79,7 +71,7 @@ off-value s d settled p within off h b n x heads unbuilt from to inside =
         ap (λ (k : ℕ). drop k (history settled (replica_of p d))) split ∙ sym (drop-drop (n - h.inherited) h.inherited (history settled (replica_of p d)))
 
     mid-off : Each (StaysOff s b) mid
-    mid-off = each-front (StaysOff s b) mid log (subst (Each (StaysOff s b)) (sym further ∙ behind) (each-drop (StaysOff s b) (n - h.inherited) (drop h.inherited (history settled (replica_of p d))) (off h b heads unbuilt)))
+    mid-off = each-left (StaysOff s b) mid log (subst (Each (StaysOff s b)) (sym further ∙ behind) (each-drop (StaysOff s b) (n - h.inherited) (drop h.inherited (history settled (replica_of p d))) (off h b heads unbuilt)))
 
 -- the same, as a law
 pub blocks_rest : BlocksRest

@@ -7,6 +7,7 @@ use Rattle.group_types.specs.Shape.{IsShape}
 use Rattle.group_types.specs.declared.process.ProcessId.{ProcessId}
 use Rattle.group_types.specs.declared.process.ProcessId.TheVariants.{ParityNode}
 use Rattle.group_types.proofs.Names.{same-cases}
+use Rattle.group_types.specs.Each.{Each}
 use Rattle.group_message.specs.declared.message.Message.{Message}
 use Rattle.group_message.specs.declared.update.Update.{Update}
 use Rattle.group_run.specs.Applying.{ProcessStep, head_at, replica_of}
@@ -15,7 +16,6 @@ use Rattle.group_run.specs.Receiving.{receive}
 use Rattle.group_run.specs.World.{Call}
 use Rattle.law_moves.proofs.Moves.{Acted, Popped, Treats}
 use Rattle.law_moves.specs.State.{State}
-use Rattle.law_moves.specs.Members.{Each}
 use Rattle.law_moves.proofs.Members.{MayStand, Members}
 use Rattle.law_histories.proofs.HistoryWords.{Begins, history}
 use Rattle.law_histories.proofs.Histories.{history-grown}

@@ -7,6 +7,8 @@ use Rattle.group_types.specs.Names.{IsProcess, of_rank}
 use Rattle.group_types.specs.declared.process.ProcessId.{ProcessId}
 use Rattle.group_types.specs.declared.process.ProcessId.TheVariants.{ParityNode}
 use Rattle.group_types.proofs.Names.{same-cases}
+use Rattle.group_types.specs.Each.{Each}
+use Rattle.group_types.proofs.Eaches.{each-append, each-weaker}
 use Rattle.group_message.specs.declared.message.Message.{Message}
 use Rattle.group_message.specs.declared.message.Message.TheVariants as tells
 use Rattle.group_message.specs.declared.update.Update.{Update}
@@ -14,9 +16,7 @@ use Rattle.group_run.specs.Applying.{head_at, replica_of}
 use Rattle.group_run.specs.Process.{Head, Process}
 use Rattle.group_run.specs.Replica.{Replica, last_of}
 use Rattle.law_moves.specs.State.{State}
-use Rattle.law_moves.specs.Members.{Each}
 use Rattle.law_moves.proofs.Members.{MayStand, Members}
-use Rattle.law_moves.proofs.Eaches.{each-append, each-weaker}
 use Rattle.law_histories.proofs.Folding.{run, Along}
 use Rattle.law_histories.proofs.LaneWords.{AckBelow, AckFits, Goes, MarkGoes, NumberGoes, Seen, is_live, next, raised}
 use Rattle.law_histories.proofs.Reach.{EndsAt, IsKeeper, LaneReaches, ReplicaFits, ReplicaReaches, seen_at}

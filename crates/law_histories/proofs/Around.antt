@@ -8,6 +8,8 @@ use Rattle.group_types.specs.Names.{IsProcess, of_rank}
 use Rattle.group_types.specs.declared.process.ProcessId.{ProcessId}
 use Rattle.group_types.specs.declared.process.ProcessId.TheVariants.{DataNode, ParityNode}
 use Rattle.group_types.proofs.Names.{same-cases}
+use Rattle.group_types.specs.Each.{Each}
+use Rattle.group_types.proofs.Eaches.{each-weaker}
 use Rattle.group_message.specs.declared.message.Message.{Message}
 use Rattle.group_message.specs.declared.message.Message.TheVariants as tells
 use Rattle.group_message.specs.declared.update.Update.{Update}
@@ -15,10 +17,8 @@ use Rattle.group_run.specs.Applying.{head_at, replica_of}
 use Rattle.group_run.specs.Process.{Head, Process}
 use Rattle.group_run.specs.Replica.{Replica, last_of}
 use Rattle.law_moves.specs.State.{State}
-use Rattle.law_moves.specs.Members.{Each}
 use Rattle.law_moves.proofs.Members.{MayStand, Members, Sits, seat_of}
 use Rattle.law_moves.proofs.Calls.{seat-known, seat-lower}
-use Rattle.law_moves.proofs.Eaches.{each-weaker}
 use Rattle.law_histories.proofs.LaneWords.{AckBelow, AckFits, Seen}
 use Rattle.law_histories.proofs.Reach.{IsKeeper, LaneReaches, PartitionReaches, ReplicaReaches, seen_at}
 use Rattle.law_histories.proofs.Lanes.{Stale, ranked-weaker, begins-refl}

@@ -12,6 +12,8 @@ use Rattle.group_types.specs.declared.process.ProcessId.TheVariants.{ParityNode}
 use Rattle.group_types.specs.declared.run.Run.{Run}
 use Rattle.group_types.proofs.Lists.{at-put, at-put-other}
 use Rattle.group_types.proofs.Names.{same-ne}
+use Rattle.group_types.specs.Each.{Each}
+use Rattle.group_types.proofs.Eaches.{each-weaker, each-all, each-map}
 use Rattle.membership.specs.Members.{knows_dead}
 use Rattle.memc_table.specs.Asked.{Asked}
 use Rattle.group_message.specs.declared.message.Message.{Message}
@@ -31,9 +33,8 @@ use Rattle.group_run.specs.Process.{Head, Held, Process}
 use Rattle.group_run.specs.Replica.{empty_replica, last_of, with_update}
 use Rattle.group_run.specs.World.{flush_process, front_if, sent_to}
 use Rattle.law_moves.specs.State.{State}
-use Rattle.law_moves.specs.Members.{Each}
 use Rattle.law_moves.proofs.Members.{Members}
-use Rattle.law_moves.proofs.Eaches.{each-all, each-map, each-sent_to, each-weaker}
+use Rattle.law_moves.proofs.Eaches.{each-sent_to}
 use Rattle.law_histories.proofs.LaneWords.{AckBelow, AckFits}
 use Rattle.law_histories.proofs.HistoryWords.{HistoryLaws, history}
 use Rattle.law_histories.proofs.Acts.{Tells}

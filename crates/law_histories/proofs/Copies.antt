@@ -10,6 +10,8 @@ use Rattle.group_types.specs.Names.{IsProcess, same_process}
 use Rattle.group_types.specs.declared.process.ProcessId.{ProcessId}
 use Rattle.group_types.specs.declared.process.ProcessId.TheVariants.{DataNode, ParityNode}
 use Rattle.group_types.proofs.Names.{same-cases}
+use Rattle.group_types.specs.Each.{Each}
+use Rattle.group_types.proofs.Eaches.{each-append, each-weaker, each-map}
 use Rattle.membership.specs.Members.{knows_dead, with_dead}
 use Rattle.memc_table.specs.Act.{key_of}
 use Rattle.memc_table.specs.Asked.{Asked}
@@ -34,9 +36,7 @@ use Rattle.group_run.specs.World.{after}
 use Rattle.law_moves.proofs.Moves.{Asks, Collects, Flushes, Keeps, Treats}
 use Rattle.law_moves.specs.State.{State, state_of}
 use Rattle.law_moves.proofs.Runs.{holds_always, shape-from, world-from}
-use Rattle.law_moves.specs.Members.{Each}
 use Rattle.law_moves.proofs.Members.{Members}
-use Rattle.law_moves.proofs.Eaches.{each-append, each-map, each-weaker}
 use Rattle.law_moves.proofs.Keeping.{members_always}
 use Rattle.law_moves.proofs.Notices.{knows-other}
 use Rattle.law_histories.specs.Copies.{DeadForgotten, ForgottenAlways}

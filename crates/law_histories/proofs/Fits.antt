@@ -7,6 +7,7 @@ use Rattle.group_types.specs.Lists.{at}
 use Rattle.group_types.specs.Names.{IsProcess}
 use Rattle.group_types.specs.declared.process.ProcessId.{ProcessId}
 use Rattle.group_types.specs.declared.process.ProcessId.TheVariants.{DataNode, ParityNode}
+use Rattle.group_types.specs.Each.{Each}
 use Rattle.membership.specs.Members.{knows_dead}
 use Rattle.group_message.specs.declared.message.Message.{Message}
 use Rattle.group_message.specs.declared.message.Message.TheVariants as tells
@@ -21,7 +22,6 @@ use Rattle.group_run.specs.Rows.{accepts_mark, parity_number}
 use Rattle.group_run.specs.World.{World}
 use Rattle.law_moves.specs.State.{State, state_of}
 use Rattle.law_moves.proofs.Runs.{shape-from, world-from}
-use Rattle.law_moves.specs.Members.{Each}
 use Rattle.law_moves.proofs.Members.{IsFrom, IsParity, MayStand, Members, Stands, seat_of}
 use Rattle.law_moves.proofs.Eaches.{stands-notice}
 use Rattle.law_histories.proofs.FitWords.{AdoptNumbers, FitsNumbers, NumbersFitAlways, UpdateNumbers}

@@ -12,6 +12,8 @@ use Rattle.group_types.specs.declared.process.ProcessId.TheVariants.{DataNode, P
 use Rattle.group_types.specs.declared.run.Run.{Run}
 use Rattle.group_types.proofs.Lists.{at-put, at-put-other, at-replicate}
 use Rattle.group_types.proofs.Names.{same-cases}
+use Rattle.group_types.specs.Each.{Each}
+use Rattle.group_types.proofs.Eaches.{each-append, each-take}
 use Rattle.membership.specs.Members.{Membership, knows_dead, with_dead}
 use Rattle.memc_table.specs.Act.{key_of, value_of}
 use Rattle.memc_table.specs.Asked.{Asked}
@@ -33,10 +35,8 @@ use Rattle.law_moves.specs.State.{IsUp, State}
 use Rattle.law_moves.proofs.State.{Opens}
 use Rattle.law_moves.proofs.Known.{known-notice}
 use Rattle.law_moves.proofs.Runs.{holds_always}
-use Rattle.law_moves.specs.Members.{Each}
 use Rattle.law_moves.proofs.Members.{Members, Sits, is_notice, knows_lower}
 use Rattle.law_moves.proofs.Calls.{seat-head, seat-known, seat-lower}
-use Rattle.law_moves.proofs.Eaches.{each-append, each-take}
 use Rattle.law_moves.proofs.Keeping.{keeps, known-is-dead, living-unknown}
 use Rattle.law_histories.proofs.Folding.{run, Along}
 use Rattle.law_histories.proofs.Issuing.{IssueKeeps, IssuesIn}

@@ -10,6 +10,8 @@ use Rattle.group_types.specs.Names.{IsProcess, of_rank}
 use Rattle.group_types.specs.declared.process.ProcessId.{ProcessId}
 use Rattle.group_types.specs.declared.process.ProcessId.TheVariants.{DataNode, ParityNode}
 use Rattle.group_types.proofs.Lists.{at-put, at-put-other}
+use Rattle.group_types.specs.Each.{Each}
+use Rattle.group_types.proofs.Eaches.{each-all, each-map}
 use Rattle.membership.specs.Members.{knows_dead}
 use Rattle.group_message.specs.declared.message.Message.{Message}
 use Rattle.group_message.specs.declared.message.Message.TheVariants as tells
@@ -25,9 +27,8 @@ use Rattle.group_run.specs.Replica.{Replica, applied_to, empty_replica, last_of,
 use Rattle.group_run.specs.Rows.{accepts_mark, begin_copy, copy_in, parity_number}
 use Rattle.group_run.specs.World.{sent_to}
 use Rattle.law_moves.specs.State.{State}
-use Rattle.law_moves.specs.Members.{Each}
 use Rattle.law_moves.proofs.Members.{IsFrom, IsParity, MayStand, Members, Sits, is_notice}
-use Rattle.law_moves.proofs.Eaches.{each-all, each-map, each-sent_to}
+use Rattle.law_moves.proofs.Eaches.{each-sent_to}
 use Rattle.law_histories.proofs.Folding.{Along}
 use Rattle.law_histories.proofs.LaneWords.{AckFits, AckGoes, AdoptGoes, Fine, Goes, MarkGoes, NumberGoes, Prolongs, Seen, UpdateGoes, appended, is_live, next, raised, replaced}
 use Rattle.law_histories.proofs.Reach.{IsKeeper, ReplicaFits, seen_at}

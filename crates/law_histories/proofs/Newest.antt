@@ -3,14 +3,15 @@ use Rattle.std.proofs.Common.{ℕ, ◌≡◌, ◌≢◌, ◌==◌, Bool, true, f
 use Rattle.std.proofs.lemmas.Grind.{common_steps}
 use Rattle.group_types.specs.Lists.{at}
 use Rattle.group_types.specs.declared.process.ProcessId.{ProcessId}
+use Rattle.group_types.specs.Each.{Each}
+use Rattle.group_types.proofs.Eaches.{each-weaker}
 use Rattle.group_message.specs.declared.message.Message.{Message}
 use Rattle.group_message.specs.declared.message.Message.TheVariants as tells
 use Rattle.group_run.specs.Applying.{Sent}
 use Rattle.group_run.specs.Process.{Head, Process}
 use Rattle.group_run.specs.World.{sent_to}
-use Rattle.law_moves.specs.Members.{Each}
 use Rattle.law_moves.proofs.Cores.{MaySend, SentWell}
-use Rattle.law_moves.proofs.Eaches.{each-sent_to, each-weaker}
+use Rattle.law_moves.proofs.Eaches.{each-sent_to}
 use Rattle.law_histories.proofs.Told.{Acks, IsTold, newest, told_by}
 
 -- the message acknowledges nothing of partition d

@@ -10,6 +10,7 @@ use Rattle.group_types.specs.Names.{IsProcess, of_rank}
 use Rattle.group_types.specs.declared.process.ProcessId.{ProcessId}
 use Rattle.group_types.specs.declared.process.ProcessId.TheVariants.{DataNode, ParityNode}
 use Rattle.group_types.proofs.Lists.{at-put, at-put-other}
+use Rattle.group_types.proofs.Eaches.{each-all}
 use Rattle.membership.specs.Members.{Membership, knows_dead, with_dead}
 use Rattle.group_message.specs.declared.message.Message.{Message}
 use Rattle.group_message.specs.declared.message.Message.TheVariants as tells
@@ -23,8 +24,8 @@ use Rattle.group_run.specs.Rows.{parity_number}
 use Rattle.group_run.specs.World.{sent_to}
 use Rattle.law_moves.specs.State.{State}
 use Rattle.law_moves.proofs.Members.{Members, Sits, SitsWhen, knows_lower, seat_of}
-use Rattle.law_moves.proofs.Eaches.{each-all}
 use Rattle.law_moves.proofs.Keeping.{lower-each}
+use Rattle.law_moves.proofs.Notices.{both}
 use Rattle.law_histories.proofs.LaneWords.{AckBelow, AckFits}
 use Rattle.law_histories.proofs.HistoryWords.{HistoryLaws}
 use Rattle.law_histories.proofs.Around.{Around}
@@ -32,11 +33,6 @@ use Rattle.law_histories.proofs.Calls.{sent-each, sent-one}
 use Rattle.law_histories.proofs.Hears.{act-take}
 use Rattle.law_histories.proofs.Rows.{still-close}
 use Rattle.law_histories.proofs.Steps.{Leads, SameIn, Spares, Still, judge-leads, range-leads, same-in-refl, settled-none, still-each, still-judge, still-leads, still-quiet, still-then, still-when, then-leads, told-others}
-
-both : (a b : Bool) → (a && b) ≡ true → (a ≡ true) × (b ≡ true)
-both true true e = (refl, refl)
-both true false e = cc e
-both false b e = cc e
 
 not-some : {X : Type 0} (h : Option X) → not (is_some h) ≡ true → h ≡ None
 not-some None e = refl

@@ -11,16 +11,12 @@ use Rattle.group_types.specs.declared.process.ProcessId.{ProcessId}
 use Rattle.group_types.specs.declared.process.ProcessId.TheVariants.{ParityNode}
 use Rattle.group_types.specs.declared.run.Run.{Run}
 use Rattle.group_types.proofs.Names.{same-refl}
-use Rattle.item_index.specs.declared.slot.Slot.{Slot}
+use Rattle.group_types.specs.Each.{Each}
 use Rattle.membership.specs.Members.{Membership, knows_dead}
 use Rattle.memc_table.specs.Act.{key_of}
 use Rattle.memc_table.specs.Asked.{Asked}
-use Rattle.memc_table.specs.declared.holding.Holding.{Holding}
 use Rattle.memc_table.specs.declared.reply.Reply.{Reply}
-use Rattle.memc_table.specs.declared.ruling.Ruling.{Ruling}
-use Rattle.memc_table.specs.declared.ruling.Ruling.TheVariants.{Accepted, Refused}
 use Rattle.group_message.specs.declared.kept.Kept.{Kept}
-use Rattle.group_message.specs.declared.update.Outcome.{Outcome}
 use Rattle.group_message.specs.declared.update.Update.{Update}
 use Rattle.group_calls.specs.Turns.{CallName}
 use Rattle.group_calls.specs.declared.decision.Decision.{Decision}
@@ -32,19 +28,18 @@ use Rattle.group_calls.specs.declared.event.Event.{Event}
 use Rattle.group_calls.specs.declared.event.Event.TheVariants.{Ask}
 use Rattle.group_run.specs.Applying.{ProcessStep, head_at, replica_of}
 use Rattle.group_run.specs.Asking.{Oldest, act_on, ask_head, ask_process, fate_from, fate_of, fate_unless, found_at, gone_or, inherited_or, is_adopted, is_in_log, issued, oldest_inherited, reply_from, retry_block, ticketed, update_of}
-use Rattle.group_run.specs.Deciding.{Bytes, Found, Missing, blind_reply, decide, decide_accepted, decide_blind, decide_found, decide_left, decide_placed, decide_ruled, decide_waiting, decide_written, is_touch, item_found, length_of, outcome_of, ruling_with, run_needed, unseen, waits_for, window}
-use Rattle.group_run.specs.Free.{place_for}
+use Rattle.group_run.specs.Deciding.{Found, decide, waits_for}
 use Rattle.group_run.specs.Heading.{other_parities}
 use Rattle.group_run.specs.Headline.{IsRun}
 use Rattle.group_run.specs.History.{History, history_of, no_history}
 use Rattle.group_run.specs.Meaning.{IsDrained, process_of}
 use Rattle.group_run.specs.Process.{Head, Process}
 use Rattle.group_run.specs.Progress.{IsPending}
-use Rattle.group_run.specs.Replica.{Replica, last_of, number_on, slot_in}
+use Rattle.group_run.specs.Replica.{Replica, last_of, number_on}
 use Rattle.group_run.specs.World.{after, if_up, next_name, node_of, step, treated, unchanged}
+use Rattle.group_run.proofs.Deciding.{decides-by}
 use Rattle.law_moves.specs.State.{State, state_of}
 use Rattle.law_moves.proofs.Runs.{shape-from, world-from}
-use Rattle.law_moves.specs.Members.{Each}
 use Rattle.law_moves.proofs.Members.{Sits, seat_of}
 use Rattle.law_moves.proofs.Calls.{each-below, seat-known}
 use Rattle.law_histories.proofs.Reach.{Any, ReplicaReaches}
@@ -62,38 +57,20 @@ NoRetry _ = Unit {0}
 
 -- with an empty log none does
 module _ (space : ℕ) (r : Replica) (op : Asked) (read : Run → Found) (none : r.log ≡ []) where
-  goes-written : (outcome : Outcome) (h : Holding) (run : Run) (found : Found) → NoRetry (decide_written outcome h run found)
-  goes-written outcome h run (Missing b) = tt
-  goes-written outcome h run (Bytes under) = tt
-
-  goes-placed : (outcome : Outcome) (h : Holding) (run : Option Run) → NoRetry (decide_placed read outcome h run)
-  goes-placed outcome h None = tt
-  goes-placed outcome h (Some run) = goes-written outcome h run (read run)
-
-  goes-left : (outcome : Outcome) (touch : Bool) (left : Option Holding) → NoRetry (decide_left space r read outcome touch left)
-  goes-left outcome touch None = tt
-  goes-left outcome true (Some h) = tt
-  goes-left outcome false (Some h) = goes-placed outcome h (place_for space r (length h.item.value))
-
-  goes-accepted : (full : Bool) → nat_le window (length r.log) ≡ full → (decision : Decision) → NoRetry decision → NoRetry (decide_accepted full r decision)
-  goes-accepted false is decision goes = goes
-  goes-accepted true is decision goes = absurd (let full : window ≤ length r.log = grind (arith, common_steps) in let zero_long : length r.log ≡ 0 = ap length none in omega (arith, full, zero_long))
-
-  goes-ruled : (ruling : Ruling) → NoRetry (decide_ruled space r op read ruling)
-  goes-ruled (Refused refusal) = tt
-  goes-ruled (Accepted accepted leaves) = goes-accepted (nat_le window (length r.log)) refl (decide_left space r read (outcome_of accepted) (is_touch op.act) leaves) (goes-left (outcome_of accepted) (is_touch op.act) leaves)
-
-  goes-found : (slot : Option Slot) (found : Found) → NoRetry (decide_found space r op read slot found)
-  goes-found slot (Bytes bytes) = goes-ruled (ruling_with r op slot bytes)
-  goes-found slot (Missing b) = tt
-
-  goes-blind : (slot : Option Slot) (blind : Option Reply) → NoRetry (decide_blind space r op read slot blind)
-  goes-blind slot (Some reply) = tt
-  goes-blind slot None = goes-found slot (item_found read slot (run_needed op slot))
-
   decides-now : (inherited : ℕ) → NoRetry (decide space inherited r op read)
-  decides-now inherited = subst (λ (us : List Update). NoRetry (decide_waiting space r op read (slot_in r.items (key_of op.act)) (waits_for inherited op.act (number_on us (key_of op.act))))) (sym none)
-      (goes-blind (slot_in r.items (key_of op.act)) (blind_reply (length_of (slot_in r.items (key_of op.act))) (ruling_with r op (slot_in r.items (key_of op.act)) (unseen (slot_in r.items (key_of op.act))))))
+  decides-now inherited = decides-by space r op read inherited NoRetry (record {
+    answers = λ reply. tt;
+    waits = λ n is. unwaited n (subst (λ (us : List Update). waits_for inherited op.act (number_on us (key_of op.act)) ≡ Some n) none is);
+    full = λ long. let empty : length r.log ≡ 0 = ap length none in absurd (omega (arith, long, empty));
+    no_space = tt;
+    item = λ run b needed missing. tt;
+    place = λ len run b is missing. tt;
+    removes = λ few outcome. tt;
+    touches = λ few h outcome. tt;
+    puts = λ few h run under outcome is. tt;
+  }) where
+    unwaited : (n : ℕ) → ◌≡◌ {A = Option ℕ} None (Some n) → ⊥
+    unwaited n is = cc is
 
 -- what is said of each number holds of one that stands there
 each-there : (k : ℕ) (xs : List ℕ) (e : ℕ) → Each (λ d. d < k) xs → Contains xs e → e < k

@@ -6,14 +6,14 @@ use Rattle.std.specs.Prelude.{option_map}
 use Rattle.group_types.specs.Dimensions.{Dimensions}
 use Rattle.group_types.specs.Names.{IsProcess, of_rank, rank_of}
 use Rattle.group_types.specs.declared.process.ProcessId.{ProcessId}
+use Rattle.group_types.specs.Each.{Each}
+use Rattle.group_types.proofs.Eaches.{each-weaker}
 use Rattle.group_message.specs.declared.message.Message.{Message}
 use Rattle.group_message.specs.declared.message.Message.TheVariants as tells
 use Rattle.group_run.specs.Applying.{head_at}
 use Rattle.group_run.specs.Process.{Head}
 use Rattle.law_moves.specs.State.{State}
-use Rattle.law_moves.specs.Members.{Each}
 use Rattle.law_moves.proofs.Members.{IsFrom, MayStand, Members, Reigns}
-use Rattle.law_moves.proofs.Eaches.{each-weaker}
 use Rattle.law_moves.proofs.Keeping.{ground_of, seat-from}
 use Rattle.law_histories.proofs.Lanes.{Ranked, Stale, ranked-weaker}
 

@@ -19,6 +19,7 @@ use Rattle.group_message.specs.declared.message.Session.{Session}
 use Rattle.group_message.specs.declared.update.Update.{Update}
 use Rattle.group_types.specs.declared.process.Partition.{Partition}
 use Rattle.group_types.specs.declared.process.Rank.{Rank}
+use Rattle.group_types.specs.Each.{Each}
 use Rattle.group_run.specs.Applying.{ProcessStep, apply_to, head_at, quiet, replica_of, when, with_head}
 use Rattle.group_run.specs.Heading.{acknowledge, acknowledged, judge, partition, rank}
 use Rattle.group_run.specs.Process.{Head, Process}
@@ -28,7 +29,6 @@ use Rattle.group_run.specs.Rows.{parity_number}
 use Rattle.group_run.specs.World.{front_if, sent_to}
 use Rattle.law_moves.proofs.Moves.{Acted, Popped}
 use Rattle.law_moves.specs.State.{IsUp, State}
-use Rattle.law_moves.specs.Members.{Each}
 use Rattle.law_moves.proofs.Members.{IsFrom, IsParity, MayStand, Members, Reigns, is_notice, seat_of}
 use Rattle.law_moves.proofs.Calls.{Owes}
 use Rattle.law_moves.proofs.Keeping.{ground_of, seat-from}

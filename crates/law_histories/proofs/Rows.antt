@@ -2,12 +2,14 @@
 use Rattle.std.proofs.Common.{ℕ, zero, suc, ◌≡◌, ◌≢◌, ◌<◌, ◌≤◌, ◌+◌, ◌-◌, ◌==◌, nat_lt, Bool, true, false, not, List, [], ◌∷◌, length, drop, take, Option, Some, None, ◌⊎◌, inl, inr, refl, sym, ap, subst, ◌∙◌, if◌then◌else◌, arith}
 use Rattle.std.proofs.lemmas.Bool.{cases_eq}
 use Rattle.std.proofs.lemmas.Grind.{common_steps}
-use Rattle.std.specs.Prelude.{cond, filter, flat_map, is_some, map}
+use Rattle.std.specs.Prelude.{filter, flat_map, is_some, map}
 use Rattle.std.specs.List.{list_any, range_with_len}
 use Rattle.group_types.specs.Dimensions.{Dimensions}
 use Rattle.group_types.specs.Lists.{at}
 use Rattle.group_types.specs.Names.{same_process}
 use Rattle.group_types.specs.declared.process.ProcessId.TheVariants.{DataNode, ParityNode}
+use Rattle.group_types.specs.Each.{Each}
+use Rattle.group_types.proofs.Eaches.{each-append, each-weaker, each-all, each-map}
 use Rattle.group_message.specs.declared.message.Message.TheVariants as tells
 use Rattle.group_run.specs.Applying.{Sent, apply_to, for_each, head_at, replica_of, sending}
 use Rattle.group_run.specs.Asking.{Oldest, inherited_or, oldest_inherited, retry_block}
@@ -16,21 +18,11 @@ use Rattle.group_run.specs.Leaders.{close_sessions, copy_kept, copy_marked, lead
 use Rattle.group_run.specs.Process.{Copy, Gathering, Head, Process}
 use Rattle.group_run.specs.Replica.{Replica, applied_to, items_after, kept_after}
 use Rattle.group_run.specs.Rows.{accepts_mark, begin_copy, copy_begun, copy_in, is_marked, marked, parity_number, with_copies, without_copy}
-use Rattle.law_moves.specs.Members.{Each}
 use Rattle.membership.specs.Members.{knows_dead}
-use Rattle.law_moves.proofs.Calls.{each-below}
-use Rattle.law_moves.proofs.Eaches.{each-all, each-append, each-map, each-weaker}
+use Rattle.law_moves.proofs.Calls.{each-below, each-filter}
 use Rattle.law_histories.proofs.Acts.{Tells}
 use Rattle.law_histories.proofs.Heads.{replica-apply_to}
 use Rattle.law_histories.proofs.Steps.{SameIn, Still, same-apply, same-in-refl, same-in-trans, still-each, still-from, still-quiet, still-then, still-when, tells-same, told-others}
-
--- the members of a filtered list pass
-each-filter : (test : ℕ → Bool) (xs : List ℕ) (P : ℕ → Type 0) → Each P xs → Each (λ x. P x × (test x ≡ true)) (filter test xs)
-each-filter test [] P all = tt
-each-filter test (x ∷ xs) P all = by (test x) refl (each-filter test xs P all.1) where
-  by : (b : Bool) → test x ≡ b → Each (λ y. P y × (test y ≡ true)) (filter test xs) → Each (λ y. P y × (test y ≡ true)) (cond b (x ∷ filter test xs) (filter test xs))
-  by true passes rest = ((all.0, passes), rest)
-  by false fails rest = rest
 
 pub each-flat_map : {X Y : Type 0} (P : Y → Type 0) (f : X → List Y) (xs : List X) → Each (λ x. Each P (f x)) xs → Each P (flat_map f xs)
 each-flat_map P f [] all = tt

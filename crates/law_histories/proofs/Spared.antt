@@ -1,9 +1,9 @@
 -- Which copies a row keeps: none of a leader that it knows to be dead.
 use Rattle.std.specs.Prelude.{◌≡◌, false}
 use Rattle.group_types.specs.declared.process.ProcessId.TheVariants.{ParityNode}
+use Rattle.group_types.specs.Each.{Each}
 use Rattle.membership.specs.Members.{knows_dead}
 use Rattle.group_run.specs.Process.{Process}
-use Rattle.law_moves.specs.Members.{Each}
 
 -- each copy of a process is of a leader that it doesn't know dead
 abbrev pub IsSpared : Process → Type 0

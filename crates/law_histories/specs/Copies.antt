@@ -3,11 +3,11 @@ use Rattle.std.specs.Prelude.{ℕ, ◌≡◌, ◌≢◌, true, List}
 use Rattle.group_types.specs.Dimensions.{Dimensions}
 use Rattle.group_types.specs.Names.{IsProcess}
 use Rattle.group_types.specs.declared.process.ProcessId.TheVariants.{ParityNode}
+use Rattle.group_types.specs.Each.{Each}
 use Rattle.group_calls.specs.declared.event.Event.{Event}
 use Rattle.group_run.specs.Headline.{IsRun}
 use Rattle.group_run.specs.Meaning.{IsDrained, Lives, is_dead, process_of}
 use Rattle.group_run.specs.World.{World, after}
-use Rattle.law_moves.specs.Members.{Each}
 
 -- no living process has a copy for a dead leader
 abbrev pub DeadForgotten : World → Type 0

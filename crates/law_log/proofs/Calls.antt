@@ -9,6 +9,8 @@ use Rattle.group_types.specs.Lists.{at, put}
 use Rattle.group_types.specs.Names.{IsProcess, index_of}
 use Rattle.group_types.specs.declared.process.ProcessId.{ProcessId}
 use Rattle.group_types.proofs.Lists.{at-put, at-put-other}
+use Rattle.group_types.specs.Each.{Each}
+use Rattle.group_types.proofs.Eaches.{each-append, each-weaker}
 use Rattle.group_message.specs.declared.message.Message.{Message}
 use Rattle.group_message.specs.declared.update.Update.{Update}
 use Rattle.group_calls.specs.declared.event.Answer.{Answer}
@@ -30,9 +32,7 @@ use Rattle.law_moves.proofs.Reading.{node-back, node-other, size-with_node}
 use Rattle.law_moves.proofs.Runs.{runs_move}
 use Rattle.law_moves.proofs.Settled.{settled-quiet}
 use Rattle.law_moves.proofs.Steps.{NodeActs, acted, died, node_acts, node_receives, popped}
-use Rattle.law_updates.specs.Each.{Each}
 use Rattle.law_updates.proofs.Fine.{ComesBehind}
-use Rattle.law_updates.proofs.Eaches.{each-append, each-weaker}
 use Rattle.law_log.specs.Book.{Book, book_of, booked, call_if, no_book}
 use Rattle.law_log.proofs.CallWords.{CallsAreKept, KeepsCalls}
 use Rattle.law_log.proofs.Books.{book-framed, book-shape, book-world, book_always}

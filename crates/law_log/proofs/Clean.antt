@@ -9,6 +9,7 @@ use Rattle.group_types.specs.Lists.{at}
 use Rattle.group_types.specs.Names.{IsProcess}
 use Rattle.group_types.specs.Shape.{IsShape}
 use Rattle.group_types.specs.declared.process.ProcessId.{ProcessId}
+use Rattle.group_types.proofs.Eaches.{each-append, each-take}
 use Rattle.memc_table.specs.Act.{key_of}
 use Rattle.memc_table.specs.Asked.{Asked}
 use Rattle.group_message.specs.declared.update.Update.{Update}
@@ -25,7 +26,6 @@ use Rattle.law_histories.proofs.Reach.{Reach}
 use Rattle.law_histories.proofs.Around.{GrewBy, keeper-rank}
 use Rattle.law_histories.proofs.Keeping.{Leaves_both}
 use Rattle.law_histories.proofs.Ranks.{head-from}
-use Rattle.law_updates.proofs.Eaches.{each-append, each-take}
 use Rattle.law_log.proofs.GoneWords.{IsClean, IsUnnamed, TracesAsked}
 
 pub unnamed-front : (name : CallName) (us vs : List Update) → Begins us vs → IsUnnamed name vs → IsUnnamed name us

@@ -10,6 +10,8 @@ use Rattle.group_types.specs.Dimensions.{Dimensions}
 use Rattle.group_types.specs.Hash.{home_of}
 use Rattle.group_types.specs.Lists.{at, put}
 use Rattle.group_types.proofs.Lists.{at-put, at-put-other}
+use Rattle.group_types.specs.Each.{Each, EachTwo}
+use Rattle.group_types.proofs.Eaches.{each-append, each-weaker, each_two-push, each-middle}
 use Rattle.memc_table.specs.Act.{key_of}
 use Rattle.memc_table.specs.Contents.{Contents, empty_table}
 use Rattle.group_message.specs.declared.update.Outcome.{Outcome}
@@ -20,10 +22,8 @@ use Rattle.group_calls.specs.Turns.{CallName, accepts, entry_of, name_of}
 use Rattle.group_calls.specs.declared.entry.Entry.{Entry}
 use Rattle.group_run.specs.Asking.{reply_from}
 use Rattle.group_run.specs.World.{Call, Ticket, op_in, same_call, update_name}
-use Rattle.law_updates.specs.Each.{Each, EachTwo}
 use Rattle.law_updates.specs.Fine.{AreSteps, ComesBefore, IsStep}
 use Rattle.law_updates.specs.Store.{StoreFits, no_store, store_after}
-use Rattle.law_updates.proofs.Eaches.{each-append, each-middle, each-weaker, each_two-push}
 use Rattle.law_updates.proofs.Histories.{history-fits, steps-behind, steps-take}
 use Rattle.law_log.proofs.Ties.{AreTickets, EntryStands, HasEntry, LogStands, NamesDiffer, Ties, is_logged}
 use Rattle.law_log.proofs.Calls.{each-contained}

@@ -6,6 +6,8 @@ use Rattle.std.proofs.lemmas.Grind.{common_steps}
 use Rattle.group_types.specs.Dimensions.{Dimensions}
 use Rattle.group_types.specs.Lists.{at, put}
 use Rattle.group_types.proofs.Lists.{at-put, at-put-other, at-replicate}
+use Rattle.group_types.specs.Each.{Each, EachTwo}
+use Rattle.group_types.proofs.Eaches.{each-append, each-weaker, each_two-take}
 use Rattle.group_message.specs.declared.kept.Kept.{Kept}
 use Rattle.group_message.specs.declared.update.Update.{Update}
 use Rattle.group_calls.specs.Turns.{CallName}
@@ -15,10 +17,8 @@ use Rattle.group_run.specs.Asking.{fate_from, fate_of, fate_unless, gone_or, is_
 use Rattle.group_run.specs.Process.{Head, Process}
 use Rattle.group_run.specs.Replica.{callers, kept_after}
 use Rattle.group_run.specs.World.{Call, update_name}
-use Rattle.law_updates.specs.Each.{Each, EachTwo}
 use Rattle.law_updates.specs.Fine.{ComesBefore}
 use Rattle.law_updates.proofs.Clears.{none-passes}
-use Rattle.law_updates.proofs.Eaches.{each-append, each-weaker, each_two-take}
 use Rattle.law_log.specs.Stands.{HeadStands, IsSettledAs, history_at}
 use Rattle.law_log.proofs.Calls.{each-contained}
 use Rattle.law_log.proofs.Refusals.{front-is}

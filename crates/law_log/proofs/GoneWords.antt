@@ -2,6 +2,7 @@
 use Rattle.std.specs.Prelude.{ℕ, ◌≡◌, ◌≢◌, ◌<◌, List, [], Contains}
 use Rattle.group_types.specs.Dimensions.{Dimensions}
 use Rattle.group_types.specs.Lists.{at}
+use Rattle.group_types.specs.Each.{Each}
 use Rattle.group_message.specs.declared.update.Update.{Update}
 use Rattle.group_calls.specs.Turns.{CallName, Turn}
 use Rattle.group_calls.specs.Within.{Traces}
@@ -11,7 +12,6 @@ use Rattle.group_run.specs.World.{update_name}
 use Rattle.law_moves.specs.State.{state_of}
 use Rattle.law_moves.proofs.Members.{Members}
 use Rattle.law_histories.proofs.Reach.{Reach}
-use Rattle.law_updates.specs.Each.{Each}
 use Rattle.law_log.specs.Stands.{GoneStays, StandsAlways}
 
 -- no update of a history is of this call

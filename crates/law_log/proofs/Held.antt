@@ -12,6 +12,8 @@ use Rattle.group_types.specs.Shape.{IsShape}
 use Rattle.group_types.specs.declared.process.ProcessId.{ProcessId}
 use Rattle.group_types.proofs.Lists.{at-replicate}
 use Rattle.group_types.proofs.Names.{same-cases}
+use Rattle.group_types.specs.Each.{Each}
+use Rattle.group_types.proofs.Eaches.{each-weaker}
 use Rattle.memc_table.specs.Act.{key_of}
 use Rattle.group_message.specs.declared.update.Update.{Update}
 use Rattle.group_calls.specs.declared.event.Event.{Event}
@@ -34,8 +36,6 @@ use Rattle.law_histories.proofs.Reach.{Any, Reach, ReplicaFits, ReplicaReaches}
 use Rattle.law_histories.proofs.Around.{FollowsBy, Since, keeper-rank}
 use Rattle.law_histories.proofs.Keeping.{Leaves_both, keeps_reach, receives-both, treats-both}
 use Rattle.law_histories.proofs.Ranks.{head-from}
-use Rattle.law_updates.specs.Each.{Each}
-use Rattle.law_updates.proofs.Eaches.{each-weaker}
 use Rattle.law_log.specs.Book.{book_of, no_book}
 use Rattle.law_log.specs.Stands.{IsSettledAs}
 use Rattle.law_log.proofs.Books.{book-history}

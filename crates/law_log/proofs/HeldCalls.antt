@@ -4,11 +4,13 @@ use Rattle.std.proofs.lemmas.Bool.{cases_eq, cases_lt}
 use Rattle.std.proofs.lemmas.Grind.{common_steps}
 use Rattle.std.proofs.lemmas.List.{drop-append-le, length-append, take_all}
 use Rattle.std.proofs.lemmas.List.Elements.{Contains-append_right}
-use Rattle.std.specs.Prelude.{cond, filter, find, Contains}
+use Rattle.std.specs.Prelude.{filter, find, Contains}
 use Rattle.std.specs.List.{range_with_len}
 use Rattle.group_types.specs.Dimensions.{Dimensions, space_of}
 use Rattle.group_types.specs.Lists.{at, put}
 use Rattle.group_types.proofs.Lists.{at-put, at-put-other}
+use Rattle.group_types.specs.Each.{Each}
+use Rattle.group_types.proofs.Eaches.{each-append, each-filter}
 use Rattle.memc_table.specs.Asked.{Asked}
 use Rattle.group_message.specs.declared.update.Update.{Update}
 use Rattle.group_calls.specs.Turns.{CallName}
@@ -21,20 +23,11 @@ use Rattle.group_run.specs.Heading.{judge_head, least_acked, other_parities}
 use Rattle.group_run.specs.Leaders.{start_session}
 use Rattle.group_run.specs.Process.{Head, Held, Process}
 use Rattle.group_run.specs.Replica.{Replica, applied_to, empty_replica, last_of, with_update}
-use Rattle.law_updates.specs.Each.{Each}
-use Rattle.law_updates.proofs.Eaches.{each-append}
 use Rattle.law_log.proofs.Holds.{holds-judge, holds-start, holds-when}
 
 -- a held call of an update
 abbrev pub held_of : Update → Held
 held_of u = record { caller = u.caller; call = u.call; number = u.number; outcome = u.outcome }
-
-pub each-filter : {X : Type 0} (P : X → Type 0) (test : X → Bool) (xs : List X) → Each P xs → Each P (filter test xs)
-each-filter P test [] all = tt
-each-filter P test (x ∷ xs) all = by (test x) (each-filter P test xs all.1) where
-  by : (b : Bool) → Each P (filter test xs) → Each P (cond b (x ∷ filter test xs) (filter test xs))
-  by true rest = (all.0, rest)
-  by false rest = rest
 
 -- other calls held of partition e
 held-put : (P : Held → Type 0) (d e : ℕ) (p : Process) (ys : List Held) → Each P (held_at p d) → (d ≡ e → Each P ys) → Each P (held_at (with_held e ys p) d)

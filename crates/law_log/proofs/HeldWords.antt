@@ -3,6 +3,7 @@ use Rattle.std.specs.Prelude.{ℕ, ◌≡◌, ◌<◌, ◌≤◌, ◌-◌, false
 use Rattle.group_types.specs.Dimensions.{Dimensions}
 use Rattle.group_types.specs.Names.{IsProcess}
 use Rattle.group_types.specs.declared.process.ProcessId.{ProcessId}
+use Rattle.group_types.specs.Each.{Each}
 use Rattle.group_message.specs.declared.update.Update.{Update}
 use Rattle.group_run.specs.Applying.{head_at, held_at, replica_of}
 use Rattle.group_run.specs.Process.{Head, Held, Process}
@@ -10,7 +11,6 @@ use Rattle.group_run.specs.Replica.{Replica}
 use Rattle.law_moves.specs.Moves.{HoldsAlways}
 use Rattle.law_moves.specs.State.{State}
 use Rattle.law_histories.proofs.HistoryWords.{history}
-use Rattle.law_updates.specs.Each.{Each}
 use Rattle.law_log.specs.Stands.{IsSettledAs}
 
 -- a held call is of an update of a history

@@ -7,6 +7,7 @@ use Rattle.group_types.specs.Lists.{at}
 use Rattle.group_types.specs.Names.{IsProcess}
 use Rattle.group_types.specs.declared.process.ProcessId.{ProcessId}
 use Rattle.group_types.proofs.Lists.{at-replicate}
+use Rattle.group_types.specs.Each.{Each}
 use Rattle.memc_table.specs.Act.{key_of}
 use Rattle.memc_table.specs.Asked.{Asked}
 use Rattle.memc_table.specs.declared.reply.Reply.{Reply}
@@ -26,7 +27,6 @@ use Rattle.group_run.specs.Headline.{IsRun, MayCome}
 use Rattle.group_run.specs.History.{History}
 use Rattle.group_run.specs.Replica.{run_of}
 use Rattle.group_run.specs.World.{Call, World, after, call_of, group_step, next_name, node_of, step}
-use Rattle.law_updates.specs.Each.{Each}
 use Rattle.law_updates.specs.Right.{ruling_in}
 use Rattle.law_updates.specs.Store.{store_after}
 use Rattle.law_log.specs.Book.{Book, book_of, booked, no_book}

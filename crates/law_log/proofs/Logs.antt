@@ -7,6 +7,8 @@ use Rattle.group_types.specs.Dimensions.{Dimensions}
 use Rattle.group_types.specs.Hash.{home_of}
 use Rattle.group_types.specs.Lists.{at, put}
 use Rattle.group_types.specs.declared.run.Run.{Run}
+use Rattle.group_types.specs.Each.{Each, EachTwo}
+use Rattle.group_types.proofs.Eaches.{each-append, each-weaker, each-both, each_two-push}
 use Rattle.memc_table.specs.Act.{key_of}
 use Rattle.memc_table.specs.Asked.{Asked}
 use Rattle.memc_table.specs.Contents.{Contents, empty_table}
@@ -24,11 +26,9 @@ use Rattle.group_run.specs.Applying.{Settlement}
 use Rattle.group_run.specs.Asking.{reply_from}
 use Rattle.group_run.specs.History.{settled_after}
 use Rattle.group_run.specs.World.{Call, Ledger, Ticket, asked_after, grown, is_issued, ledger_after, logged_at_once, op_in, op_moved, ops_moved, refusal_logged, ticket_if, tickets_after, update_name}
-use Rattle.law_updates.specs.Each.{Each, EachTwo}
 use Rattle.law_updates.specs.Fine.{AreSteps, ComesBefore, IsStep}
 use Rattle.law_updates.specs.Right.{ruling_in}
 use Rattle.law_updates.specs.Store.{StoreFits, no_store, store_after}
-use Rattle.law_updates.proofs.Eaches.{each-append, each-both, each-weaker, each_two-push}
 use Rattle.law_log.specs.Book.{call_if, issued_by}
 use Rattle.law_log.proofs.Ties.{ArePlaced, AreTickets, EntryStands, HasEntry, LogStands, NamesDiffer, Ties, is_logged}
 use Rattle.law_log.proofs.Calls.{AreAsked, asked-more, asked-new, each-contained}

@@ -5,6 +5,8 @@ use Rattle.std.proofs.lemmas.Grind.{common_steps}
 use Rattle.std.proofs.lemmas.List.{drop-take, drop_all, drop_at, length-append, length-drop, length-take, length-take-le, take-append-drop, take_at}
 use Rattle.group_types.specs.Dimensions.{Dimensions}
 use Rattle.group_types.specs.Lists.{same_key}
+use Rattle.group_types.specs.Each.{Each}
+use Rattle.group_types.proofs.Eaches.{each-take, each-weaker, each-both}
 use Rattle.memc_table.specs.Act.{key_of}
 use Rattle.memc_table.specs.Asked.{Asked}
 use Rattle.memc_table.specs.Expiry.{live_at}
@@ -20,13 +22,11 @@ use Rattle.group_run.specs.Process.{Head, Process}
 use Rattle.group_run.specs.Replica.{Items, Replica, item_settled, items_after, number_on}
 use Rattle.group_run.specs.World.{Call}
 use Rattle.law_updates.specs.Decisions.{IsRefusal}
-use Rattle.law_updates.specs.Each.{Each}
 use Rattle.law_updates.specs.Fine.{AreClear, AreSteps}
 use Rattle.law_updates.proofs.Fine.{IsReplicaOf}
 use Rattle.law_updates.specs.Right.{ruling_in}
 use Rattle.law_updates.specs.Store.{Store, held, no_store, store_after, stored}
 use Rattle.law_updates.proofs.Clears.{number_on-none}
-use Rattle.law_updates.proofs.Eaches.{each-both, each-take, each-weaker}
 use Rattle.law_updates.proofs.Histories.{history-fits, steps-behind, steps-keep-held, steps-take, store-append}
 use Rattle.law_updates.proofs.Keys.{key-ne}
 use Rattle.law_log.specs.Stands.{HeadStands, history_at}

@@ -6,6 +6,7 @@ use Rattle.group_types.specs.Dimensions.{Dimensions}
 use Rattle.group_types.specs.Hash.{home_of}
 use Rattle.group_types.specs.Lists.{at}
 use Rattle.group_types.specs.declared.run.Run.{Run}
+use Rattle.group_types.specs.Each.{Each, EachTwo}
 use Rattle.memc_table.specs.Act.{key_of}
 use Rattle.memc_table.specs.Contents.{Contents, empty_table}
 use Rattle.group_message.specs.declared.update.Update.{Update}
@@ -15,7 +16,6 @@ use Rattle.group_calls.specs.declared.entry.Entry.{Entry}
 use Rattle.group_run.specs.Asking.{reply_from}
 use Rattle.group_run.specs.Replica.{run_of}
 use Rattle.group_run.specs.World.{Call, Ticket, same_call, update_name}
-use Rattle.law_updates.specs.Each.{Each, EachTwo}
 use Rattle.law_updates.specs.Store.{held, store_after}
 
 -- the table has for each key what the settled store of its home holds, and counts the settled updates

@@ -11,6 +11,7 @@ use Rattle.group_types.specs.Names.{IsProcess, of_rank, same_process}
 use Rattle.group_types.specs.declared.process.ProcessId.{ProcessId}
 use Rattle.group_types.specs.declared.process.ProcessId.TheVariants.{DataNode, ParityNode}
 use Rattle.group_types.proofs.Names.{same-cases, same-ne}
+use Rattle.group_types.specs.Each.{Each}
 use Rattle.membership.specs.Members.{knows_dead}
 use Rattle.group_message.specs.declared.message.Message.{Message}
 use Rattle.group_message.specs.declared.message.Message.TheVariants as tells
@@ -20,7 +21,6 @@ use Rattle.group_run.specs.Asking.{is_adopted}
 use Rattle.group_run.specs.Heading.{other_parities}
 use Rattle.group_run.specs.Process.{Head}
 use Rattle.law_moves.specs.State.{State}
-use Rattle.law_moves.specs.Members.{Each}
 use Rattle.law_moves.proofs.Members.{Members, Reigns}
 use Rattle.law_histories.proofs.Folding.{run, Along}
 use Rattle.law_histories.proofs.HistoryWords.{Begins, history}

@@ -8,6 +8,8 @@ use Rattle.group_types.specs.Dimensions.{Dimensions}
 use Rattle.group_types.specs.Lists.{at, put}
 use Rattle.group_types.specs.declared.process.ProcessId.{ProcessId}
 use Rattle.group_types.proofs.Lists.{at-put, at-put-other, at-replicate}
+use Rattle.group_types.specs.Each.{Each, EachTwo}
+use Rattle.group_types.proofs.Eaches.{each-append, each-weaker}
 use Rattle.memc_table.specs.Asked.{Asked}
 use Rattle.group_calls.specs.Turns.{CallName, Turn, asks_in, asks_of, entry_of, name_of}
 use Rattle.group_calls.specs.Within.{IsAsk, IsTaken}
@@ -19,8 +21,6 @@ use Rattle.group_run.specs.Asking.{reply_from}
 use Rattle.group_run.specs.Headline.{IsRun}
 use Rattle.group_run.specs.Replica.{callers}
 use Rattle.group_run.specs.World.{Call, World, asked_after, call_of, group_step, is_issued, step, turns_from, world_after, update_name}
-use Rattle.law_updates.specs.Each.{Each, EachTwo}
-use Rattle.law_updates.proofs.Eaches.{each-append, each-weaker}
 use Rattle.law_log.specs.Book.{Book, book_of, booked, call_if, issued_by}
 use Rattle.law_log.specs.Stands.{StandsAlways}
 use Rattle.law_log.proofs.Books.{book-framed, book_always}

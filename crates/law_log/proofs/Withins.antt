@@ -8,6 +8,7 @@ use Rattle.std.proofs.lemmas.Option.{slice_get_within, slice_get-get_or}
 use Rattle.group_types.specs.Dimensions.{Dimensions}
 use Rattle.group_types.specs.Hash.{home_of}
 use Rattle.group_types.specs.Lists.{at}
+use Rattle.group_types.specs.Each.{EachTwo}
 use Rattle.memc_table.specs.Act.{key_of}
 use Rattle.memc_table.specs.Asked.{Asked}
 use Rattle.memc_table.specs.declared.reply.Reply.{Reply}
@@ -21,7 +22,6 @@ use Rattle.law_moves.proofs.Reading.{grown-is}
 use Rattle.group_run.specs.Asking.{reply_from}
 use Rattle.group_run.specs.Headline.{IsRun, MayCome}
 use Rattle.group_run.specs.World.{World, after, group_step, next_name, opening, step, turns_of}
-use Rattle.law_updates.specs.Each.{EachTwo}
 use Rattle.law_log.specs.Book.{Book, book_of, booked, no_book}
 use Rattle.law_log.specs.Stands.{GoneStays, StandsAlways}
 use Rattle.law_log.proofs.Ties.{EntryStands, HasEntry, NamesDiffer}

@@ -6,6 +6,7 @@ use Rattle.group_types.specs.Dimensions.{Dimensions, space_of}
 use Rattle.group_types.specs.Hash.{home_of}
 use Rattle.group_types.specs.Lists.{at}
 use Rattle.group_types.specs.declared.run.Run.{Run}
+use Rattle.group_types.specs.Each.{Each}
 use Rattle.item_index.specs.declared.slot.Slot.{Slot}
 use Rattle.memc_table.specs.Contents.{empty_table}
 use Rattle.memc_table.specs.declared.holding.Holding.{Holding}
@@ -18,7 +19,6 @@ use Rattle.group_run.specs.Headline.{AreApart, HasItsValue, IsItem, IsRun, IsWri
 use Rattle.group_run.specs.Meaning.{Logged, count_logged, cut_after, run_on, space_from, table_at, updates_from, updates_of, values_after}
 use Rattle.group_run.specs.Replica.{Items, items_after, run_in, run_of, slot_in}
 use Rattle.group_run.specs.World.{Call, World, after}
-use Rattle.law_updates.specs.Each.{Each}
 use Rattle.law_updates.specs.Fine.{AreSteps, IsStep}
 use Rattle.law_updates.specs.Right.{IsBodyOf, IsPut}
 use Rattle.law_updates.specs.Store.{Store, StoreFits, held, held_in, no_store, store_after, store_from, stored}

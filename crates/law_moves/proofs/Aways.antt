@@ -8,6 +8,8 @@ use Rattle.group_types.specs.Hash.{fnv1a}
 use Rattle.group_types.specs.Names.{IsProcess, of_rank}
 use Rattle.group_types.specs.declared.process.ProcessId.{ProcessId}
 use Rattle.group_types.specs.declared.process.ProcessId.TheVariants.{DataNode, ParityNode}
+use Rattle.group_types.specs.Each.{Each}
+use Rattle.group_types.proofs.Eaches.{each-append, each-weaker}
 use Rattle.membership.specs.Members.{Membership, knows_dead}
 use Rattle.memc_table.specs.Act.{key_of}
 use Rattle.memc_table.specs.Asked.{Asked}
@@ -32,10 +34,8 @@ use Rattle.law_moves.specs.State.{state_of}
 use Rattle.law_moves.proofs.Events.{FramedHistory}
 use Rattle.law_moves.proofs.Runs.{framed-from, framed-opening, shape-from, world-from}
 use Rattle.law_moves.specs.Away.{AwayAlways, SentAway}
-use Rattle.law_moves.specs.Members.{Each}
 use Rattle.law_moves.proofs.Members.{EndsInNotice, Members, Reigns, Sits, Stands, is_notice, knows_lower, seat_of}
 use Rattle.law_moves.proofs.Calls.{seat-head, seat-known, seat-lower}
-use Rattle.law_moves.proofs.Eaches.{each-append, each-weaker}
 use Rattle.law_moves.proofs.Keeping.{ground_of, lower-each, members_always, seat-from}
 
 -- what is said of each message holds of one that stands there

@@ -1,5 +1,5 @@
 -- What a process sends when it treats a call: its core stays.
-use Rattle.std.proofs.Common.{ℕ, zero, suc, ◌≡◌, ◌<◌, ◌+◌, ◌==◌, ◌%◌, nat_le, Bool, true, false, not, ◌&&◌, List, [], ◌∷◌, map, filter, length, Option, Some, None, refl, sym, ap, subst, ◌∙◌, cond, arith}
+use Rattle.std.proofs.Common.{ℕ, zero, suc, ◌≡◌, ◌<◌, ◌+◌, ◌==◌, ◌%◌, nat_le, Bool, true, false, not, ◌&&◌, List, [], ◌∷◌, map, filter, Option, Some, None, refl, sym, ap, subst, ◌∙◌, cond, arith}
 use Rattle.std.specs.Prelude.{flat_map, find, option_map}
 use Rattle.std.specs.List.{list_all, list_any, range_with_len}
 use Rattle.group_types.specs.Dimensions.{Dimensions, space_of}
@@ -7,95 +7,57 @@ use Rattle.group_types.specs.Hash.{fnv1a, home_of}
 use Rattle.group_types.specs.Lists.{at}
 use Rattle.group_types.specs.declared.process.ProcessId.{ProcessId}
 use Rattle.group_types.specs.declared.process.ProcessId.TheVariants.{DataNode, ParityNode}
-use Rattle.group_types.specs.declared.run.Run.{Run}
-use Rattle.item_index.specs.declared.slot.Slot.{Slot}
+use Rattle.group_types.specs.Each.{Each}
+use Rattle.group_types.proofs.Eaches.{each-append, each-weaker, each-all, each-map}
 use Rattle.membership.specs.Members.{Membership, knows_dead}
 use Rattle.memc_table.specs.Act.{key_of}
 use Rattle.memc_table.specs.Asked.{Asked}
-use Rattle.memc_table.specs.declared.holding.Holding.{Holding}
-use Rattle.memc_table.specs.declared.reply.Reply.{Reply}
-use Rattle.memc_table.specs.declared.ruling.Ruling.{Ruling}
-use Rattle.memc_table.specs.declared.ruling.Ruling.TheVariants.{Refused, Accepted}
 use Rattle.group_message.specs.declared.message.Message.{Message}
 use Rattle.group_message.specs.declared.message.Message.TheVariants as tells
-use Rattle.group_message.specs.declared.update.Outcome.{Outcome}
 use Rattle.group_message.specs.declared.update.Update.{Update}
 use Rattle.group_calls.specs.Turns.{CallName}
 use Rattle.group_calls.specs.declared.decision.Decision.{Decision}
 use Rattle.group_calls.specs.declared.decision.Decision.TheVariants as decides
 use Rattle.group_run.specs.Applying.{ProcessStep, Sent, and_then, for_each, head_at, held_at, replica_of, sending, when, with_replica}
 use Rattle.group_run.specs.Asking.{CallStep, Oldest, act_on, ask_head, collect_from, collect_held, found_at, handed_out, is_call, issued, oldest_inherited, retry_block, ticketed, update_of}
-use Rattle.group_run.specs.Deciding.{Found, Bytes, Missing, decide, decide_accepted, decide_blind, decide_found, decide_left, decide_placed, decide_ruled, decide_waiting, decide_written, item_found, run_needed, blind_reply, length_of, ruling_with, unseen, waits_for, is_touch, outcome_of, window}
-use Rattle.group_run.specs.Free.{place_for}
+use Rattle.group_run.specs.Deciding.{decide}
 use Rattle.group_run.specs.Heading.{judge, rank, partition, tell_stable, to_others}
 use Rattle.group_run.specs.Leaders.{leader_marks, left_of, lost_of, own_mark, rows_of, session_of, session_opened, session_starts, start_session}
 use Rattle.group_run.specs.Process.{Head, Held, Process}
-use Rattle.group_run.specs.Replica.{Replica, number_on, slot_in, with_update}
+use Rattle.group_run.specs.Replica.{with_update}
 use Rattle.group_run.specs.Rows.{parity_number}
+use Rattle.group_run.proofs.Deciding.{decides-by}
 use Rattle.law_moves.proofs.Moves.{Treats, Asks, Collects, Flushes}
-use Rattle.law_moves.specs.Members.{Each}
 use Rattle.law_moves.proofs.Members.{IsParity, Sits, SitsWhen, knows_lower, seat_of}
 use Rattle.law_moves.proofs.Cores.{MaySend, SameCore, SentWell, Step, core-refl, core-trans, sent-kept, sent-others, step-each, step-judge, step-mark, step-quiet, step-then, step-when}
-use Rattle.law_moves.proofs.Eaches.{each-all, each-append, each-map, each-weaker}
 
 -- a call owes no acknowledgement
 abbrev pub Owes : ProcessId → ℕ → ℕ → Type 0
 Owes to r d = ⊥
 
 -- the decision wants a block
-abbrev Wants : Decision → Type 0
+abbrev pub Wants : Decision → Type 0
 Wants (decides.NeedBlock b) = Unit {0}
 Wants _ = ⊥
 
--- a head that finds every run never wants a block
-module _ (space : ℕ) (r : Replica) (op : Asked) (read : Run → Found) (finds : (run : Run) → (bytes : List ℕ) × (read run ≡ Bytes bytes)) where
-  written_wants_none : (outcome : Outcome) (h : Holding) (run : Run) (found : Found) → (bytes : List ℕ) × (found ≡ Bytes bytes) → ¬ (Wants (decide_written outcome h run found))
-  written_wants_none outcome h run (Bytes bytes) is wants = wants
-  written_wants_none outcome h run (Missing b) is wants = absurd (cc is.1)
-
-  placed_wants_none : (outcome : Outcome) (h : Holding) (run : Option Run) → ¬ (Wants (decide_placed read outcome h run))
-  placed_wants_none outcome h None wants = wants
-  placed_wants_none outcome h (Some run) wants = written_wants_none outcome h run (read run) (finds run) wants
-
-  left_wants_none : (outcome : Outcome) (touch : Bool) (left : Option Holding) → ¬ (Wants (decide_left space r read outcome touch left))
-  left_wants_none outcome touch None wants = wants
-  left_wants_none outcome true (Some h) wants = wants
-  left_wants_none outcome false (Some h) wants = placed_wants_none outcome h (place_for space r (length h.item.value)) wants
-
-  accepted_wants_none : (full : Bool) (decision : Decision) → ¬ (Wants decision) → ¬ (Wants (decide_accepted full r decision))
-  accepted_wants_none true decision none wants = wants
-  accepted_wants_none false decision none wants = none wants
-
-  ruled_wants_none : (ruling : Ruling) → ¬ (Wants (decide_ruled space r op read ruling))
-  ruled_wants_none (Refused reply) wants = wants
-  ruled_wants_none (Accepted reply leaves) wants =
-      accepted_wants_none (nat_le window (length r.log)) (decide_left space r read (outcome_of reply) (is_touch op.act) leaves) (left_wants_none (outcome_of reply) (is_touch op.act) leaves) wants
-
-  found_wants_none : (slot : Option Slot) (found : Found) → (bytes : List ℕ) × (found ≡ Bytes bytes) → ¬ (Wants (decide_found space r op read slot found))
-  found_wants_none slot (Bytes bytes) is wants = ruled_wants_none (ruling_with r op slot bytes) wants
-  found_wants_none slot (Missing b) is wants = absurd (cc is.1)
-
-  item_is_found : (slot : Option Slot) (run : Option Run) → (bytes : List ℕ) × (item_found read slot run ≡ Bytes bytes)
-  item_is_found slot None = (unseen slot, refl)
-  item_is_found slot (Some run) = finds run
-
-  blind_wants_none : (slot : Option Slot) (blind : Option Reply) → ¬ (Wants (decide_blind space r op read slot blind))
-  blind_wants_none slot (Some reply) wants = wants
-  blind_wants_none slot None wants = found_wants_none slot (item_found read slot (run_needed op slot)) (item_is_found slot (run_needed op slot)) wants
-
-  waiting_wants_none : (slot : Option Slot) (waits : Option ℕ) → ¬ (Wants (decide_waiting space r op read slot waits))
-  waiting_wants_none slot (Some n) wants = wants
-  waiting_wants_none slot None wants = blind_wants_none slot (blind_reply (length_of slot) (ruling_with r op slot (unseen slot))) wants
-
--- so a block is wanted at a parity process alone
-wants_at_parity : (s : Dimensions) (d inherited : ℕ) (op : Asked) (p : Process) (name : ProcessId) → Wants (decide (space_of s) inherited (replica_of p d) op (found_at s d p name)) → IsParity name
+-- a block is wanted at a parity process alone: a data process finds every run
+pub wants_at_parity : (s : Dimensions) (d inherited : ℕ) (op : Asked) (p : Process) (name : ProcessId) → Wants (decide (space_of s) inherited (replica_of p d) op (found_at s d p name)) → IsParity name
 wants_at_parity s d inherited op p (ParityNode i) wants = tt
 wants_at_parity s d inherited op p (DataNode e) wants =
-    waiting_wants_none (space_of s) (replica_of p d) op (found_at s d p (DataNode e)) (λ run. (_, refl))
-    (slot_in (replica_of p d).items (key_of op.act)) (waits_for inherited op.act (number_on (replica_of p d).log (key_of op.act))) wants
+    decides-by (space_of s) (replica_of p d) op (found_at s d p (DataNode e)) inherited (λ (decision : Decision). ¬ (Wants decision)) (record {
+      answers = λ reply none. none;
+      waits = λ n is none. none;
+      full = λ long none. none;
+      no_space = λ none. none;
+      item = λ run b needed missing wanted. cc missing;
+      place = λ len run b is missing wanted. cc missing;
+      removes = λ few outcome none. none;
+      touches = λ few h outcome none. none;
+      puts = λ few h run under outcome is none. none;
+    }) wants
 
 -- the members of a filtered list pass
-each-filter : (test : ℕ → Bool) (xs : List ℕ) (P : ℕ → Type 0) → Each P xs → Each (λ x. P x × (test x ≡ true)) (filter test xs)
+pub each-filter : (test : ℕ → Bool) (xs : List ℕ) (P : ℕ → Type 0) → Each P xs → Each (λ x. P x × (test x ≡ true)) (filter test xs)
 each-filter test [] P all = tt
 each-filter test (x ∷ xs) P all = by (test x) refl (each-filter test xs P all.1) where
   by : (b : Bool) → test x ≡ b → Each (λ y. P y × (test y ≡ true)) (filter test xs) → Each (λ y. P y × (test y ≡ true)) (cond b (x ∷ filter test xs) (filter test xs))

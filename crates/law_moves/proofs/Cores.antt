@@ -5,6 +5,8 @@ use Rattle.group_types.specs.Dimensions.{Dimensions}
 use Rattle.group_types.specs.Names.{same_process}
 use Rattle.group_types.specs.declared.process.ProcessId.{ProcessId}
 use Rattle.group_types.specs.declared.process.ProcessId.TheVariants.{ParityNode}
+use Rattle.group_types.specs.Each.{Each}
+use Rattle.group_types.proofs.Eaches.{each-append, each-weaker, each-all, each-map}
 use Rattle.group_message.specs.declared.message.Message.{Message}
 use Rattle.group_message.specs.declared.message.Message.TheVariants as tells
 use Rattle.group_run.specs.Applying.{ProcessStep, Sent, and_then, for_each, head_at, quiet, when, apply_to}
@@ -12,9 +14,7 @@ use Rattle.group_run.specs.Heading.{judge, judge_head, other_parities, to_others
 use Rattle.group_run.specs.Leaders.{copy_kept, copy_marked, mark_comes, mark_taken, row_finished}
 use Rattle.group_run.specs.Process.{Copy, Head, Process}
 use Rattle.group_run.specs.Rows.{accepts_mark, begin_copy, copy_begun, copy_in, is_marked, marked, with_copies, without_copy}
-use Rattle.law_moves.specs.Members.{Each}
 use Rattle.law_moves.proofs.Members.{IsData, IsParity, seat_of}
-use Rattle.law_moves.proofs.Eaches.{each-all, each-append, each-map, each-weaker}
 
 -- the parts of a process that say what it is among the members
 pub record SameCore (p q : Process) : Type 0 where

@@ -1,38 +1,13 @@
-use Rattle.std.proofs.Common.{ℕ, zero, suc, ◌≡◌, Bool, true, false, List, [], ◌∷◌, ◌++◌, take, map, refl, ap, subst}
+use Rattle.std.proofs.Common.{◌≡◌, Bool, true, false, List, [], ◌∷◌, ◌++◌, refl, ap, subst}
 use Rattle.group_types.specs.Names.{same_process}
 use Rattle.group_types.specs.declared.process.ProcessId.{ProcessId}
 use Rattle.group_types.proofs.Names.{same-eq}
+use Rattle.group_types.specs.Each.{Each}
 use Rattle.group_message.specs.declared.message.Message.{Message}
 use Rattle.group_message.specs.declared.message.Message.TheVariants as tells
 use Rattle.group_run.specs.Applying.{Sent}
 use Rattle.group_run.specs.World.{front_if, sent_to}
-use Rattle.law_moves.specs.Members.{Each}
 use Rattle.law_moves.proofs.Members.{EndsInNotice, IsPlain, Stands, is_notice}
-
-pub each-append : {X : Type 0} (P : X → Type 0) (xs ys : List X) → Each P xs → Each P ys → Each P (xs ++ ys)
-each-append P [] ys a b = b
-each-append P (x ∷ xs) ys a b = (a.0, each-append P xs ys a.1 b)
-
-pub each-take : {X : Type 0} (P : X → Type 0) (n : ℕ) (xs : List X) → Each P xs → Each P (take n xs)
-each-take P zero xs a = tt
-each-take P (suc n) [] a = tt
-each-take P (suc n) (x ∷ xs) a = (a.0, each-take P n xs a.1)
-
-pub each-weaker : {X : Type 0} (P Q : X → Type 0) → ((x : X) → P x → Q x) → (xs : List X) → Each P xs → Each Q xs
-each-weaker P Q turn [] a = tt
-each-weaker P Q turn (x ∷ xs) a = (turn x a.0, each-weaker P Q turn xs a.1)
-
-pub each-both : {X : Type 0} (P Q : X → Type 0) (xs : List X) → Each P xs → Each Q xs → Each (λ x. P x × Q x) xs
-each-both P Q [] a b = tt
-each-both P Q (x ∷ xs) a b = ((a.0, b.0), each-both P Q xs a.1 b.1)
-
-pub each-all : {X : Type 0} (P : X → Type 0) → ((x : X) → P x) → (xs : List X) → Each P xs
-each-all P every [] = tt
-each-all P every (x ∷ xs) = (every x, each-all P every xs)
-
-pub each-map : {X Y : Type 0} (P : Y → Type 0) (f : X → Y) (xs : List X) → Each (λ x. P (f x)) xs → Each P (map f xs)
-each-map P f [] a = tt
-each-map P f (x ∷ xs) a = (a.0, each-map P f xs a.1)
 
 -- what is said of each message that is sent, is said of each that goes to one process
 pub each-sent_to : (P : ProcessId → Message → Type 0) (q : ProcessId) (sent : List Sent) → Each (λ z. P z.to z.message) sent → Each (P q) (sent_to q sent)

@@ -12,6 +12,8 @@ use Rattle.group_types.specs.declared.process.ProcessId.{ProcessId}
 use Rattle.group_types.specs.declared.process.ProcessId.TheVariants.{DataNode, ParityNode}
 use Rattle.group_types.proofs.Lists.{at-put, at-put-other, at-replicate}
 use Rattle.group_types.proofs.Names.{same-cases}
+use Rattle.group_types.specs.Each.{Each}
+use Rattle.group_types.proofs.Eaches.{each-append, each-take, each-weaker}
 use Rattle.membership.specs.Members.{Membership, all_living, knows_dead, with_dead}
 use Rattle.group_message.specs.declared.message.Message.{Message}
 use Rattle.group_message.specs.declared.message.Message.TheVariants as tells
@@ -24,11 +26,10 @@ use Rattle.law_moves.specs.State.{IsUp, State}
 use Rattle.law_moves.proofs.State.{Opens}
 use Rattle.law_moves.proofs.Known.{knows-with_dead}
 use Rattle.law_moves.proofs.Runs.{holds_always}
-use Rattle.law_moves.specs.Members.{Each}
 use Rattle.law_moves.proofs.Members.{IsData, IsFrom, IsParity, IsPlain, MayStand, Members, MembersAlways, Reigns, Sits, SitsWhen, Stands, is_notice, knows_lower, seat_of}
 use Rattle.law_moves.proofs.Calls.{Owes, Seated, seat-known, seat-lower, seated-core, step-treats}
 use Rattle.law_moves.proofs.Cores.{KeepsSeats, MaySend, SentWell, Step}
-use Rattle.law_moves.proofs.Eaches.{each-append, each-sent_to, each-take, each-weaker, stands-notice, stands-popped}
+use Rattle.law_moves.proofs.Eaches.{each-sent_to, stands-notice, stands-popped}
 use Rattle.law_moves.proofs.Messages.{Brings, DueTo, MarksRow, Received, received}
 use Rattle.law_moves.proofs.Notices.{Noticed, knows-other, noticed}
 

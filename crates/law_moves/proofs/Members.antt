@@ -6,6 +6,7 @@ use Rattle.group_types.specs.Lists.{at}
 use Rattle.group_types.specs.Names.{IsProcess, of_rank}
 use Rattle.group_types.specs.declared.process.ProcessId.{ProcessId}
 use Rattle.group_types.specs.declared.process.ProcessId.TheVariants.{DataNode, ParityNode}
+use Rattle.group_types.specs.Each.{Each}
 use Rattle.membership.specs.Members.{Membership, knows_dead}
 use Rattle.group_message.specs.declared.message.Message.{Message}
 use Rattle.group_message.specs.declared.message.Message.TheVariants as tells
@@ -13,7 +14,6 @@ use Rattle.group_run.specs.Applying.{head_at}
 use Rattle.group_run.specs.Process.{Process}
 use Rattle.law_moves.specs.Moves.{HoldsAlways}
 use Rattle.law_moves.specs.State.{State}
-use Rattle.law_moves.specs.Members.{Each}
 
 -- the message tells of a death
 abbrev pub is_notice : Message → Bool

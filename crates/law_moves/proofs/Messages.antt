@@ -10,6 +10,7 @@ use Rattle.group_types.specs.Names.{IsProcess}
 use Rattle.group_types.specs.declared.process.ProcessId.{ProcessId}
 use Rattle.group_types.specs.declared.process.ProcessId.TheVariants.{DataNode, ParityNode}
 use Rattle.group_types.proofs.Lists.{at-put, at-put-other}
+use Rattle.group_types.proofs.Eaches.{each-all, each-map}
 use Rattle.group_message.specs.declared.message.Message.{Message}
 use Rattle.group_message.specs.declared.message.Message.TheVariants as tells
 use Rattle.group_message.specs.declared.message.Session.{Session}
@@ -22,7 +23,6 @@ use Rattle.group_run.specs.Rows.{parity_number}
 use Rattle.law_moves.proofs.Members.{IsData, IsParity, is_notice, seat_of}
 use Rattle.law_moves.proofs.Calls.{Seated, seat-head}
 use Rattle.law_moves.proofs.Cores.{MaySend, SameCore, SentWell, Step, core-refl, step-from, step-judge, step-mark, step-quiet, step-when}
-use Rattle.law_moves.proofs.Eaches.{each-all, each-map}
 
 -- the acknowledgement that a message asks for
 abbrev pub DueTo : ProcessId → Message → ProcessId → ℕ → ℕ → Type 0

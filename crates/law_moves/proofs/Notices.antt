@@ -8,6 +8,7 @@ use Rattle.group_types.specs.Lists.{at, put}
 use Rattle.group_types.specs.declared.process.ProcessId.{ProcessId}
 use Rattle.group_types.specs.declared.process.ProcessId.TheVariants.{DataNode, ParityNode}
 use Rattle.group_types.proofs.Lists.{at-put, at-put-other}
+use Rattle.group_types.proofs.Eaches.{each-append, each-all}
 use Rattle.membership.specs.Members.{Membership, knows_dead, with_dead}
 use Rattle.group_message.specs.declared.message.Message.{Message}
 use Rattle.group_message.specs.declared.message.Message.TheVariants as tells
@@ -20,7 +21,6 @@ use Rattle.group_run.specs.Rows.{parity_number}
 use Rattle.law_moves.proofs.Members.{Sits, SitsWhen, knows_lower, seat_of}
 use Rattle.law_moves.proofs.Calls.{Owes, Seated}
 use Rattle.law_moves.proofs.Cores.{KeepsSeats, MaySend, SameCore, SentWell, Step, core-refl, sent-kept, sent-others, step-each, step-judge, step-quiet, step-then}
-use Rattle.law_moves.proofs.Eaches.{each-all, each-append}
 
 -- the others are known as before
 pub knows-other : (known : Membership) (x y : ProcessId) → y ≢ x → knows_dead (with_dead known x) y ≡ knows_dead known y
@@ -42,7 +42,7 @@ knows-still known (ParityNode a) (ParityNode b) knows = by (cases_eq b a) where
 knows-still known (DataNode a) (ParityNode b) knows = knows
 knows-still known (ParityNode a) (DataNode b) knows = knows
 
-both : (a b : Bool) → (a && b) ≡ true → (a ≡ true) × (b ≡ true)
+pub both : (a b : Bool) → (a && b) ≡ true → (a ≡ true) × (b ≡ true)
 both true true e = (refl, refl)
 both true false e = cc e
 both false b e = cc e

@@ -5,6 +5,7 @@ use Rattle.group_types.specs.Names.{IsProcess}
 use Rattle.group_types.specs.Shape.{IsShape}
 use Rattle.group_types.specs.declared.process.ProcessId.{ProcessId}
 use Rattle.group_types.proofs.Names.{same-cases}
+use Rattle.group_types.specs.Each.{Each}
 use Rattle.membership.specs.Members.{knows_dead}
 use Rattle.group_message.specs.declared.message.Message.{Message}
 use Rattle.group_calls.specs.declared.event.Event.{Event}
@@ -18,7 +19,6 @@ use Rattle.group_run.specs.World.{World, after, sent_to}
 use Rattle.law_moves.proofs.Moves.{Acted, Keeps, Popped}
 use Rattle.law_moves.specs.State.{State, state_of}
 use Rattle.law_moves.proofs.Runs.{holds_always, shape-from, world-from}
-use Rattle.law_moves.specs.Members.{Each}
 use Rattle.law_moves.proofs.Members.{MayStand, Members}
 use Rattle.law_moves.proofs.Keeping as members
 use Rattle.law_progress.proofs.Outward.{Others, none-to, received-out, treated-out}

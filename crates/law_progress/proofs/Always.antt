@@ -5,6 +5,7 @@ use Rattle.group_types.specs.Lists.{at}
 use Rattle.group_types.specs.Names.{IsProcess, index_of}
 use Rattle.group_types.specs.Shape.{IsShape}
 use Rattle.group_types.specs.declared.process.ProcessId.{ProcessId}
+use Rattle.group_types.specs.Each.{Each}
 use Rattle.group_message.specs.declared.message.Message.{Message}
 use Rattle.group_message.specs.declared.message.Message.TheVariants as tells
 use Rattle.group_calls.specs.declared.event.Answer.TheVariants as says
@@ -23,7 +24,6 @@ use Rattle.law_moves.proofs.Events.{FramedHistory}
 use Rattle.law_moves.proofs.Reading.{node-other, size-with_node}
 use Rattle.law_moves.proofs.Runs.{framed-from, framed-opening, shape-from, world-from}
 use Rattle.law_moves.proofs.Steps.{popped}
-use Rattle.law_moves.specs.Members.{Each}
 use Rattle.law_log.specs.Book.{no_book}
 use Rattle.law_log.proofs.Books.{book-history}
 use Rattle.law_headline.proofs.Sound.{LinksSound, Sound}

@@ -6,11 +6,11 @@ use Rattle.group_types.specs.Names.{IsProcess}
 use Rattle.group_types.specs.declared.process.ProcessId.{ProcessId}
 use Rattle.group_types.specs.declared.process.ProcessId.TheVariants.{DataNode, ParityNode}
 use Rattle.group_types.proofs.Lists.{at-replicate}
+use Rattle.group_types.specs.Each.{Each}
 use Rattle.group_message.specs.declared.message.Message.{Message}
 use Rattle.group_run.specs.Process.{Process, opening_process}
 use Rattle.law_moves.specs.State.{State}
 use Rattle.law_moves.proofs.State.{Opens}
-use Rattle.law_moves.specs.Members.{Each}
 use Rattle.law_progress.proofs.Waiting.{Has, IsAsk, IsMark, WantsBlock, WantsRow, marks_in}
 use Rattle.law_progress.proofs.Holding.{AskThere, CopyThere, Ending, MarkThere, Pending}
 use Rattle.law_progress.proofs.Sides.{Fresh, LeaderFine, Leaves, RowFine, opened}

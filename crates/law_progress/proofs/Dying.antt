@@ -6,12 +6,12 @@ use Rattle.group_types.specs.Names.{IsProcess}
 use Rattle.group_types.specs.declared.process.ProcessId.{ProcessId}
 use Rattle.group_types.specs.declared.process.ProcessId.TheVariants.{DataNode, ParityNode}
 use Rattle.group_types.proofs.Names.{same-cases}
+use Rattle.group_types.specs.Each.{Each}
 use Rattle.membership.specs.Members.{knows_dead}
 use Rattle.group_message.specs.declared.message.Message.TheVariants as tells
 use Rattle.group_run.specs.Process.{Process}
 use Rattle.law_moves.proofs.Moves.{Died}
 use Rattle.law_moves.specs.State.{State}
-use Rattle.law_moves.specs.Members.{Each}
 use Rattle.law_progress.proofs.Waiting.{Asked, BlockComes, Copied, Given, Has, IsAsk, IsBlock, IsMark, IsRead, IsRow, Marked, Marking, RowComes, WantsBlock, WantsRow, marks_in}
 use Rattle.law_progress.proofs.Holding.{AskThere, CopyThere, Ended, Ending, MarkThere, Pending}
 use Rattle.law_progress.proofs.Sides.{Fresh, IsCease, LeaderFine, Leaves, RowFine, opened}

@@ -6,11 +6,11 @@ use Rattle.group_types.specs.Lists.{at}
 use Rattle.group_types.specs.Names.{IsProcess}
 use Rattle.group_types.specs.declared.process.ProcessId.{ProcessId}
 use Rattle.group_types.specs.declared.process.ProcessId.TheVariants.{DataNode, ParityNode}
+use Rattle.group_types.specs.Each.{Each}
 use Rattle.group_message.specs.declared.message.Message.{Message}
 use Rattle.group_run.specs.Applying.{ProcessStep}
 use Rattle.law_moves.proofs.Moves.{Acted}
 use Rattle.law_moves.specs.State.{State}
-use Rattle.law_moves.specs.Members.{Each}
 use Rattle.law_moves.proofs.Members.{Members}
 use Rattle.law_bytes.proofs.Tokens.{Token, is_token, tokens}
 use Rattle.law_progress.proofs.Waiting.{Has, IsAsk, IsMark, WantsRow, Waited, marks_in}

@@ -9,6 +9,7 @@ use Rattle.group_types.specs.Shape.{IsShape}
 use Rattle.group_types.specs.declared.process.ProcessId.{ProcessId}
 use Rattle.group_types.specs.declared.process.ProcessId.TheVariants.{DataNode, ParityNode}
 use Rattle.group_types.proofs.Names.{same-cases}
+use Rattle.group_types.specs.Each.{Each}
 use Rattle.membership.specs.Members.{knows_dead}
 use Rattle.group_message.specs.declared.message.Message.{Message}
 use Rattle.group_message.specs.declared.message.Message.TheVariants as tells
@@ -20,7 +21,6 @@ use Rattle.law_moves.proofs.Moves.{Acted, Keeps, Popped, Treats}
 use Rattle.law_moves.specs.State.{State}
 use Rattle.law_histories.proofs.Folding.{Along}
 use Rattle.law_histories.proofs.LaneWords.{Goes as LaneGoes, is_live, next}
-use Rattle.law_moves.specs.Members.{Each}
 use Rattle.law_moves.proofs.Members.{IsData, IsFrom, MayStand, Members}
 use Rattle.law_moves.proofs.Keeping.{known-is-dead, living-unknown}
 use Rattle.law_histories.proofs.Reach.{Any, Reach, seen_at}

@@ -7,6 +7,8 @@ use Rattle.group_types.specs.Hash.{fnv1a, home_of}
 use Rattle.group_types.specs.Names.{IsProcess}
 use Rattle.group_types.specs.declared.process.ProcessId.{ProcessId}
 use Rattle.group_types.specs.declared.process.ProcessId.TheVariants.{DataNode, ParityNode}
+use Rattle.group_types.specs.Each.{Each}
+use Rattle.group_types.proofs.Eaches.{each-append, each-all, each-map}
 use Rattle.membership.specs.Members.{knows_dead}
 use Rattle.memc_table.specs.Act.{key_of}
 use Rattle.memc_table.specs.Asked.{Asked}
@@ -25,10 +27,8 @@ use Rattle.group_run.specs.Receiving.{enthroned, take_over_if, taken_over, takes
 use Rattle.group_run.specs.Replica.{with_update}
 use Rattle.group_run.specs.Rows.{parity_number}
 use Rattle.law_moves.proofs.Moves.{Asks, Collects, Flushes, Treats}
-use Rattle.law_moves.specs.Members.{Each}
 use Rattle.law_moves.proofs.Calls.{Owes, Seated, step-treats}
 use Rattle.law_moves.proofs.Cores.{SentWell}
-use Rattle.law_moves.proofs.Eaches.{each-all, each-append, each-map}
 use Rattle.law_bytes.proofs.Unasked.{never-asks}
 use Rattle.law_answers.proofs.Awaited.{kept-apply}
 use Rattle.law_progress.proofs.Waiting.{Has, IsAsk, IsBlock, IsMark, IsRead, IsRow, marks_in}

@@ -7,6 +7,8 @@ use Rattle.group_types.specs.Names.{IsProcess}
 use Rattle.group_types.specs.declared.process.ProcessId.{ProcessId}
 use Rattle.group_types.specs.declared.process.ProcessId.TheVariants.{DataNode, ParityNode}
 use Rattle.group_types.proofs.Names.{same-cases}
+use Rattle.group_types.specs.Each.{Each}
+use Rattle.group_types.proofs.Eaches.{each-append}
 use Rattle.membership.specs.Members.{knows_dead}
 use Rattle.group_message.specs.declared.message.Message.{Message}
 use Rattle.group_message.specs.declared.message.Message.TheVariants as tells
@@ -14,9 +16,8 @@ use Rattle.group_run.specs.Applying.{ProcessStep}
 use Rattle.group_run.specs.Process.{Gathering, Process}
 use Rattle.group_run.specs.World.{sent_to}
 use Rattle.law_moves.specs.State.{State}
-use Rattle.law_moves.specs.Members.{Each}
 use Rattle.law_moves.proofs.Members.{MayStand}
-use Rattle.law_moves.proofs.Eaches.{each-append, each-sent_to}
+use Rattle.law_moves.proofs.Eaches.{each-sent_to}
 use Rattle.law_bytes.proofs.Tokens.{Row, at_process, in_copy, is_token, one_if, tokens}
 use Rattle.law_bytes.proofs.TokensKeeping.{unknown}
 use Rattle.law_bytes.proofs.Nothing.{link-none, token}

@@ -8,6 +8,8 @@ use Rattle.group_types.specs.Names.{same_process}
 use Rattle.group_types.specs.declared.process.ProcessId.{ProcessId}
 use Rattle.group_types.specs.declared.process.ProcessId.TheVariants.{DataNode, ParityNode}
 use Rattle.group_types.proofs.Names.{same-ne}
+use Rattle.group_types.specs.Each.{Each}
+use Rattle.group_types.proofs.Eaches.{each-append, each-all, each-map}
 use Rattle.membership.specs.Members.{knows_dead, with_dead}
 use Rattle.group_message.specs.declared.message.Message.{Message}
 use Rattle.group_message.specs.declared.message.Message.TheVariants as tells
@@ -18,8 +20,6 @@ use Rattle.group_run.specs.Process.{Copy, Gathering, Process}
 use Rattle.group_run.specs.Receiving.{death_known, notice_comes, take_over_if}
 use Rattle.group_run.specs.Rows.{copies_ceased, is_copy, leader_forgotten, parity_number}
 use Rattle.law_moves.proofs.Known.{knows-with_dead}
-use Rattle.law_moves.specs.Members.{Each}
-use Rattle.law_moves.proofs.Eaches.{each-all, each-append, each-map}
 use Rattle.law_bytes.proofs.Finding.{found-filter}
 use Rattle.law_bytes.proofs.Local.{copy-parts}
 use Rattle.law_progress.proofs.Waiting.{Has, IsAsk, IsMark, Marked, WantsBlock, WantsRow, marks_in}

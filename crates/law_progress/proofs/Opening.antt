@@ -8,6 +8,8 @@ use Rattle.group_types.specs.Lists.{at}
 use Rattle.group_types.specs.declared.process.ProcessId.{ProcessId}
 use Rattle.group_types.specs.declared.process.ProcessId.TheVariants.{DataNode, ParityNode}
 use Rattle.group_types.proofs.Lists.{at-replicate}
+use Rattle.group_types.specs.Each.{Each}
+use Rattle.group_types.proofs.Eaches.{each-append, each-all, each-map, each-filter}
 use Rattle.membership.specs.Members.{knows_dead}
 use Rattle.group_message.specs.declared.message.Message.{Message}
 use Rattle.group_message.specs.declared.message.Message.TheVariants as tells
@@ -16,11 +18,8 @@ use Rattle.group_run.specs.Heading.{partition, rank}
 use Rattle.group_run.specs.Leaders.{is_complete, leader_marks, left_of, lost_of, new_session, own_mark, rows_of, session_of, session_opened, session_starts, start_session}
 use Rattle.group_run.specs.Process.{Gathering, Process}
 use Rattle.group_run.specs.Rows.{parity_number}
-use Rattle.law_moves.specs.Members.{Each}
 use Rattle.law_moves.proofs.Calls.{each-below}
-use Rattle.law_moves.proofs.Eaches.{each-all, each-append, each-map}
 use Rattle.law_bytes.proofs.Finding.{and-split, true-false}
-use Rattle.law_bytes.proofs.Finds.{each-filter}
 use Rattle.law_bytes.proofs.Stamps.{OfSession}
 use Rattle.law_progress.proofs.Waiting.{Has, IsAsk, IsMark, IsRead, Marked, WantsBlock, WantsRow, marks_in}
 use Rattle.law_progress.proofs.Gathering.{one-of-all}

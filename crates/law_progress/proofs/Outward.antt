@@ -10,6 +10,8 @@ use Rattle.group_types.specs.Names.{same_process}
 use Rattle.group_types.specs.declared.process.ProcessId.{ProcessId}
 use Rattle.group_types.specs.declared.process.ProcessId.TheVariants.{DataNode, ParityNode}
 use Rattle.group_types.proofs.Names.{same-ne, same-refl}
+use Rattle.group_types.specs.Each.{Each}
+use Rattle.group_types.proofs.Eaches.{each-append, each-all, each-map}
 use Rattle.membership.specs.Members.{Membership, knows_dead}
 use Rattle.memc_table.specs.Act.{key_of}
 use Rattle.memc_table.specs.Asked.{Asked}
@@ -33,11 +35,9 @@ use Rattle.group_run.specs.Rows.{accepts_mark, begin_copy, copy_begun, copy_in, 
 use Rattle.group_run.specs.World.{front_if, sent_to}
 use Rattle.law_moves.proofs.Moves.{Asks, Collects, Flushes, Treats}
 use Rattle.law_moves.specs.State.{State}
-use Rattle.law_moves.specs.Members.{Each}
-use Rattle.law_moves.proofs.Members.{MayStand}
-use Rattle.law_moves.proofs.Eaches.{each-all, each-append, each-map}
+use Rattle.law_moves.proofs.Members.{MayStand, IsParity}
 use Rattle.law_histories.proofs.Deciding.{RestsWell, decides-well}
-use Rattle.law_answers.proofs.Starting.{HasRow, missing-row, row-named}
+use Rattle.law_answers.proofs.Starting.{missing-row, row-named}
 
 -- no message of these goes to x
 abbrev pub Others : ProcessId → List Sent → Type 0
@@ -143,7 +143,7 @@ module _ (x : ProcessId) where
         (flat-others (leader_marks s leader number block p) (lost_of s p)
         (λ l. each-map (λ z. z.to ≢ x) (marks l) (filter (λ i. not (i == leader)) (rows_of s p)) (marks-others leader number block p l (rows_of s p) own)))
 
-    out-start : (block : ℕ) (p : Process) → p.name ≡ x → HasRow p.name → Outward (start_session s block p)
+    out-start : (block : ℕ) (p : Process) → p.name ≡ x → IsParity p.name → Outward (start_session s block p)
     out-start block p name parity =
         let leader : ℕ = parity_number p.name in
         let number : ℕ = suc p.as_leader.last_session in
@@ -153,7 +153,7 @@ module _ (x : ProcessId) where
         (λ l q own. out-mark leader number (at 0 q.ranks l) block l (replica_of q l).applied q own))
 
     -- a call that is asked
-    out-retry : (block : ℕ) (o : Option Oldest) (p : Process) → p.name ≡ x → HasRow p.name → Outward (retry_block s block o p).step
+    out-retry : (block : ℕ) (o : Option Oldest) (p : Process) → p.name ≡ x → IsParity p.name → Outward (retry_block s block o p).step
     out-retry block (Some o) p name parity = out-quiet p name
     out-retry block None p name parity = out-when (not (list_any (λ g. g.block == block) p.as_leader.sessions)) p (start_session s block p) name (out-start block p name parity)
 
@@ -167,7 +167,7 @@ module _ (x : ProcessId) where
         let m : Message = tells.Update (rank h.rank) (partition d) u (replica_of p d).applied in
         out-then (sending (to_others s p m) told) (judge s d) (record { name = name; others = to-others s p m name }) (out-judge s d told name)
 
-    out-act : (name : CallName) (op : Asked) (d : ℕ) (h : Head) (p : Process) (decision : Decision) → p.name ≡ x → RestsWell (replica_of p d) (HasRow p.name) decision
+    out-act : (name : CallName) (op : Asked) (d : ℕ) (h : Head) (p : Process) (decision : Decision) → p.name ≡ x → RestsWell (replica_of p d) (IsParity p.name) decision
         → Outward (act_on s name op d h p decision).step
     out-act name op d h p (decides.Answer reply) own well = out-quiet p own
     out-act name op d h p (decides.Retry n) own well = out-quiet p own
@@ -181,7 +181,7 @@ module _ (x : ProcessId) where
     out-ask name op d p None own = out-quiet p own
     out-ask name op d p (Some h) own =
         out-act name op d h p (decide (space_of s) h.inherited (replica_of p d) op (found_at s d p p.name)) own
-        (decides-well (space_of s) (replica_of p d) op (found_at s d p p.name) (HasRow p.name) (missing-row s d p p.name) h.inherited)
+        (decides-well (space_of s) (replica_of p d) op (found_at s d p p.name) (IsParity p.name) (missing-row s d p p.name) h.inherited)
 
     out-collect : (caller call : ℕ) (p : Process) (ds : List ℕ) → p.name ≡ x → Outward (collect_from caller call p ds).step
     out-collect caller call p [] own = out-quiet p own

@@ -8,6 +8,7 @@ use Rattle.group_types.specs.Lists.{at}
 use Rattle.group_types.specs.Names.{IsProcess}
 use Rattle.group_types.specs.declared.process.ProcessId.{ProcessId}
 use Rattle.group_types.specs.declared.process.ProcessId.TheVariants.{DataNode, ParityNode}
+use Rattle.group_types.specs.Each.{Each}
 use Rattle.membership.specs.Members.{knows_dead}
 use Rattle.group_message.specs.declared.message.Message.{Message}
 use Rattle.group_calls.specs.declared.event.Event.{Event}
@@ -19,7 +20,6 @@ use Rattle.group_run.specs.Rows.{copy_in}
 use Rattle.group_run.specs.World.{World, after}
 use Rattle.law_moves.specs.State.{State, state_of}
 use Rattle.law_moves.proofs.Runs.{holds_always, shape-from, world-from}
-use Rattle.law_moves.specs.Members.{Each}
 use Rattle.law_bytes.proofs.Finding.{and-join}
 use Rattle.law_bytes.proofs.Finds.{found-each}
 use Rattle.law_bytes.proofs.LeadingWords.{IsFor, SessionsFit, left_by, lost_by}

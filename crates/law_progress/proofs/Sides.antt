@@ -5,6 +5,7 @@ use Rattle.group_types.specs.Dimensions.{Dimensions}
 use Rattle.group_types.specs.Lists.{at}
 use Rattle.group_types.specs.declared.process.ProcessId.{ProcessId}
 use Rattle.group_types.specs.declared.process.ProcessId.TheVariants.{DataNode, ParityNode}
+use Rattle.group_types.specs.Each.{Each}
 use Rattle.membership.specs.Members.{knows_dead}
 use Rattle.group_message.specs.declared.message.Message.{Message}
 use Rattle.group_message.specs.declared.message.Message.TheVariants as tells
@@ -14,7 +15,6 @@ use Rattle.group_run.specs.Leaders.{is_complete, open_session}
 use Rattle.group_run.specs.Process.{Copy, Gathering, Process}
 use Rattle.group_run.specs.Replica.{up_to}
 use Rattle.group_run.specs.Rows.{accepts_mark, copy_in, is_copy, parity_number}
-use Rattle.law_moves.specs.Members.{Each}
 use Rattle.law_bytes.proofs.Finding.{found-map}
 use Rattle.law_bytes.proofs.Marking.{copy-mark, copy-test}
 use Rattle.law_progress.proofs.Waiting.{Has, IsAsk, IsBlock, IsMark, IsRead, IsRow, Marked, WantsBlock, WantsRow, marks_in}

@@ -6,12 +6,12 @@ use Rattle.group_types.specs.Names.{IsProcess, same_process}
 use Rattle.group_types.specs.declared.process.ProcessId.{ProcessId}
 use Rattle.group_types.specs.declared.process.ProcessId.TheVariants.{DataNode, ParityNode}
 use Rattle.group_types.proofs.Names.{same-cases, same-ne, same-refl}
+use Rattle.group_types.specs.Each.{Each}
 use Rattle.group_message.specs.declared.message.Message.{Message}
 use Rattle.group_message.specs.declared.message.Message.TheVariants as tells
 use Rattle.group_run.specs.Process.{Copy}
 use Rattle.group_run.specs.Rows.{copy_in}
 use Rattle.law_moves.specs.State.{State}
-use Rattle.law_moves.specs.Members.{Each}
 use Rattle.law_bytes.proofs.Finding.{and-join}
 use Rattle.law_bytes.proofs.Tokens.{Row, Token, around, at_process, between, everyone, in_copy, in_link, is_marked_in, is_token, one_if, sum_of, tokens}
 use Rattle.law_bytes.proofs.Sums.{Within, sum-less, within-everyone}

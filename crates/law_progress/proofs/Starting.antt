@@ -7,13 +7,13 @@ use Rattle.std.specs.List.{range_with_len}
 use Rattle.group_types.specs.Dimensions.{Dimensions}
 use Rattle.group_types.specs.Lists.{at}
 use Rattle.group_types.specs.declared.process.ProcessId.TheVariants.{ParityNode}
+use Rattle.group_types.specs.Each.{Each}
+use Rattle.group_types.proofs.Eaches.{each-append}
 use Rattle.membership.specs.Members.{knows_dead}
 use Rattle.group_run.specs.Applying.{ProcessStep, and_then, for_each, quiet, replica_of, when}
 use Rattle.group_run.specs.Leaders.{mark_taken, own_mark}
 use Rattle.group_run.specs.Process.{Process}
 use Rattle.group_run.specs.Rows.{accepts_mark}
-use Rattle.law_moves.specs.Members.{Each}
-use Rattle.law_moves.proofs.Eaches.{each-append}
 use Rattle.law_bytes.proofs.Finding.{and-join}
 use Rattle.law_progress.proofs.Waiting.{Has, Marked, WantsBlock, WantsRow, marks_in}
 use Rattle.law_progress.proofs.Marking.{Goes, Outcome, Own, Takes, Waits, mark-takes}

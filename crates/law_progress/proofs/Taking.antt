@@ -6,6 +6,8 @@ use Rattle.group_types.specs.Dimensions.{Dimensions}
 use Rattle.group_types.specs.Lists.{at}
 use Rattle.group_types.specs.declared.process.ProcessId.{ProcessId}
 use Rattle.group_types.specs.declared.process.ProcessId.TheVariants.{DataNode, ParityNode}
+use Rattle.group_types.specs.Each.{Each}
+use Rattle.group_types.proofs.Eaches.{each-all, each-map}
 use Rattle.membership.specs.Members.{knows_dead}
 use Rattle.group_message.specs.declared.message.Message.{Message}
 use Rattle.group_message.specs.declared.message.Message.TheVariants as tells
@@ -16,8 +18,6 @@ use Rattle.group_run.specs.Leaders.{mark_comes, mark_taken}
 use Rattle.group_run.specs.Process.{Process}
 use Rattle.group_run.specs.Receiving.{data_marks, read_comes, receive}
 use Rattle.group_run.specs.Rows.{accepts_mark, parity_number}
-use Rattle.law_moves.specs.Members.{Each}
-use Rattle.law_moves.proofs.Eaches.{each-all, each-map}
 use Rattle.law_bytes.proofs.Finding.{and-split}
 use Rattle.law_bytes.proofs.Stamps.{OfSession}
 use Rattle.law_progress.proofs.Waiting.{Has, IsAsk, IsBlock, IsMark, IsRead, IsRow, Marked, WantsRow, marks_in}

@@ -5,6 +5,8 @@ use Rattle.std.specs.List.{list_any}
 use Rattle.std.proofs.lemmas.Grind.{common_steps}
 use Rattle.group_types.specs.Lists.{same_key}
 use Rattle.group_types.specs.declared.run.Run.{Run}
+use Rattle.group_types.specs.Each.{Each}
+use Rattle.group_types.proofs.Eaches.{each-append, each-take, each-weaker, each-middle, each-every}
 use Rattle.item_index.specs.declared.slot.Slot.{Slot}
 use Rattle.group_message.specs.declared.update.Body.{Body}
 use Rattle.group_message.specs.declared.update.Body.TheVariants.{Put, Remove, Touch}
@@ -13,10 +15,8 @@ use Rattle.run_alloc.specs.Free.{AllFree}
 use Rattle.group_run.specs.Free.{in_run, in_some_run, is_free}
 use Rattle.group_run.specs.Headline.{AreApart}
 use Rattle.group_run.specs.Replica.{Items, Replica, freed_by, item_settled, items_after, number_on, run_in, run_of, slot_after, slot_in}
-use Rattle.law_updates.specs.Each.{Each}
 use Rattle.law_updates.specs.Fine.{AreClear}
 use Rattle.law_updates.specs.Right.{IsClear, WritesClear}
-use Rattle.law_updates.proofs.Eaches.{each-append, each-every, each-middle, each-take, each-weaker}
 use Rattle.law_updates.proofs.Keys.{OfSlot, each-slot, each-with, key-differs, key-refl, slot_in-with}
 use Rattle.law_updates.proofs.Spaces.{in_run-is}
 

@@ -8,6 +8,8 @@ use Rattle.field_byte.specs.Vectors.{add_bytes}
 use Rattle.erasure_code.specs.Spaces.{bytes_at}
 use Rattle.group_types.specs.Dimensions.{Dimensions, space_of}
 use Rattle.group_types.specs.declared.run.Run.{Run}
+use Rattle.group_types.specs.Each.{Each}
+use Rattle.group_types.proofs.Eaches.{each_two-push, each_two-take}
 use Rattle.memc_table.specs.Act.{key_of}
 use Rattle.memc_table.specs.Asked.{Asked}
 use Rattle.memc_table.specs.Expiry.{live_at}
@@ -29,7 +31,6 @@ use Rattle.group_run.specs.Headline.{AreApart}
 use Rattle.group_run.specs.Replica.{Items, Replica, callers, freed_by, items_after, last_of, run_in, run_of, slot_in, with_update}
 use Rattle.group_run.specs.World.{Call, update_name}
 use Rattle.law_updates.specs.Decisions.{IsIssue, IsPlacedBody, IsSound}
-use Rattle.law_updates.specs.Each.{Each}
 use Rattle.law_updates.specs.Fine.{AreClear, AreSteps, ComesBefore, Fine, IsCallOf, IsStep}
 use Rattle.law_updates.proofs.Fine.{ComesBehind, IsReplicaOf}
 use Rattle.law_updates.proofs.Laws.{FineHistoriesFit, HistoriesAreFine, IssuesAreFine, WritesBytes}
@@ -37,7 +38,6 @@ use Rattle.law_updates.specs.Right.{IsBodyOf, IsClear, IsRight}
 use Rattle.law_updates.specs.Store.{Store, StoreFits, held, no_store, store_after, store_from, stored}
 use Rattle.law_updates.proofs.Clears.{WritesApart, after-clear, apart-before, clear-at, clear-drop, clear-free, clear-push, clear-take, free-apart, free-clear, freed-apart, number_on-none}
 use Rattle.law_updates.proofs.Decides.{decisions_are_sound}
-use Rattle.law_updates.proofs.Eaches.{each_two-push, each_two-take}
 use Rattle.law_updates.proofs.Histories.{history-fits, items-append, step-writes, steps-behind, steps-each, steps-keep-bytes, steps-keep-held, steps-keep-slot, steps-more, steps-push, steps-take, store-append, store-items}
 use Rattle.law_updates.proofs.Keys.{each-slot}
 use Rattle.law_updates.proofs.Steps.{no_store-fits, right-bytes}

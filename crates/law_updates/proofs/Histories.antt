@@ -8,6 +8,7 @@ use Rattle.erasure_code.specs.Spaces.{bytes_at}
 use Rattle.group_types.specs.Dimensions.{Dimensions, space_of}
 use Rattle.group_types.specs.declared.process.ProcessId.TheVariants.{DataNode}
 use Rattle.group_types.specs.declared.run.Run.{Run}
+use Rattle.group_types.specs.Each.{Each}
 use Rattle.memc_table.specs.declared.holding.Holding.{Holding}
 use Rattle.group_message.specs.declared.update.Body.{Body}
 use Rattle.group_message.specs.declared.update.Body.TheVariants.{Put, Remove, Touch}
@@ -18,7 +19,6 @@ use Rattle.group_run.specs.Fitting.{Writes}
 use Rattle.group_run.specs.Headline.{AreApart}
 use Rattle.group_run.specs.Replica.{Items, item_settled, items_after, run_of, slot_after, slot_in}
 use Rattle.group_run.specs.World.{Call}
-use Rattle.law_updates.specs.Each.{Each}
 use Rattle.law_updates.specs.Fine.{AreSteps, IsStep}
 use Rattle.law_updates.specs.Right.{IsBodyOf}
 use Rattle.law_updates.specs.Store.{Store, StoreFits, held, no_store, store_after, store_from, stored}

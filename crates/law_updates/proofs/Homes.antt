@@ -13,10 +13,10 @@ use Rattle.std.specs.declared.cmp.Ordering.{Ordering}
 use Rattle.std.specs.declared.cmp.Ordering.TheVariants.{Less, Equal, Greater}
 use Rattle.group_types.specs.Hash.{home_of}
 use Rattle.group_types.specs.Lists.{same_key}
+use Rattle.group_types.specs.Each.{Each}
 use Rattle.item_index.specs.declared.slot.Slot.{Slot}
 use Rattle.group_message.specs.declared.update.Update.{Update}
 use Rattle.group_run.specs.Replica.{Items, item_settled, items_after, slot_after, slot_in, with_slot}
-use Rattle.law_updates.specs.Each.{Each}
 use Rattle.law_updates.proofs.Laws.{FineHistoriesLeaveItems}
 use Rattle.law_updates.specs.Store.{no_store}
 use Rattle.law_updates.proofs.Histories.{steps-each, steps-take}

@@ -10,9 +10,9 @@ use Rattle.std.specs.Ordering.{nat_cmp, is_eq}
 use Rattle.std.specs.declared.cmp.Ordering.{Ordering}
 use Rattle.std.specs.declared.cmp.Ordering.TheVariants.{Less, Equal, Greater}
 use Rattle.group_types.specs.Lists.{same_key}
+use Rattle.group_types.specs.Each.{Each}
 use Rattle.item_index.specs.declared.slot.Slot.{Slot}
 use Rattle.group_run.specs.Replica.{Items, slot_in, with_slot}
-use Rattle.law_updates.specs.Each.{Each}
 
 tied : map.IsAntisymmetric (slice_cmp nat_cmp)
 tied = map.slice_cmp-IsAntisymmetric map.nat_cmp-IsAntisymmetric

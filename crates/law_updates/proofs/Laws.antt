@@ -2,6 +2,7 @@
 use Rattle.std.specs.Prelude.{ℕ, ◌≡◌, ◌≢◌, AllPairs, ◌<◌, ◌≤◌, List, [], ◌∷◌, ◌++◌, length, take, drop, All}
 use Rattle.group_types.specs.Dimensions.{Dimensions, space_of}
 use Rattle.group_types.specs.Hash.{home_of}
+use Rattle.group_types.specs.Each.{Each}
 use Rattle.group_message.specs.declared.update.Body.{Body}
 use Rattle.group_message.specs.declared.update.Body.TheVariants.{Put, Remove, Touch}
 use Rattle.group_message.specs.declared.update.Outcome.{Outcome}
@@ -15,7 +16,6 @@ use Rattle.group_run.specs.Process.{Process}
 use Rattle.group_run.specs.Replica.{Items, Replica, items_after}
 use Rattle.group_run.specs.World.{Call}
 use Rattle.law_updates.specs.Decisions.{ReadsFrom}
-use Rattle.law_updates.specs.Each.{Each}
 use Rattle.law_updates.specs.Fine.{Fine, IsCallOf}
 use Rattle.law_updates.proofs.Fine.{ComesBehind, IsReplicaOf}
 use Rattle.law_updates.specs.Store.{StoreFits, store_after}

@@ -1,7 +1,6 @@
 pub mod Blind
 pub mod Clears
 pub mod Decides
-pub mod Eaches
 pub mod Fine
 pub mod Fines
 pub mod Histories

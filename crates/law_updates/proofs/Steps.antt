@@ -11,6 +11,8 @@ use Rattle.erasure_code.proofs.Sums.{length-added}
 use Rattle.group_types.specs.Dimensions.{Dimensions, space_of}
 use Rattle.group_types.specs.Lists.{same_key}
 use Rattle.group_types.specs.declared.process.ProcessId.TheVariants.{DataNode}
+use Rattle.group_types.specs.Each.{Each}
+use Rattle.group_types.proofs.Eaches.{each-weaker, each-both}
 use Rattle.item_index.specs.declared.slot.Slot.{Slot}
 use Rattle.memc_table.specs.Act.{key_of, value_of}
 use Rattle.memc_table.specs.Asked.{Asked}
@@ -26,12 +28,10 @@ use Rattle.group_run.specs.Asking.{reply_from}
 use Rattle.group_run.specs.Deciding.{held_as, is_touch}
 use Rattle.group_run.specs.Headline.{AreApart}
 use Rattle.group_run.specs.Replica.{Items, run_in, slot_after, slot_in}
-use Rattle.law_updates.specs.Each.{Each}
 use Rattle.law_updates.specs.Laws.{RightUpdatesLeave}
 use Rattle.law_updates.proofs.Laws.{WritesBytes}
 use Rattle.law_updates.specs.Right.{IsBodyOf, IsPut, IsRight}
 use Rattle.law_updates.specs.Store.{Store, StoreFits, held, held_in, no_store, stored}
-use Rattle.law_updates.proofs.Eaches.{each-both, each-weaker}
 use Rattle.law_updates.proofs.Keys.{OfSlot, each-slot, each-with, slot_in-with}
 use Rattle.law_updates.proofs.Rules.{HoldsBytes, LeavesBytes, LeavesWell, RulesWell, rules-bytes, rules-well}
 use Rattle.law_updates.proofs.Spaces.{apart-bytes, bytes-added, bytes-all, bytes-bytes_at, bytes-from, length-bytes_at, own-bytes}

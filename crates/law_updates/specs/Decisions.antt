@@ -2,6 +2,7 @@
 use Rattle.std.specs.Prelude.{ℕ, suc, ◌≡◌, ◌<◌, ◌≤◌, ◌+◌, Bool, true, false, List, length, Option, Some, None}
 use Rattle.field_byte.specs.Vectors.{add_bytes}
 use Rattle.group_types.specs.declared.run.Run.{Run}
+use Rattle.group_types.specs.Each.{Each}
 use Rattle.memc_table.specs.Act.{key_of}
 use Rattle.memc_table.specs.Asked.{Asked}
 use Rattle.memc_table.specs.declared.holding.Holding.{Holding}
@@ -18,7 +19,6 @@ use Rattle.group_run.specs.Deciding.{Bytes, Found, decide, is_touch, outcome_of,
 use Rattle.group_run.specs.Fitting.{IsRunOf}
 use Rattle.group_run.specs.Free.{is_free}
 use Rattle.group_run.specs.Replica.{Replica, last_of, number_on}
-use Rattle.law_updates.specs.Each.{Each}
 use Rattle.law_updates.specs.Right.{ruling_in}
 use Rattle.law_updates.specs.Store.{Store}
 

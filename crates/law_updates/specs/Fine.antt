@@ -3,11 +3,11 @@
 use Rattle.std.specs.Prelude.{ℕ, suc, ◌≡◌, ◌≢◌, ◌<◌, List, [], ◌∷◌, take, drop, All, Contains}
 use Rattle.group_types.specs.Dimensions.{Dimensions}
 use Rattle.group_types.specs.Hash.{home_of}
+use Rattle.group_types.specs.Each.{Each, EachTwo}
 use Rattle.memc_table.specs.Act.{key_of, value_of}
 use Rattle.group_message.specs.declared.update.Update.{Update}
 use Rattle.group_run.specs.Replica.{Items, callers, item_settled, items_after}
 use Rattle.group_run.specs.World.{Call, update_name}
-use Rattle.law_updates.specs.Each.{Each, EachTwo}
 use Rattle.law_updates.specs.Right.{IsRight, WritesClear}
 use Rattle.law_updates.specs.Store.{Store, no_store, stored}
 

@@ -1,5 +1,4 @@
 pub mod Decisions
-pub mod Each
 pub mod Fine
 pub mod Laws
 pub mod Placing

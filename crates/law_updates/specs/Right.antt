@@ -3,6 +3,7 @@ use Rattle.std.specs.Prelude.{ℕ, ◌≡◌, Bool, true, false, Option, Some, N
 use Rattle.field_byte.specs.Vectors.{add_bytes}
 use Rattle.group_types.specs.Dimensions.{Dimensions, space_of}
 use Rattle.group_types.specs.declared.run.Run.{Run}
+use Rattle.group_types.specs.Each.{Each}
 use Rattle.memc_table.specs.Act.{key_of}
 use Rattle.memc_table.specs.Asked.{Asked}
 use Rattle.memc_table.specs.Expiry.{live_at}
@@ -19,7 +20,6 @@ use Rattle.group_run.specs.Deciding.{is_touch, outcome_of}
 use Rattle.group_run.specs.Fitting.{IsRunOf}
 use Rattle.group_run.specs.Headline.{AreApart}
 use Rattle.group_run.specs.Replica.{Items, freed_by, run_in, run_of, slot_in}
-use Rattle.law_updates.specs.Each.{Each}
 use Rattle.law_updates.specs.Store.{Store, held}
 
 -- what the table makes of an op on the item that a store has, where an accepted op is update n

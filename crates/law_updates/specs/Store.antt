@@ -2,6 +2,7 @@
 use Rattle.std.specs.Prelude.{ℕ, ◌≡◌, ◌<◌, ◌≤◌, ◌+◌, List, [], ◌∷◌, length, replicate, Option, Some, None, All}
 use Rattle.group_types.specs.Dimensions.{Dimensions, space_of}
 use Rattle.group_types.specs.declared.process.ProcessId.TheVariants.{DataNode}
+use Rattle.group_types.specs.Each.{Each}
 use Rattle.item_index.specs.declared.slot.Slot.{Slot}
 use Rattle.memc_table.specs.declared.holding.Holding.{Holding}
 use Rattle.group_message.specs.declared.update.Update.{Update}
@@ -9,7 +10,6 @@ use Rattle.erasure_code.specs.Spaces.{bytes_at}
 use Rattle.group_run.specs.Applying.{space_added}
 use Rattle.group_run.specs.Deciding.{held_as}
 use Rattle.group_run.specs.Replica.{Items, item_settled, slot_in}
-use Rattle.law_updates.specs.Each.{Each}
 
 -- the settled items of a partition, and its space
 pub record Store : Type 0 where

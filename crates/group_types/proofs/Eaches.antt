@@ -1,6 +1,6 @@
 -- Laws of what is said of each member of a list, and of each two.
-use Rattle.std.proofs.Common.{ℕ, zero, suc, List, [], ◌∷◌, ◌++◌, take, drop}
-use Rattle.law_updates.specs.Each.{Each, EachTwo}
+use Rattle.std.proofs.Common.{List, [], ◌∷◌, ◌++◌, ℕ, zero, suc, take, drop, map, Bool, true, false, filter, cond}
+use Rattle.group_types.specs.Each.{Each, EachTwo}
 
 pub each-append : {X : Type 0} (P : X → Type 0) (xs ys : List X) → Each P xs → Each P ys → Each P (xs ++ ys)
 each-append P [] ys a b = b
@@ -47,3 +47,18 @@ each-middle P (x ∷ xs) y ys a = each-middle P xs y ys a.1
 pub each-every : {X Y : Type 0} (Q : Y → Type 0) (P : X → Y → Type 0) (xs : List X) → ((y : Y) → Q y → Each (λ x. P x y) xs) → Each (λ x. (y : Y) → Q y → P x y) xs
 each-every Q P [] every = tt
 each-every Q P (x ∷ xs) every = ((λ y q. (every y q).0), each-every Q P xs (λ y q. (every y q).1))
+
+pub each-all : {X : Type 0} (P : X → Type 0) → ((x : X) → P x) → (xs : List X) → Each P xs
+each-all P every [] = tt
+each-all P every (x ∷ xs) = (every x, each-all P every xs)
+
+pub each-map : {X Y : Type 0} (P : Y → Type 0) (f : X → Y) (xs : List X) → Each (λ x. P (f x)) xs → Each P (map f xs)
+each-map P f [] a = tt
+each-map P f (x ∷ xs) a = (a.0, each-map P f xs a.1)
+
+pub each-filter : {X : Type 0} (P : X → Type 0) (test : X → Bool) (xs : List X) → Each P xs → Each P (filter test xs)
+each-filter P test [] all = tt
+each-filter P test (x ∷ xs) all = by (test x) (each-filter P test xs all.1) where
+  by : (b : Bool) → Each P (filter test xs) → Each P (cond b (x ∷ filter test xs) (filter test xs))
+  by true rest = (all.0, rest)
+  by false rest = rest
