@@ -25,7 +25,7 @@ use Rattle.law_moves.proofs.Events.{FramedHistory, lost-nodes}
 use Rattle.law_moves.proofs.Known.{known-notice}
 use Rattle.law_moves.proofs.Runs.{framed-from, framed-opening, holds_always, shape-from, world-from}
 use Rattle.law_moves.proofs.Members.{Members, Stands, is_notice}
-use Rattle.law_moves.proofs.Eaches.{stands-notice}
+use Rattle.law_moves.proofs.Standing.{stands-notice}
 use Rattle.law_moves.proofs.Keeping as members
 use Rattle.law_moves.proofs.Notices.{knows-other}
 use Rattle.law_answers.specs.Deliveries.{FewDeadAlways, KnowsFewDead}

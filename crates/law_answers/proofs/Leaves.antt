@@ -28,7 +28,7 @@ use Rattle.group_calls.specs.declared.event.Answer.TheVariants as says
 use Rattle.group_calls.specs.declared.event.Cause.TheVariants as cause
 use Rattle.group_calls.specs.declared.event.Event.{Event}
 use Rattle.group_calls.specs.declared.event.Event.TheVariants.{Ask, Collect, Deliver, Fail, Flush, Trace}
-use Rattle.group_run.specs.Applying.{ProcessStep, Settlement, for_each, head_at, quiet, replica_of, when}
+use Rattle.group_run.specs.Applying.{ProcessStep, Settlement, for_each, head_at, quiet, replica_of}
 use Rattle.group_run.specs.Asking.{CallStep, Oldest, act_on, ask_head, ask_process, collect_from, fate_of, found_at, issued, oldest_inherited, retry_block, ticketed, update_of}
 use Rattle.group_run.specs.Causes.{AskLeaves, KeepsLedger}
 use Rattle.group_run.specs.Deciding.{decide}
@@ -51,6 +51,7 @@ use Rattle.law_headline.proofs.All.{whole-always}
 use Rattle.law_headline.proofs.Promises.{stands-always}
 use Rattle.law_headline.proofs.Nexts.{row-none}
 use Rattle.law_answers.specs.Laws.{AsksLeaveAlways}
+use Rattle.law_answers.proofs.Settling.{none-when}
 
 -- every node has a link to each process
 abbrev LinksMany : Dimensions → List Node → Type 0
@@ -171,12 +172,8 @@ copy_marked-settles : (s : Dimensions) (d n : ℕ) (o : Option Copy) (p : Proces
 copy_marked-settles s d n None p = refl
 copy_marked-settles s d n (Some copy) p = copy_kept-settles _ s _ p
 
-when-settles : (b : Bool) (p : Process) (t : ProcessStep) → t.settled ≡ [] → (when b p t).settled ≡ []
-when-settles true p t none = none
-when-settles false p t none = refl
-
 own-settles : (s : Dimensions) (leader number block l : ℕ) (p : Process) → (own_mark s leader number block l p).settled ≡ []
-own-settles s leader number block l p = when-settles _ p (mark_taken s leader number block l (replica_of p l).applied p) (copy_marked-settles s l (replica_of p l).applied _ _)
+own-settles s leader number block l p = none-when _ p (mark_taken s leader number block l (replica_of p l).applied p) (copy_marked-settles s l (replica_of p l).applied _ _)
 
 each-settles : (f : ℕ → Process → ProcessStep) (ls : List ℕ) (p : Process) → ((l : ℕ) (q : Process) → (f l q).settled ≡ []) → (for_each ls f p).settled ≡ []
 each-settles f [] p none = refl
@@ -223,7 +220,7 @@ module _ (w : World) (size : length w.nodes ≡ w.shape.k + w.shape.m) (wide : I
 
   walked-retry : (b : ℕ) (o : Option Oldest) → Walked w.nodes (step_of (retry_block w.shape b o (process_of w p))) (retry_block w.shape b o (process_of w p)).answer
   walked-retry b (Some o) = (put_back, refl)
-  walked-retry b None = when-settles _ (process_of w p) (start_session w.shape b (process_of w p)) (session-settles w.shape b (process_of w p))
+  walked-retry b None = none-when _ (process_of w p) (start_session w.shape b (process_of w p)) (session-settles w.shape b (process_of w p))
 
   walked-ticketed : (b : Bool) (d : ℕ) (u : Update) (t : ProcessStep) → Walked w.nodes (step_of (ticketed b d u t)) (ticketed b d u t).answer
   walked-ticketed true d u t = λ refused. absurd (let yes = accepted-from u.outcome in cc (yes, refused))

@@ -22,7 +22,7 @@ use Rattle.group_calls.specs.declared.event.Event.{Event}
 use Rattle.group_run.specs.Applying.{ProcessStep, head_at, replica_of}
 use Rattle.group_run.specs.Asking.{update_of}
 use Rattle.group_run.specs.Headline.{IsRun, MayCome}
-use Rattle.group_run.specs.History.{History, no_history, prolonged}
+use Rattle.group_run.specs.History.{History, no_history, prolonged, history}
 use Rattle.group_run.specs.Process.{Head, Process}
 use Rattle.group_run.specs.Receiving.{receive}
 use Rattle.group_run.specs.Replica.{Replica, callers, empty_replica, last_of}
@@ -33,7 +33,7 @@ use Rattle.law_moves.proofs.State.{Opens}
 use Rattle.law_moves.proofs.Runs.{runs_move}
 use Rattle.law_moves.proofs.Members.{MayStand, Members, is_notice}
 use Rattle.law_moves.proofs.Keeping as members
-use Rattle.law_histories.proofs.HistoryWords.{HistoryLaws, history}
+use Rattle.law_histories.proofs.HistoryWords.{HistoryLaws}
 use Rattle.law_histories.proofs.Issuing.{IssueKeeps}
 use Rattle.law_histories.proofs.Reach.{IsKeeper, Reach, ReplicaReaches}
 use Rattle.law_histories.proofs.Keeping as reaching

@@ -14,6 +14,7 @@ use Rattle.group_run.specs.Applying.{apply_to, block_after, copy_after, rebuilt_
 use Rattle.group_run.specs.Leaders.{rebuilt_block}
 use Rattle.group_run.specs.Process.{Copy, Process}
 use Rattle.group_run.specs.Replica.{Replica, applied_to, empty_replica, up_to}
+use Rattle.law_moves.proofs.Notices.{some-mapped}
 use Rattle.law_bytes.specs.Areas.{IsArea, IsBlock, WritesBytes, block_size, held, value}
 use Rattle.law_bytes.specs.Held.{CopyHolds, Holds, marked_at, marked_stand, stand}
 use Rattle.law_bytes.specs.Premises.{SettledWrite}
@@ -196,10 +197,6 @@ module _ (s : Dimensions) (settled : ℕ → List Update) (write : SettledWrite 
     rebuilt-other : (e b : ℕ) → e ≢ d → rebuilt_block q.as_leader e b ≡ rebuilt_block p.as_leader e b
     unfolding news q
     rebuilt-other e b other = ap (λ (blocks : List (Option (List ℕ))). at None blocks b) (at-put-other [] p.as_leader.rebuilt d e (rebuilt_after s d news 0 (at [] p.as_leader.rebuilt d)) other)
-
-    some-mapped : {X Y : Type 0} (f : X → Y) (o : Option X) → is_some (option_map f o) ≡ is_some o
-    some-mapped f None = refl
-    some-mapped f (Some x) = refl
 
     block_holds : (b : ℕ) (bytes : List ℕ) (o : Option (List ℕ)) → option_map (block_after s (DataNode d) d b news) o ≡ Some bytes
         → ((before : List ℕ) → o ≡ Some before → IsBlock s b (value (stand settled p d)) before) → IsBlock s b (value (stand settled q d)) bytes

@@ -19,9 +19,6 @@ shifted-before at delta x early = get_or_append_left (replicate at 0) delta 0 x 
 pub shifted-from : (at : ℕ) (delta : List ℕ) (i : ℕ) → shifted at delta (at + i) ≡ get_or delta i 0
 shifted-from at delta i = ap (λ k. get_or (replicate at 0 ++ delta) (k + i) 0) (sym (length-replicate {A = ℕ} at 0)) ∙ get_or-append-add (replicate at 0) delta i 0
 
-shifted-first : (delta : List ℕ) (x : ℕ) → shifted 0 delta x ≡ get_or delta x 0
-shifted-first delta x = refl
-
 -- a difference that lies in the list, or is empty, leaves its length
 pub added-long : (at : ℕ) (delta space : List ℕ) → at + length delta ≤ length space → length (added_at at delta space) ≡ length space
 added-long at delta space within = length-added at delta space within

@@ -37,9 +37,6 @@ pub record SameBytes (p q : Process) : Type 0 where
   pub space : q.space ≡ p.space
   pub rebuilt : (d b : ℕ) → rebuilt_block q.as_leader d b ≡ rebuilt_block p.as_leader d b
 
-pub same-stand : (p : Process) → SameStand p p
-same-stand p = record { name = refl; applied = λ d. refl }
-
 module _ (s : Dimensions) (settled : ℕ → List Update) where
   stand-same : (p q : Process) → SameStand p q → stand settled q ≡ stand settled p
   stand-same p q same = same-functions (stand settled q) (stand settled p) (λ d. ap (λ (k : ℕ). take k (settled d)) (same.applied d))

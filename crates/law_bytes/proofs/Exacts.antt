@@ -18,7 +18,7 @@ use Rattle.group_run.specs.World.{sent_to}
 use Rattle.law_moves.proofs.Moves.{Acted, Died, Popped, Treats}
 use Rattle.law_moves.specs.State.{State}
 use Rattle.law_moves.proofs.Members.{MayStand, Members}
-use Rattle.law_moves.proofs.Eaches.{each-sent_to}
+use Rattle.law_moves.proofs.Standing.{each-sent_to}
 use Rattle.law_bytes.specs.Areas.{IsBlock, block_size, code, value}
 use Rattle.law_bytes.specs.Held.{Holds}
 use Rattle.law_bytes.proofs.Held.{HoldsBytes}

@@ -1,5 +1,5 @@
 -- What a session's tokens say of marks.
-use Rattle.std.proofs.Common.{◌≡◌, ◌≢◌, ℕ, suc, ◌+◌, ◌<◌, ◌≤◌, nat_lt, Bool, true, false, is_some, List, [], ◌∷◌, Option, Some, None, IfSome, ◌⊎◌, inl, inr, sym, ap, subst, ◌∙◌, refl, arith, if◌then◌else◌}
+use Rattle.std.proofs.Common.{◌≡◌, ◌≢◌, ℕ, suc, ◌+◌, ◌<◌, ◌≤◌, nat_lt, Bool, true, false, is_some, List, ◌∷◌, Option, Some, None, IfSome, ◌⊎◌, inl, inr, sym, ap, subst, ◌∙◌, refl, arith, if◌then◌else◌}
 use Rattle.std.proofs.lemmas.Bool.{cases_lt, eq-eqb}
 use Rattle.std.proofs.lemmas.Grind.{common_steps}
 use Rattle.group_types.specs.Dimensions.{Dimensions}
@@ -22,13 +22,7 @@ use Rattle.law_bytes.proofs.FreshWords.{IsUnmarked, MarksAlwaysNew, MarksAreNew}
 use Rattle.law_bytes.proofs.Tokens.{Row, Token, Way, around, at_process, between, everyone, in_copy, in_link, is_marked_in, is_token, one_if, sum_of, tokens}
 use Rattle.law_bytes.proofs.TokensKeeping.{Carried, keeps}
 use Rattle.law_bytes.proofs.Local.{Fact}
-use Rattle.law_bytes.proofs.Sums.{Within, within-everyone}
-
--- one of them is at most the sum
-sum-at : (ps : List ProcessId) (f : ProcessId → ℕ) (p : ProcessId) → Within p ps → f p ≤ sum_of ps f
-sum-at [] f p there = absurd there
-sum-at (q ∷ qs) f p (inl same) = let is = ap f same in omega (arith, is)
-sum-at (q ∷ qs) f p (inr there) = let rest = sum-at qs f p there in omega (arith, rest)
+use Rattle.law_bytes.proofs.Sums.{within-everyone, sum-at}
 
 no-mark : (o : Option ℕ) → (is_some o ≡ true → ⊥) → o ≡ None
 no-mark None no_some = refl

@@ -37,6 +37,7 @@ use Rattle.law_moves.specs.State.{State}
 use Rattle.law_moves.proofs.Runs.{holds_always}
 use Rattle.law_moves.proofs.Members.{Members, Stands}
 use Rattle.law_moves.proofs.Keeping as members
+use Rattle.law_moves.proofs.Standing.{sender-lives}
 use Rattle.law_bytes.proofs.Finds.{found-each}
 use Rattle.law_bytes.proofs.LeadingWords.{IsFor, SessionsAlwaysFit, SessionsFit}
 use Rattle.law_bytes.proofs.Marks.{decoded-same}
@@ -236,13 +237,6 @@ module _ (s : Dimensions) where
     by : (q ≡ p) ⊎ (q ≢ p) → Each (IsFor s (w.process q).known) (w.process q).as_leader.sessions
     by (inl is) = subst (λ (y : Process). Each (IsFor s y.known) y.as_leader.sessions) (sym (ap w.process is ∙ acts.process)) here
     by (inr other) = subst (λ (y : Process). Each (IsFor s y.known) y.as_leader.sessions) (sym (acts.others q qin other)) (fits q qin (sym (acts.dead q qin) ∙ lives))
-
-  -- whose message stands in a link isn't known to be dead
-  sender-lives : (x : ProcessId) (dead known : Bool) (m : Message) (rest : List Message) → Stands x dead known (m ∷ rest) → known ≡ false
-  sender-lives x false false m rest stands = refl
-  sender-lives x true false m rest stands = refl
-  sender-lives x true true m rest stands = absurd (cc stands)
-  sender-lives x false true m rest stands = absurd stands
 
   pub fits-keeps : IsShape s → Keeps s (λ v. Members s v × SessionsFit s v)
   fits-keeps shaped = record {

@@ -23,19 +23,9 @@ use Rattle.law_moves.specs.State.{State}
 use Rattle.law_moves.proofs.Members.{MayStand}
 use Rattle.law_bytes.specs.Areas.{IsBlock, value}
 use Rattle.law_bytes.proofs.Finding.{and-join}
-use Rattle.law_bytes.proofs.Tokens.{Own, Row, Token, Way, around, at_process, between, everyone, in_copy, in_link, in_session, is_kept_in, is_marked_in, is_token, of_session, one_if, sum_of, tokens}
-use Rattle.law_bytes.proofs.Sums.{Within, within-everyone}
+use Rattle.law_bytes.proofs.Tokens.{Own, Row, Token, Way, around, at_process, between, everyone, in_copy, in_link, in_session, is_kept_in, is_marked_in, is_token, of_session, sum_of, tokens}
+use Rattle.law_bytes.proofs.Sums.{within-everyone, sum-at, bit-off}
 use Rattle.law_bytes.proofs.Stamps.{CopyFollows, Follows, GatheringFollows, LostFollows, OfSession, Plan, ProcessFollows, SessionFollows, planned}
-
--- one of them is at most the sum
-sum-at : (ps : List ProcessId) (f : ProcessId → ℕ) (p : ProcessId) → Within p ps → f p ≤ sum_of ps f
-sum-at [] f p there = absurd there
-sum-at (q ∷ qs) f p (inl same) = let is = ap f same in omega (arith, is)
-sum-at (q ∷ qs) f p (inr there) = let rest = sum-at qs f p there in omega (arith, rest)
-
-bit-off : (b : Bool) → one_if b ≤ 0 → b ≡ true → ⊥
-bit-off true low is = absurd (omega (arith, low))
-bit-off false low is = cc is
 
 link-off : (tok : Token) (x q : ProcessId) (ms : List Message) → in_link tok x q ms ≤ 0 → Each (λ m. is_token tok x q m ≡ true → ⊥) ms
 link-off tok x q [] low = tt

@@ -26,7 +26,7 @@ use Rattle.law_moves.specs.State.{State}
 use Rattle.law_moves.proofs.State.{Opens}
 use Rattle.law_moves.proofs.Members.{IsData, MayStand, Members}
 use Rattle.law_moves.proofs.Keeping.{known-is-dead}
-use Rattle.law_moves.proofs.Eaches.{each-sent_to}
+use Rattle.law_moves.proofs.Standing.{each-sent_to}
 use Rattle.law_bytes.specs.Held.{Holds}
 use Rattle.law_bytes.proofs.Premises.{MarksNew, NextIsNew}
 use Rattle.law_bytes.proofs.Applying.{holding-from, rebuilt_at}

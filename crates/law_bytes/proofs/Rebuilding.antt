@@ -1,19 +1,13 @@
 -- A block that is newly rebuilt is what a complete session decodes to.
-use Rattle.std.proofs.Common.{◌≡◌, ◌≢◌, ℕ, ◌+◌, ◌*◌, ◌<◌, Bool, true, false, List, [], ◌∷◌, is_some, Option, Some, None, ◌⊎◌, inl, inr, sym, ap, subst, ◌∙◌, refl}
+use Rattle.std.proofs.Common.{◌≡◌, ◌≢◌, ℕ, Bool, true, false, List, [], ◌∷◌, is_some, Option, Some, None, ◌⊎◌, inl, inr, sym, ap, ◌∙◌, refl}
 use Rattle.std.proofs.lemmas.Bool.{cases_eq}
 use Rattle.group_types.specs.Dimensions.{Dimensions}
 use Rattle.group_types.specs.Lists.{at, put}
-use Rattle.group_types.specs.Shape.{IsShape}
 use Rattle.group_types.proofs.Lists.{at-put, at-put-other}
-use Rattle.group_message.specs.declared.update.Update.{Update}
 use Rattle.group_run.specs.Leaders.{block_gathered, decoded_of, gathered_when, is_complete, open_session, rebuilt_block, rebuilt_unless, row_gathered, with_decoded, without_session}
 use Rattle.group_run.specs.Process.{Gathering, LeaderState}
 use Rattle.erasure_code.proofs.Nodes.{Among}
-use Rattle.law_bytes.specs.Areas.{IsBlock, block_size, value}
-use Rattle.law_bytes.specs.Decoding.{GathersRight}
 use Rattle.law_bytes.proofs.Copies.{stays-decoded}
-use Rattle.law_bytes.proofs.Decode.{sessions_decode}
-use Rattle.law_bytes.proofs.Rising.{among-contains}
 
 -- a block that a session gave
 pub record IsDecoded (s : Dimensions) (g : Gathering) (ls : List ℕ) (d b : ℕ) (bytes : List ℕ) : Type 0 where
@@ -86,10 +80,3 @@ block-gives s state number e block d b bytes before after = by (open_session sta
   by : (o : Option Gathering) → open_session state number ≡ o → rebuilt_block (block_gathered s e block o state) d b ≡ Some bytes → GivesBlock s state number d b bytes (with_block e block)
   by None is now = absurd (cc (before, now))
   by (Some g) is now = let gives = gathered-new s (with_block e block g) (is_complete s (with_block e block g)) state d b bytes before now in record { session = g; opens = is; complete = gives.0; decoded = gives.1 }
-
--- it is right where the session gathers right, at a stamp whose values agree with others over the block
-pub decoded-right : (s : Dimensions) (us : ℕ → List Update) (g : Gathering) (d b : ℕ) (bytes : List ℕ) (vs : List Update) → IsShape s → GathersRight s us g → is_complete s g ≡ true → IsDecoded s g g.lost d b bytes
-    → ((x : ℕ) → x < block_size s g.block → value vs (g.block * s.block + x) ≡ value (us d) (g.block * s.block + x)) → IsBlock s b (value vs) bytes
-decoded-right s us g d b bytes vs shaped right complete decoded agree =
-    subst (λ (c : ℕ). IsBlock s c (value vs) bytes) (sym decoded.block) (subst (IsBlock s g.block (value vs)) (sym decoded.is)
-    (let block = sessions_decode s us g shaped right complete d (among-contains g.lost d decoded.lost) in record { long = block.long; same = λ x below. block.same x below ∙ sym (agree x below) }))

@@ -1,5 +1,5 @@
 -- A block that a step newly rebuilds is given at the numbers of a plan.
-use Rattle.std.proofs.Common.{◌≡◌, ◌≢◌, ℕ, ◌<◌, ◌≤◌, ◌==◌, nat_le, Bool, true, false, not, List, ◌∷◌, length, find, IfSome, sym, ap, subst, ◌∙◌, refl}
+use Rattle.std.proofs.Common.{◌≡◌, ◌≢◌, ℕ, ◌<◌, ◌≤◌, ◌==◌, nat_le, Bool, true, false, not, List, length, find, IfSome, sym, ap, subst, ◌∙◌, refl}
 use Rattle.std.specs.Prelude.{Contains}
 use Rattle.std.specs.List.{range_with_len}
 use Rattle.std.proofs.lemmas.List.{length-take-le}
@@ -25,6 +25,7 @@ use Rattle.law_moves.proofs.Moves.{Acted, Popped}
 use Rattle.law_moves.specs.State.{IsUp, State}
 use Rattle.law_moves.proofs.Members.{IsParity, MayStand, Members, Stands}
 use Rattle.law_moves.proofs.Calls.{each-below}
+use Rattle.law_moves.proofs.Standing.{sender-lives}
 use Rattle.erasure_code.proofs.Nodes.{Among}
 use Rattle.law_bytes.specs.Decoding.{Rising}
 use Rattle.law_bytes.specs.Premises.{SettledWrite}
@@ -143,13 +144,6 @@ module _ (s : Dimensions) (shaped : IsShape s) (settled : ℕ → List Update) (
       by (DataNode e) = none-given s settled p p (none-self s p)
       by (ParityNode i) = none-given s settled p _ (λ d b none. none)
     receive-given (tells.Notice dead) may led new applies stand = none-given s settled p _ (none-notice s dead p)
-
--- whose message stands in a link isn't known to be dead
-sender-lives : (x : ProcessId) (dead known : Bool) (m : Message) (rest : List Message) → Stands x dead known (m ∷ rest) → known ≡ false
-sender-lives x false false m rest stands = refl
-sender-lives x true false m rest stands = refl
-sender-lives x true true m rest stands = absurd (cc stands)
-sender-lives x false true m rest stands = absurd stands
 
 module _ (s : Dimensions) (shaped : IsShape s) where
   pub received : (v u w : State) (x p : ProcessId) (m : Message) → IsProcess s x → IsProcess s p → x ≢ p → IsUp s v → v.dead p ≡ false → Backed s v → Members s w → MarksNew m (v.process p)

@@ -1,12 +1,12 @@
 -- Sums over the processes of a group.
-use Rattle.std.proofs.Common.{◌≡◌, ◌≢◌, ℕ, zero, suc, ◌+◌, ◌<◌, ◌≤◌, Bool, List, [], ◌∷◌, map, ◌⊎◌, inl, inr, sym, ap, subst, ◌∙◌, refl, arith, if◌then◌else◌}
+use Rattle.std.proofs.Common.{◌≡◌, ◌≢◌, ℕ, zero, suc, ◌+◌, ◌<◌, ◌≤◌, Bool, List, [], ◌∷◌, map, ◌⊎◌, inl, inr, sym, ap, subst, ◌∙◌, refl, arith, if◌then◌else◌, true, false}
 use Rattle.std.proofs.lemmas.Bool.{cases_eq}
 use Rattle.std.specs.List.{range_with_len}
 use Rattle.group_types.specs.Dimensions.{Dimensions}
 use Rattle.group_types.specs.Names.{IsProcess, index_of, process_at, same_process}
 use Rattle.group_types.specs.declared.process.ProcessId.{ProcessId}
 use Rattle.group_types.proofs.Names.{index-below, index-process_at, process_at-in, process_at-index, same-cases, same-ne, same-refl}
-use Rattle.law_bytes.proofs.Tokens.{everyone, sum_of}
+use Rattle.law_bytes.proofs.Tokens.{everyone, sum_of, one_if}
 
 -- a process is one of some
 abbrev pub Within : ProcessId → List ProcessId → Type 0
@@ -94,3 +94,13 @@ range-once s a (suc n) = (
 
 pub everyone-once : (s : Dimensions) → Once (everyone s)
 everyone-once s = range-once s 0 (s.k + s.m)
+
+-- one of them is at most the sum
+pub sum-at : (ps : List ProcessId) (f : ProcessId → ℕ) (p : ProcessId) → Within p ps → f p ≤ sum_of ps f
+sum-at [] f p there = absurd there
+sum-at (q ∷ qs) f p (inl same) = let is = ap f same in omega (arith, is)
+sum-at (q ∷ qs) f p (inr there) = let rest = sum-at qs f p there in omega (arith, rest)
+
+pub bit-off : (b : Bool) → one_if b ≤ 0 → b ≡ true → ⊥
+bit-off true low is = absurd (omega (arith, low))
+bit-off false low is = cc is

@@ -23,10 +23,6 @@ use Rattle.law_bytes.specs.Decoding.{AreSpaces, SpaceIs, SpacesDetermine}
 use Rattle.law_bytes.proofs.Decode.{each-below-of}
 use Rattle.law_bytes.proofs.Rising.{all-each, among-each, among-filter, among-range, differ-pairs, differ-rising, filter-among, range-among, rising-filtered}
 
--- whether a process is one of some
-has : List ProcessId → ProcessId → Bool
-has ps p = list_any (λ q. same_process q p) ps
-
 has-each : (P : ProcessId → Type 0) (ps : List ProcessId) (p : ProcessId) → list_any (λ q. same_process q p) ps ≡ true → Each P ps → P p
 has-each P [] p is all = absurd (cc is)
 has-each P (q ∷ qs) p is all = by (same_process q p) refl is (λ rest. has-each P qs p rest all.1) where

@@ -22,7 +22,7 @@ use Rattle.law_moves.proofs.State.{Opens}
 use Rattle.law_moves.proofs.Runs.{holds_always}
 use Rattle.law_moves.proofs.Members.{IsParity, MayStand, Members}
 use Rattle.law_moves.proofs.Keeping.{living-unknown}
-use Rattle.law_moves.proofs.Eaches.{each-sent_to}
+use Rattle.law_moves.proofs.Standing.{each-sent_to}
 use Rattle.law_moves.proofs.Keeping as members
 use Rattle.law_bytes.proofs.Tokens.{Own, Row, Token, TokensAlways, TokensHold, Way, around, at_process, between, everyone, in_copy, in_link, in_session, is_kept_in, is_token, one_if, sum_of, tokens}
 use Rattle.law_bytes.proofs.Finding.{and-split, true-false}

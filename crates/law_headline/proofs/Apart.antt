@@ -7,9 +7,9 @@ use Rattle.group_message.specs.declared.update.Update.{Update}
 use Rattle.group_run.specs.Applying.{head_at, replica_of}
 use Rattle.group_run.specs.Leaders.{rebuilt_block}
 use Rattle.group_run.specs.Process.{Head, Process}
+use Rattle.group_run.specs.History.{history}
 use Rattle.law_moves.specs.State.{State}
 use Rattle.law_moves.proofs.Members.{IsParity}
-use Rattle.law_histories.proofs.HistoryWords.{history}
 use Rattle.law_bytes.specs.Areas.{IsBlock, change, value}
 
 -- an update changes no byte of block b

@@ -10,9 +10,10 @@ use Rattle.group_message.specs.declared.update.Update.{Update}
 use Rattle.group_run.specs.Applying.{ProcessStep, replica_of}
 use Rattle.group_run.specs.Process.{Process}
 use Rattle.group_run.specs.Replica.{Replica, empty_replica}
+use Rattle.group_run.specs.History.{history}
 use Rattle.law_moves.specs.State.{State}
 use Rattle.law_histories.proofs.LaneWords.{Prolongs}
-use Rattle.law_histories.proofs.HistoryWords.{Begins, history}
+use Rattle.law_histories.proofs.HistoryWords.{Begins}
 use Rattle.law_histories.proofs.Reach.{IsKeeper, PartitionReaches, Reach, ReplicaReaches}
 use Rattle.law_histories.proofs.Around.{FollowsBy, GrewBy, Since}
 use Rattle.law_histories.proofs.Histories.{length-history, log-is}

@@ -19,11 +19,12 @@ use Rattle.group_run.specs.Deciding.{decide}
 use Rattle.group_run.specs.Leaders.{rebuilt_block}
 use Rattle.group_run.specs.Process.{Head, Process}
 use Rattle.group_run.specs.World.{Call, is_issued, new_ones, settled_in}
+use Rattle.group_run.specs.History.{history}
 use Rattle.law_moves.proofs.Moves.{Acted, Asks}
 use Rattle.law_moves.specs.State.{IsUp, State}
 use Rattle.law_moves.proofs.Members.{Members}
 use Rattle.law_moves.proofs.Keeping as members
-use Rattle.law_histories.proofs.HistoryWords.{Begins, history}
+use Rattle.law_histories.proofs.HistoryWords.{Begins}
 use Rattle.law_histories.proofs.Lanes.{begins-append}
 use Rattle.law_histories.proofs.Reach.{ReplicaReaches}
 use Rattle.law_histories.proofs.Around.{Grown}

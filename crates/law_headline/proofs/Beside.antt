@@ -16,7 +16,7 @@ use Rattle.group_run.specs.Asking.{found_at}
 use Rattle.group_calls.specs.declared.decision.Decision.TheVariants as decides
 use Rattle.group_run.specs.Deciding.{Bytes, Missing, decide}
 use Rattle.group_run.specs.Fitting.{Fits}
-use Rattle.group_run.specs.History.{History}
+use Rattle.group_run.specs.History.{History, history}
 use Rattle.group_run.specs.Meaning.{Lives, link, process_of}
 use Rattle.group_run.specs.Process.{Head, Process}
 use Rattle.group_run.specs.Receiving.{receive}
@@ -27,7 +27,6 @@ use Rattle.law_moves.specs.State.{IsUp, State, state_of}
 use Rattle.law_moves.proofs.State.{Opens}
 use Rattle.law_moves.proofs.Members.{IsParity}
 use Rattle.law_moves.proofs.Keeping as members
-use Rattle.law_histories.proofs.HistoryWords.{history}
 use Rattle.law_histories.proofs.Reach.{ReplicaReaches}
 use Rattle.law_updates.proofs.Fine.{IsReplicaOf}
 use Rattle.law_updates.proofs.Laws.{FineFits}

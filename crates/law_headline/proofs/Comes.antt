@@ -9,7 +9,7 @@ use Rattle.group_run.specs.Process.{Process}
 use Rattle.group_run.specs.Applying.{head_at, replica_of}
 use Rattle.group_run.specs.Replica.{Replica, applied_to, items_after, with_log}
 use Rattle.group_run.specs.World.{Call}
-use Rattle.law_histories.proofs.HistoryWords.{history}
+use Rattle.group_run.specs.History.{history}
 use Rattle.law_histories.proofs.LaneWords.{AdoptGoes, Prolongs, UpdateGoes}
 use Rattle.law_histories.proofs.Histories.{applied-is, history-applied, length-history}
 use Rattle.law_histories.proofs.Reach.{ReplicaFits, ReplicaReaches, seen_at}

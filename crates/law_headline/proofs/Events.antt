@@ -34,7 +34,6 @@ use Rattle.law_headline.proofs.Calls.{long-collect}
 use Rattle.law_headline.proofs.Histories.{StaysBuilt}
 use Rattle.law_headline.proofs.Longs.{Long, long-refl}
 use Rattle.law_headline.proofs.WholeSteps.{all-off, long-off, treats-built}
-use Rattle.law_headline.proofs.Values.{off-value}
 
 module _ (s : Dimensions) (shaped : IsShape s) where
   -- a process treats something that puts nothing behind a log
@@ -90,10 +89,6 @@ pub began : (s : Dimensions) (v : State) → Opens s v → HeadsOff s v
 began s v starts i d iin living below h b heads unbuilt = absurd (cc (ap (λ (p : Process). head_at p d) (sym (starts.process (ParityNode i) iin)) ∙ heads, none)) where
   none : ◌≡◌ {A = Option Head} (head_at (opening_process s (ParityNode i)) d) None
   none = at-replicate None s.k d
-
--- so at all living parity processes
-pub values-stay : (s : Dimensions) (calls : List Call) (v : State) → Whole s calls v → HeadsOff s v → (i d : ℕ) → i < s.m → v.dead (ParityNode i) ≡ false → d < s.k → SameValues s d (v.settled d) (v.process (ParityNode i))
-values-stay s calls v whole off i d iin living below = off-value s d (v.settled d) (v.process (ParityNode i)) ((whole.reach d below).replicas (ParityNode i) iin living tt).applied (off i d iin living below)
 
 -- bytes of such a block at a number are those at the applied number
 pub block-stays : (s : Dimensions) (d : ℕ) (settled : List Update) (p : Process) → SameValues s d settled p → (h : Head) (b n : ℕ) (bytes : List ℕ) → head_at p d ≡ Some h → rebuilt_block p.as_leader d b ≡ None

@@ -14,7 +14,8 @@ use Rattle.group_run.specs.Leaders.{rebuilt_block}
 use Rattle.group_run.specs.Process.{Head, Process}
 use Rattle.group_run.specs.Replica.{Replica, applied_to, empty_replica, last_of, up_to, with_update}
 use Rattle.group_run.specs.World.{settled_in}
-use Rattle.law_histories.proofs.HistoryWords.{Begins, history}
+use Rattle.group_run.specs.History.{history}
+use Rattle.law_histories.proofs.HistoryWords.{Begins}
 use Rattle.law_histories.proofs.Histories.{history-grown, length-history, settled-in-own}
 use Rattle.law_histories.proofs.Heads.{replica-apply_to}
 use Rattle.law_headline.proofs.Apart.{HeadOff, StaysOff}

@@ -26,6 +26,7 @@ use Rattle.group_run.specs.Fitting.{Writes}
 use Rattle.group_run.specs.Process.{Head, Process}
 use Rattle.group_run.specs.Replica.{Replica, items_after}
 use Rattle.group_run.specs.World.{Call}
+use Rattle.group_run.specs.History.{history}
 use Rattle.law_moves.specs.State.{State}
 use Rattle.law_moves.proofs.Members.{Members, Sits}
 use Rattle.law_moves.proofs.Calls.{seat-head}
@@ -36,7 +37,7 @@ use Rattle.law_updates.proofs.Fine.{IsReplicaOf}
 use Rattle.law_updates.proofs.Laws.{FineFits, FineLaws}
 use Rattle.law_updates.proofs.Laws as laws
 use Rattle.law_updates.proofs.Fines.{fine_histories_fit, histories_are_fine, issues_are_fine}
-use Rattle.law_histories.proofs.HistoryWords.{HistoryLaws, history}
+use Rattle.law_histories.proofs.HistoryWords.{HistoryLaws}
 use Rattle.law_histories.proofs.Reach.{IsKeeper, Reach, ReplicaFits, ReplicaReaches}
 use Rattle.law_histories.proofs.Histories.{front-long, length-history, log-is}
 use Rattle.law_bytes.specs.Areas.{HasBytes, WritesBytes}

@@ -22,7 +22,7 @@ use Rattle.group_calls.specs.declared.decision.Decision.TheVariants as decides
 use Rattle.group_run.specs.Applying.{ProcessStep, head_at, replica_of}
 use Rattle.group_run.specs.Asking.{act_on, ask_head, ask_process, collect_from, found_at, issued, ticketed, update_of}
 use Rattle.group_run.specs.Deciding.{decide}
-use Rattle.group_run.specs.History.{settled_with}
+use Rattle.group_run.specs.History.{settled_with, history}
 use Rattle.group_run.specs.Process.{Head, Process}
 use Rattle.group_run.specs.Receiving.{receive}
 use Rattle.group_run.specs.Replica.{empty_replica}
@@ -32,7 +32,6 @@ use Rattle.law_moves.specs.State.{IsUp, State}
 use Rattle.law_moves.proofs.State.{Opens}
 use Rattle.law_moves.proofs.Members.{Members}
 use Rattle.law_moves.proofs.Keeping as members
-use Rattle.law_histories.proofs.HistoryWords.{history}
 use Rattle.law_histories.proofs.Histories.{length-history, numbered-append}
 use Rattle.law_histories.proofs.FitWords.{FitsNumbers}
 use Rattle.law_histories.proofs.Issuing.{IssueKeeps}

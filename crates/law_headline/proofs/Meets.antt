@@ -1,5 +1,5 @@
 -- What the first message of a link meets: one kind of message after the other.
-use Rattle.std.proofs.Common.{◌≡◌, ◌≢◌, ℕ, ◌<◌, ◌==◌, Bool, true, false, List, ◌∷◌, length, Option, Some, None, IfSome, sym, ap, subst, ◌∙◌, refl}
+use Rattle.std.proofs.Common.{◌≡◌, ◌≢◌, ℕ, ◌<◌, ◌==◌, false, List, ◌∷◌, length, Option, Some, None, IfSome, sym, ap, subst, ◌∙◌, refl}
 use Rattle.std.specs.Prelude.{Contains}
 use Rattle.std.specs.List.{range_with_len}
 use Rattle.erasure_code.proofs.Nodes.{Among}
@@ -19,12 +19,13 @@ use Rattle.group_run.specs.Process.{Gathering}
 use Rattle.group_run.specs.World.{Call}
 use Rattle.law_moves.specs.State.{State}
 use Rattle.law_moves.proofs.Members.{IsData, IsParity, MayStand, Stands}
-use Rattle.law_histories.proofs.Folding.{Along}
+use Rattle.law_moves.proofs.Standing.{sender-lives}
 use Rattle.law_histories.proofs.LaneWords.{Goes, next}
 use Rattle.law_histories.proofs.Lanes.{live-is}
 use Rattle.law_histories.proofs.FitWords.{FitsNumbers}
 use Rattle.law_histories.proofs.Reach.{IsKeeper, ReplicaReaches, seen_at}
 use Rattle.law_histories.proofs.Fits.{fits-numbers}
+use Rattle.law_histories.proofs.Folds.{Along}
 use Rattle.law_updates.specs.Fine.{Fine}
 use Rattle.law_bytes.proofs.Finds.{found-each}
 use Rattle.law_bytes.proofs.Rising.{among-filter, contains-among}
@@ -36,13 +37,6 @@ use Rattle.law_headline.proofs.Comes.{adopt-comes, update-comes}
 if-both : {X : Type 0} (P Q : X → Type 0) (o : Option X) → IfSome o P → IfSome o Q → IfSome o (λ x. P x × Q x)
 if-both P Q None a b = tt
 if-both P Q (Some x) a b = (a, b)
-
--- whose message stands in a link isn't known to be dead
-sender-unknown : (x : ProcessId) (dead known : Bool) (m : Message) (rest : List Message) → Stands x dead known (m ∷ rest) → known ≡ false
-sender-unknown x false false m rest stands = refl
-sender-unknown x true false m rest stands = refl
-sender-unknown x true true m rest stands = absurd (cc stands)
-sender-unknown x false true m rest stands = absurd stands
 
 -- a data process, and a parity process, by its number
 as-data : (s : Dimensions) (x : ProcessId) → IsProcess s x → IsData x → (d : ℕ) × (x ≡ DataNode d) × (d < s.k)
@@ -82,7 +76,7 @@ module _ (s : Dimensions) (calls : List Call) (v : State) (stands : GroupStands 
 
   -- the sender isn't known to be dead
   unknown-first : (m : Message) (rest : List Message) → First m rest → knows_dead (v.process p).known x ≡ false
-  unknown-first m rest first = sender-unknown x (v.dead x) (knows_dead (v.process p).known x) m rest (subst (Stands x (v.dead x) (knows_dead (v.process p).known x)) first (stands.members.stands x p xin pin apart lives))
+  unknown-first m rest first = sender-lives x (v.dead x) (knows_dead (v.process p).known x) m rest (subst (Stands x (v.dead x) (knows_dead (v.process p).known x)) first (stands.members.stands x p xin pin apart lives))
 
   -- a block comes of a partition that isn't lost
   block-fits : (number : ℕ) (bytes : List ℕ) → IsData x → knows_dead (v.process p).known x ≡ false → length bytes ≡ s.block → BlockFits s x (v.process p) number bytes

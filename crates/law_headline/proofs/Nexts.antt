@@ -19,14 +19,13 @@ use Rattle.group_calls.specs.declared.decision.Decision.TheVariants as decides
 use Rattle.memc_table.specs.Asked.{Asked}
 use Rattle.group_run.specs.Fitting.{NumberedFrom}
 use Rattle.group_run.specs.Heading.{judge_head, least_acked, other_parities, settlements}
-use Rattle.group_run.specs.History.{settled_with}
+use Rattle.group_run.specs.History.{settled_with, history}
 use Rattle.group_run.specs.Leaders.{copy_kept, copy_marked, lost_of, mark_comes, mark_taken, own_mark, row_finished, session_opened, start_session}
 use Rattle.group_run.specs.Process.{Copy, Head, Process}
 use Rattle.group_run.specs.Replica.{Replica, empty_replica, last_of, up_to, with_update}
 use Rattle.group_run.specs.Rows.{accepts_mark, begin_copy, copy_in, is_marked, marked, parity_number}
 use Rattle.group_run.specs.World.{settled_in}
 use Rattle.law_histories.proofs.LaneWords.{Prolongs}
-use Rattle.law_histories.proofs.HistoryWords.{history}
 use Rattle.law_histories.proofs.Applies.{settles-is}
 use Rattle.law_histories.proofs.Heads.{least-last}
 use Rattle.law_histories.proofs.Histories.{history-with_update, length-history, settled-in-other, settled-in-own}

@@ -20,7 +20,7 @@ use Rattle.law_moves.specs.State.{State}
 use Rattle.law_moves.proofs.State.{Opens}
 use Rattle.law_moves.proofs.Runs.{holds_always}
 use Rattle.law_moves.proofs.Members.{Members}
-use Rattle.law_moves.proofs.Eaches.{each-sent_to}
+use Rattle.law_moves.proofs.Standing.{each-sent_to}
 use Rattle.law_moves.proofs.Keeping as members
 use Rattle.law_bytes.proofs.TokensKeeping.{unknown}
 use Rattle.law_headline.proofs.Rows.{Numbered, RowSound, RowsSound}

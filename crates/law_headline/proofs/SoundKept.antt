@@ -17,7 +17,7 @@ use Rattle.law_moves.proofs.Moves.{Acted, Died, Popped, Treats}
 use Rattle.law_moves.specs.State.{State}
 use Rattle.law_moves.proofs.State.{Opens}
 use Rattle.law_moves.proofs.Members.{MayStand, Members}
-use Rattle.law_moves.proofs.Eaches.{each-sent_to}
+use Rattle.law_moves.proofs.Standing.{each-sent_to}
 use Rattle.law_bytes.proofs.Held.{HoldsBytes}
 use Rattle.law_bytes.proofs.TokensKeeping.{unknown}
 use Rattle.law_headline.proofs.Sound.{LinksSound, NeedsSound, ProcessSound, Sound, SoundAlwaysKept}

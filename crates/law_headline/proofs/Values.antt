@@ -16,7 +16,7 @@ use Rattle.group_run.specs.Asking.{found_at}
 use Rattle.group_run.specs.Fitting.{Writes}
 use Rattle.group_run.specs.Leaders.{rebuilt_block}
 use Rattle.group_run.specs.Process.{Process}
-use Rattle.law_histories.proofs.HistoryWords.{history}
+use Rattle.group_run.specs.History.{history}
 use Rattle.law_bytes.specs.Areas.{change, value}
 use Rattle.law_bytes.proofs.Blocks.{run-apart}
 use Rattle.law_bytes.proofs.Values.{value-append}

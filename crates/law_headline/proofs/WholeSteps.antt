@@ -14,10 +14,11 @@ use Rattle.group_run.specs.Applying.{ProcessStep, head_at, replica_of}
 use Rattle.group_run.specs.Process.{Head, Process}
 use Rattle.group_run.specs.Receiving.{receive}
 use Rattle.group_run.specs.World.{Call}
+use Rattle.group_run.specs.History.{history}
 use Rattle.law_moves.proofs.Moves.{Acted, Popped, Treats}
 use Rattle.law_moves.specs.State.{State}
 use Rattle.law_moves.proofs.Members.{MayStand, Members}
-use Rattle.law_histories.proofs.HistoryWords.{Begins, history}
+use Rattle.law_histories.proofs.HistoryWords.{Begins}
 use Rattle.law_histories.proofs.Histories.{history-grown}
 use Rattle.law_histories.proofs.Reach.{IsKeeper, Reach, ReplicaReaches}
 use Rattle.law_bytes.proofs.Held.{HoldsBytes}

@@ -15,14 +15,14 @@ use Rattle.group_message.specs.declared.update.Update.{Update}
 use Rattle.group_run.specs.Applying.{head_at, replica_of}
 use Rattle.group_run.specs.Process.{Head, Process}
 use Rattle.group_run.specs.Replica.{Replica, last_of}
+use Rattle.group_run.specs.History.{history}
 use Rattle.law_moves.specs.State.{State}
 use Rattle.law_moves.proofs.Members.{MayStand, Members}
-use Rattle.law_histories.proofs.Folding.{run, Along}
 use Rattle.law_histories.proofs.LaneWords.{AckBelow, AckFits, Goes, MarkGoes, NumberGoes, Seen, is_live, next, raised}
 use Rattle.law_histories.proofs.Reach.{EndsAt, IsKeeper, LaneReaches, ReplicaFits, ReplicaReaches, seen_at}
-use Rattle.law_histories.proofs.HistoryWords.{history, Begins}
+use Rattle.law_histories.proofs.HistoryWords.{Begins}
 use Rattle.law_histories.proofs.Around.{Around, HeadSits, grew-turned, keeper-rank, since-head, since-trans}
-use Rattle.law_histories.proofs.Folds.{along-append, run-append}
+use Rattle.law_histories.proofs.Folds.{along-append, run-append, run, Along}
 use Rattle.law_histories.proofs.Histories.{length-history}
 use Rattle.law_histories.proofs.Lanes.{Stale, live-parts, ranked-weaker, same-rank-begins, stale-along, stale-goes, stale-next}
 use Rattle.law_histories.proofs.Ranks.{Used, head-from, rank-one}

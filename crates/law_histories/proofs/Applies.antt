@@ -3,16 +3,16 @@
 use Rattle.std.proofs.Common.{ℕ, ◌≡◌, ◌<◌, ◌≤◌, ◌+◌, ◌-◌, max, List, [], ◌∷◌, ◌++◌, length, replicate, take, drop, Option, None, ◌⊎◌, inl, inr, refl, sym, ap, ◌∙◌, arith}
 use Rattle.std.proofs.Math.Seq.{take-add}
 use Rattle.std.proofs.lemmas.Bool.{cases_lt}
-use Rattle.std.proofs.lemmas.List.{drop-take, length-take-le, take-take}
+use Rattle.std.proofs.lemmas.List.{drop-take, take-take}
 use Rattle.group_message.specs.declared.kept.Kept.{Kept}
 use Rattle.group_message.specs.declared.update.Update.{Update}
 use Rattle.group_run.specs.Applying.{Settlement}
 use Rattle.group_run.specs.Fitting.{NumberedFrom}
 use Rattle.group_run.specs.Heading.{settlements}
-use Rattle.group_run.specs.History.{settled_with}
+use Rattle.group_run.specs.History.{settled_with, history}
 use Rattle.group_run.specs.Replica.{Items, Replica, applied_to, callers, item_settled, items_after, kept_after, last_of, up_to}
 use Rattle.law_histories.proofs.LaneWords.{Prolongs}
-use Rattle.law_histories.proofs.HistoryWords.{Begins, ItemsFit, history}
+use Rattle.law_histories.proofs.HistoryWords.{Begins, ItemsFit, AppliedIsSettled}
 use Rattle.law_histories.proofs.Histories.{applied-is, length-history, log-is, settled-more, settled-no-more}
 use Rattle.law_histories.proofs.Lanes.{begins-append}
 
@@ -36,8 +36,7 @@ cut-same a n whole settled low prolongs =
           ap (λ (k : ℕ). take k (drop a (take c us))) zero_left ∙ sym (ap (λ (k : ℕ). take k (drop a us)) zero_left)
 
 -- a replica that applies up to a settled number applies the settled updates behind its own
-pub applies-settled : (settled : List Update) (r : Replica) (n : ℕ) → r.applied ≤ length settled → Prolongs settled (history settled r) → n ≤ length settled
-    → up_to n r ≡ take (n - r.applied) (drop r.applied settled)
+pub applies-settled : AppliedIsSettled
 applies-settled settled r n applied prolongs low =
     ap (take (n - r.applied)) (sym (log-is settled r applied)) ∙ cut-same r.applied n (history settled r) settled low prolongs
 
@@ -72,19 +71,6 @@ pub items-grown : (settled more : List Update) (r : Replica) → r.applied ≤ l
 items-grown settled more r applied begins holds = record { items = holds.items ∙ ap (items_after []) same; kept = holds.kept ∙ ap (kept_after (replicate callers None)) same } where
   same : take r.applied settled ≡ take r.applied more
   same = ap (take r.applied) (sym begins.same) ∙ take-take r.applied (length settled) more applied
-
--- a head that settles up to a number applies what is settled then
-pub settles-settled : (d : ℕ) (settled : List Update) (r : Replica) (n : ℕ) → r.applied ≤ length settled → Prolongs settled (history settled r) → NumberedFrom 1 (history settled r) → n ≤ last_of r
-    → up_to n r ≡ take (n - r.applied) (drop r.applied (settled_with (settlements d (up_to n r)) d settled))
-settles-settled d settled r n applied prolongs numbers within = by (cases_lt (length settled) n) where
-  by : (length settled < n) ⊎ (n ≤ length settled) → up_to n r ≡ take (n - r.applied) (drop r.applied (settled_with (settlements d (up_to n r)) d settled))
-  by (inr low) = applies-settled settled r n applied prolongs low ∙ ap (λ (us : List Update). take (n - r.applied) (drop r.applied us)) (sym (settled-no-more d n settled r applied prolongs numbers low))
-  by (inl above) =
-      let long = length-history settled r applied in
-      let more : length (take n (history settled r)) ≡ n = length-take-le n (history settled r) (omega (arith, long, within)) in
-      ap (take (n - r.applied)) (sym (log-is settled r applied))
-      ∙ cut-same r.applied n (history settled r) (take n (history settled r)) (omega (arith, more)) (record { reaches = omega (arith, more, long, within); front = ap (λ (k : ℕ). take k (history settled r)) more })
-      ∙ ap (λ (us : List Update). take (n - r.applied) (drop r.applied us)) (sym (settled-more d n settled r applied prolongs numbers (omega (arith, above)) within))
 
 -- what is settled after a head settled up to a number: its history up to there, or what was settled if that
 -- is more

@@ -16,6 +16,7 @@ use Rattle.group_message.specs.declared.update.Update.{Update}
 use Rattle.group_run.specs.Applying.{head_at, replica_of}
 use Rattle.group_run.specs.Process.{Head, Process}
 use Rattle.group_run.specs.Replica.{Replica, last_of}
+use Rattle.group_run.specs.History.{history}
 use Rattle.law_moves.specs.State.{State}
 use Rattle.law_moves.proofs.Members.{MayStand, Members, Sits, seat_of}
 use Rattle.law_moves.proofs.Calls.{seat-known, seat-lower}
@@ -23,7 +24,7 @@ use Rattle.law_histories.proofs.LaneWords.{AckBelow, AckFits, Seen}
 use Rattle.law_histories.proofs.Reach.{IsKeeper, LaneReaches, PartitionReaches, ReplicaReaches, seen_at}
 use Rattle.law_histories.proofs.Lanes.{Stale, ranked-weaker, begins-refl}
 use Rattle.law_histories.proofs.Ranks.{Used, head-from, may-used}
-use Rattle.law_histories.proofs.HistoryWords.{Begins, history}
+use Rattle.law_histories.proofs.HistoryWords.{Begins}
 
 -- the head has its rank, under which its replica stands, and all of lower rank are dead
 pub record HeadSits (v : State) (d : ℕ) (p : ProcessId) (proc : Process) (h : Head) : Type 0 where

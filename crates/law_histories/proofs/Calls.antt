@@ -28,15 +28,15 @@ use Rattle.group_run.specs.Applying.{ProcessStep, head_at, held_at, quiet, repli
 use Rattle.group_run.specs.Asking.{CallStep, act_on, ask_head, collect_from, collect_held, found_at, handed_out, holding, is_call, issued, oldest_inherited, ticketed, update_of}
 use Rattle.group_run.specs.Deciding.{Missing, decide, window}
 use Rattle.group_run.specs.Heading.{judge, other_parities, partition, rank, tell_stable, to_others, to_parities}
-use Rattle.group_run.specs.History.{settled_with}
+use Rattle.group_run.specs.History.{settled_with, history}
 use Rattle.group_run.specs.Process.{Head, Held, Process}
 use Rattle.group_run.specs.Replica.{empty_replica, last_of, with_update}
 use Rattle.group_run.specs.World.{flush_process, front_if, sent_to}
 use Rattle.law_moves.specs.State.{State}
 use Rattle.law_moves.proofs.Members.{Members}
-use Rattle.law_moves.proofs.Eaches.{each-sent_to}
+use Rattle.law_moves.proofs.Standing.{each-sent_to}
 use Rattle.law_histories.proofs.LaneWords.{AckBelow, AckFits}
-use Rattle.law_histories.proofs.HistoryWords.{HistoryLaws, history}
+use Rattle.law_histories.proofs.HistoryWords.{HistoryLaws}
 use Rattle.law_histories.proofs.Acts.{Tells}
 use Rattle.law_histories.proofs.Around.{Around, keeper-rank}
 use Rattle.law_histories.proofs.Deciding.{RestsWell, decides-well}

@@ -24,7 +24,6 @@ use Rattle.law_moves.proofs.Moves.{Keeps}
 use Rattle.law_moves.specs.State.{State, state_of}
 use Rattle.law_moves.proofs.Runs.{holds_always}
 use Rattle.law_moves.proofs.Members.{Stands}
-use Rattle.law_histories.proofs.Folding.{run}
 use Rattle.law_histories.proofs.LaneWords.{next}
 use Rattle.law_histories.proofs.Histories.{length-history}
 use Rattle.law_histories.proofs.Reach.{EndsAt, IsKeeper, seen_at}
@@ -34,6 +33,7 @@ use Rattle.law_histories.proofs.Ranks.{head-from}
 use Rattle.law_histories.proofs.Told.{IsTold, Told, ToldAlways, newest}
 use Rattle.law_histories.proofs.ToldKeeping.{Reached, told-dies, told-opens, told-treats}
 use Rattle.law_histories.proofs.Receiving.{told-receives}
+use Rattle.law_histories.proofs.Folds.{run}
 
 -- every move keeps it
 pub keeps-told : (s : Dimensions) → IsShape s → Keeps s (λ v. Reached s v × Told s v)

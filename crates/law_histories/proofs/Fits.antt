@@ -14,7 +14,7 @@ use Rattle.group_message.specs.declared.message.Message.TheVariants as tells
 use Rattle.group_message.specs.declared.update.Update.{Update}
 use Rattle.group_run.specs.Applying.{head_at, replica_of}
 use Rattle.group_run.specs.Fitting.{IsRanked, NumberedFrom}
-use Rattle.group_run.specs.History.{History, history_of, no_history}
+use Rattle.group_run.specs.History.{History, history_of, no_history, history}
 use Rattle.group_run.specs.Meaning.{Lives, link, process_of}
 use Rattle.group_run.specs.Process.{Process}
 use Rattle.group_run.specs.Replica.{Replica, last_of}
@@ -23,16 +23,15 @@ use Rattle.group_run.specs.World.{World}
 use Rattle.law_moves.specs.State.{State, state_of}
 use Rattle.law_moves.proofs.Runs.{shape-from, world-from}
 use Rattle.law_moves.proofs.Members.{IsFrom, IsParity, MayStand, Members, Stands, seat_of}
-use Rattle.law_moves.proofs.Eaches.{stands-notice}
+use Rattle.law_moves.proofs.Standing.{stands-notice}
 use Rattle.law_histories.proofs.FitWords.{AdoptNumbers, FitsNumbers, NumbersFitAlways, UpdateNumbers}
-use Rattle.law_histories.proofs.Folding.{Along}
 use Rattle.law_histories.proofs.LaneWords.{AckBelow, AdoptGoes, Goes, Seen, UpdateGoes, next}
 use Rattle.law_histories.proofs.Reach.{Any, IsKeeper, Reach, ReplicaReaches, seen_at}
-use Rattle.law_histories.proofs.HistoryWords.{history}
 use Rattle.law_histories.proofs.Histories.{applied-is, last-number, length-history, log-left, numbered-behind}
 use Rattle.law_histories.proofs.Keeping.{reach_always}
 use Rattle.law_histories.proofs.Lanes.{live-is}
 use Rattle.law_histories.proofs.Messages.{seat-some}
+use Rattle.law_histories.proofs.Folds.{Along}
 
 -- by what is owed in the fold
 module _ (F : ℕ → ℕ → List Update → Type 0) (d : ℕ) (settled : List Update) (p : Process) (fits : ReplicaReaches F d settled p) where

@@ -1,8 +1,17 @@
--- The laws of the fold, for any state, message and step.
+-- What comes of messages that are received one after the other, and the laws of it, told once for any state and any step.
 use Rattle.std.proofs.Common.{ℕ, zero, suc, ◌≡◌, List, [], ◌∷◌, ◌++◌, take, refl}
-use Rattle.law_histories.proofs.Folding.{run, Along}
 
 module _ {S M : Type 0} (next : S → M → S) where
+  -- the state after messages, in order
+  abbrev pub run : S → List M → S
+  run s [] = s
+  run s (m ∷ ms) = run (next s m) ms
+
+  -- each message fits the state in which it comes
+  abbrev pub Along : (S → M → Type 0) → S → List M → Type 0
+  Along Ok s [] = Unit {0}
+  Along Ok s (m ∷ ms) = Ok s m × Along Ok (next s m) ms
+
   -- messages behind others come to the state that those leave
   pub run-append : (s : S) (ms ns : List M) → run next s (ms ++ ns) ≡ run next (run next s ms) ns
   run-append s [] ns = refl

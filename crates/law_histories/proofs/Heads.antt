@@ -20,18 +20,17 @@ use Rattle.group_message.specs.declared.update.Update.{Update}
 use Rattle.group_run.specs.Applying.{apply_to, head_at, replica_of}
 use Rattle.group_run.specs.Deciding.{window}
 use Rattle.group_run.specs.Heading.{acked_by, acknowledged, least_acked, other_parities, partition, rank, settlements}
-use Rattle.group_run.specs.History.{settled_with}
+use Rattle.group_run.specs.History.{settled_with, history}
 use Rattle.group_run.specs.Process.{Head, Process}
 use Rattle.group_run.specs.Replica.{Replica, applied_to, empty_replica, last_of, up_to, with_update}
 use Rattle.law_moves.specs.State.{State}
 use Rattle.law_moves.proofs.Members.{MayStand, Members}
-use Rattle.law_histories.proofs.Folding.{run, Along}
 use Rattle.law_histories.proofs.LaneWords.{AckBelow, AckFits, Fine, Goes, Prolongs, Seen, appended, next}
 use Rattle.law_histories.proofs.Reach.{EndsAt, HeadReaches, IsKeeper, KeptGoes, LaneReaches, ReplicaFits, ReplicaReaches, seen_at}
-use Rattle.law_histories.proofs.HistoryWords.{Begins, HistoryLaws, history}
+use Rattle.law_histories.proofs.HistoryWords.{Begins, HistoryLaws}
 use Rattle.law_histories.proofs.Applies.{items-applied, items-grown}
 use Rattle.law_histories.proofs.Around.{Around, HeadSits, below-more, grew-turned, keeper-rank, since-head, since-trans}
-use Rattle.law_histories.proofs.Folds.{along-append, run-append}
+use Rattle.law_histories.proofs.Folds.{along-append, run-append, run, Along}
 use Rattle.law_histories.proofs.Histories.{applied-is, last-number, history-applied, history-grown, history-with_update, last-applied, length-history, log-left, settled-more, settled-no-more}
 use Rattle.law_histories.proofs.Lanes.{Stale, along-grows, live-is, same-rank-begins, stale-along, begins-trans, begins-append}
 use Rattle.law_histories.proofs.Ranks.{may-stale, no-other}

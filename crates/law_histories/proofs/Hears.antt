@@ -19,14 +19,14 @@ use Rattle.group_run.specs.Applying.{head_at, replica_of}
 use Rattle.group_run.specs.Heading.{partition, rank}
 use Rattle.group_run.specs.Process.{Head, Process, new_head}
 use Rattle.group_run.specs.Replica.{Replica, last_of}
+use Rattle.group_run.specs.History.{history}
 use Rattle.law_moves.specs.State.{State}
 use Rattle.law_moves.proofs.Members.{MayStand, Members, Reigns, seat_of}
-use Rattle.law_histories.proofs.Folding.{run, Along}
 use Rattle.law_histories.proofs.LaneWords.{AckBelow, AckFits, Fine, Goes, Prolongs, Seen, next, replaced}
 use Rattle.law_histories.proofs.Reach.{EndsAt, HeadReaches, IsKeeper, KeptGoes, LaneReaches, ReplicaFits, ReplicaReaches, seen_at}
-use Rattle.law_histories.proofs.HistoryWords.{HistoryLaws, history, Begins}
+use Rattle.law_histories.proofs.HistoryWords.{HistoryLaws, Begins}
 use Rattle.law_histories.proofs.Around.{Around, HeadSits, grew-turned, since-trans}
-use Rattle.law_histories.proofs.Folds.{along-append, run-append}
+use Rattle.law_histories.proofs.Folds.{along-append, run-append, run, Along}
 use Rattle.law_histories.proofs.Heads.{head-inward}
 use Rattle.law_histories.proofs.Histories.{length-history}
 use Rattle.law_histories.proofs.Lanes.{Lower, Ranked, Resyncs, Stale, along-lower, live-is, lower-run, ranked-weaker, resync, same-rank-step, stale-along, stale-run, begins-refl}

@@ -10,12 +10,12 @@ use Rattle.group_message.specs.declared.update.Update.{Update}
 use Rattle.group_run.specs.Applying.{Settlement}
 use Rattle.group_run.specs.Fitting.{NumberedFrom}
 use Rattle.group_run.specs.Heading.{settlements}
-use Rattle.group_run.specs.History.{settled_with}
+use Rattle.group_run.specs.History.{settled_with, history}
 use Rattle.group_run.specs.Receiving.{adopting}
 use Rattle.group_run.specs.Replica.{Replica, applied_to, last_of, up_to, with_update}
 use Rattle.group_run.specs.World.{front_if, new_ones, settled_in}
 use Rattle.law_histories.proofs.LaneWords.{Prolongs}
-use Rattle.law_histories.proofs.HistoryWords.{Begins, history}
+use Rattle.law_histories.proofs.HistoryWords.{Begins}
 
 -- numbers
 pub numbered-append : (a : ℕ) (us vs : List Update) → NumberedFrom a us → NumberedFrom (a + length us) vs → NumberedFrom a (us ++ vs)
@@ -37,11 +37,6 @@ numbered-behind a [] vs all = subst (λ (n : ℕ). NumberedFrom n vs) on all whe
 numbered-behind a (u ∷ us) vs all = subst (λ (n : ℕ). NumberedFrom n vs) on (numbered-behind (suc a) us vs all.1) where
   on : suc a + length us ≡ a + suc (length us)
   on = omega arith
-
-pub numbered-drop : (n a : ℕ) (us : List Update) → n ≤ length us → NumberedFrom a us → NumberedFrom (a + n) (drop n us)
-numbered-drop n a us low all =
-    let long : length (take n us) ≡ n = length-take-le n us low in
-    subst (λ (k : ℕ). NumberedFrom (a + k) (drop n us)) long (numbered-behind a (take n us) (drop n us) (subst (NumberedFrom a) (sym (take-append-drop n us)) all))
 
 -- the last update of a history has the history's length as its number
 pub last-number : (us : List Update) (u : Update) → NumberedFrom 1 (us ++ u ∷ []) → u.number ≡ suc (length us)

@@ -1,20 +1,17 @@
 -- Histories of replicas: what they are, what a sentence on them has to keep, and that what is applied is
 -- settled.
-use Rattle.std.specs.Prelude.{ℕ, ◌≡◌, ◌≤◌, ◌-◌, List, [], ◌++◌, length, replicate, take, drop, None}
+use Rattle.std.specs.Prelude.{ℕ, ◌≡◌, ◌≤◌, ◌-◌, List, [], length, replicate, take, drop, None}
 use Rattle.group_message.specs.declared.message.Message.{Message}
 use Rattle.group_message.specs.declared.update.Update.{Update}
 use Rattle.group_run.specs.Replica.{Replica, callers, items_after, kept_after, up_to}
-use Rattle.law_histories.proofs.Folding.{run}
+use Rattle.group_run.specs.History.{history}
 use Rattle.law_histories.proofs.LaneWords.{Prolongs, Seen, next}
+use Rattle.law_histories.proofs.Folds.{run}
 
 -- what a sentence on histories has to keep: it is true of none, and stays true as more is applied
 pub record HistoryLaws (F : ℕ → ℕ → List Update → Type 0) : Type 0 where
   pub start : (d : ℕ) → F d 0 []
   pub rises : (d a b : ℕ) (history : List Update) → F d a history → a ≤ b → b ≤ length history → F d b history
-
--- the history of a replica: what it has applied of the settled updates, and then its log
-abbrev pub history : List Update → Replica → List Update
-history settled replica = take replica.applied settled ++ replica.log
 
 -- the settled items of a replica, and what it keeps of callers, are those that its applied updates leave
 pub record ItemsFit (settled : List Update) (replica : Replica) : Type 0 where

@@ -14,8 +14,8 @@ use Rattle.group_run.specs.Applying.{head_at, replica_of}
 use Rattle.group_run.specs.Asking.{found_at, update_of}
 use Rattle.group_run.specs.Deciding.{decide}
 use Rattle.group_run.specs.Process.{Head, Process}
+use Rattle.group_run.specs.History.{history}
 use Rattle.law_moves.specs.State.{State}
-use Rattle.law_histories.proofs.HistoryWords.{history}
 
 -- whatever a head of partition d would decide to issue for a call keeps the sentence on histories
 abbrev pub IssuesIn : (ℕ → ℕ → List Update → Type 0) → Dimensions → ℕ → List Update → Process → CallName → Asked → Type 0

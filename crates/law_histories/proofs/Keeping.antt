@@ -25,7 +25,7 @@ use Rattle.group_calls.specs.Turns.{CallName}
 use Rattle.group_run.specs.Applying.{ProcessStep, head_at, replica_of}
 use Rattle.group_run.specs.Asking.{ask_head, ask_process, collect_from, found_at}
 use Rattle.group_run.specs.Deciding.{Bytes, Missing}
-use Rattle.group_run.specs.History.{settled_with}
+use Rattle.group_run.specs.History.{settled_with, history}
 use Rattle.group_run.specs.Process.{Head, Process, new_head, opening_process}
 use Rattle.group_run.specs.Receiving.{death_known, receive}
 use Rattle.group_run.specs.Replica.{Replica, empty_replica, last_of}
@@ -38,16 +38,15 @@ use Rattle.law_moves.proofs.Runs.{holds_always}
 use Rattle.law_moves.proofs.Members.{Members, Sits, is_notice, knows_lower}
 use Rattle.law_moves.proofs.Calls.{seat-head, seat-known, seat-lower}
 use Rattle.law_moves.proofs.Keeping.{keeps, known-is-dead, living-unknown}
-use Rattle.law_histories.proofs.Folding.{run, Along}
 use Rattle.law_histories.proofs.Issuing.{IssueKeeps, IssuesIn}
 use Rattle.law_histories.proofs.LaneWords.{AckBelow, Goes, next}
 use Rattle.law_histories.proofs.Reach.{IsKeeper, Any, HeadReaches, LaneReaches, PartitionReaches, Reach, ReachAlways, ReplicaFits, ReplicaReaches, seen_at}
-use Rattle.law_histories.proofs.HistoryWords.{Begins, HistoryLaws, history}
+use Rattle.law_histories.proofs.HistoryWords.{Begins, HistoryLaws}
 use Rattle.law_histories.proofs.Acts.{act-pop, act-same}
 use Rattle.law_histories.proofs.Around.{Around, GrewBy, Since, enters, lane-is, left, FollowsBy}
 use Rattle.law_histories.proofs.Calls.{ask-leads, still-ask, still-collect, still-flush}
 use Rattle.law_histories.proofs.Applies.{settled-begins}
-use Rattle.law_histories.proofs.Folds.{along-append, along-take}
+use Rattle.law_histories.proofs.Folds.{along-append, along-take, run, Along}
 use Rattle.law_histories.proofs.Messages.{received, seat-some}
 use Rattle.law_histories.proofs.Notices.{notice-leads, same-known}
 use Rattle.law_histories.proofs.Rows.{LeadsLost}

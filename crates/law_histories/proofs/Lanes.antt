@@ -7,9 +7,9 @@ use Rattle.group_types.specs.Each.{Each}
 use Rattle.group_message.specs.declared.message.Message.{Message}
 use Rattle.group_message.specs.declared.message.Message.TheVariants as tells
 use Rattle.group_message.specs.declared.update.Update.{Update}
-use Rattle.law_histories.proofs.HistoryWords.{Begins}
-use Rattle.law_histories.proofs.Folding.{run, Along}
+use Rattle.law_histories.proofs.HistoryWords.{Begins, RankRises}
 use Rattle.law_histories.proofs.LaneWords.{AdoptGoes, Fine, Goes, Prolongs, Seen, appended, is_live, next, raised, replaced}
+use Rattle.law_histories.proofs.Folds.{run, Along}
 
 -- what is said of a message of a head for partition d, by its rank
 abbrev pub Ranked : ℕ → (ℕ → Type 0) → Message → Type 0
@@ -35,18 +35,6 @@ ranked-weaker d P Q turn (tells.Mark session r block e n) ranked = λ here. turn
 ranked-weaker d P Q turn (tells.Row session bytes stamp) ranked = tt
 ranked-weaker d P Q turn (tells.Cease upto) ranked = tt
 ranked-weaker d P Q turn (tells.Notice dead) ranked = tt
-
-pub ranked-both : (d : ℕ) (P Q : ℕ → Type 0) → (m : Message) → Ranked d P m → Ranked d Q m → Ranked d (λ r. P r × Q r) m
-ranked-both d P Q (tells.Update r e u stable) a b = λ here. (a here, b here)
-ranked-both d P Q (tells.Adopt r e base list) a b = λ here. (a here, b here)
-ranked-both d P Q (tells.Ack r e n) a b = tt
-ranked-both d P Q (tells.Stable r e n) a b = λ here. (a here, b here)
-ranked-both d P Q (tells.ReadBlock session block rows) a b = tt
-ranked-both d P Q (tells.Block session bytes n) a b = tt
-ranked-both d P Q (tells.Mark session r block e n) a b = λ here. (a here, b here)
-ranked-both d P Q (tells.Row session bytes stamp) a b = tt
-ranked-both d P Q (tells.Cease upto) a b = tt
-ranked-both d P Q (tells.Notice dead) a b = tt
 
 -- a message of the partition, of no lower rank, is taken
 pub live-parts : (d : ℕ) (seen : Seen) (e r : ℕ) → is_live d seen e r ≡ true → (e ≡ d) × (seen.rank ≤ r)
@@ -131,7 +119,7 @@ rank-rises d seen (tells.Row session bytes stamp) = omega arith
 rank-rises d seen (tells.Cease upto) = omega arith
 rank-rises d seen (tells.Notice dead) = omega arith
 
-pub run-rises : (d : ℕ) (seen : Seen) (ms : List Message) → seen.rank ≤ (run (next d) seen ms).rank
+pub run-rises : RankRises
 run-rises d seen [] = omega arith
 run-rises d seen (m ∷ ms) = let first = rank-rises d seen m in let rest = run-rises d (next d seen m) ms in omega (arith, first, rest)
 

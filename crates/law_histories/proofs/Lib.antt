@@ -7,7 +7,6 @@ pub mod Deciding
 pub mod Finished
 pub mod FitWords
 pub mod Fits
-pub mod Folding
 pub mod Folds
 pub mod Handling
 pub mod Headed

@@ -19,7 +19,7 @@ use Rattle.group_message.specs.declared.message.Session.{Session}
 use Rattle.group_message.specs.declared.update.Update.{Update}
 use Rattle.group_run.specs.Applying.{ProcessStep, apply_to, head_at, quiet, replica_of, when, with_head}
 use Rattle.group_run.specs.Heading.{acknowledge, acknowledged, judge, partition, rank}
-use Rattle.group_run.specs.History.{settled_with}
+use Rattle.group_run.specs.History.{settled_with, history}
 use Rattle.group_run.specs.Leaders.{mark_comes, mark_taken}
 use Rattle.group_run.specs.Process.{Head, Process}
 use Rattle.group_run.specs.Receiving.{ack_to, adopt_comes, adopting, log_adopted, read_comes, receive, stable_comes, update_comes, update_taken, with_rank}
@@ -28,11 +28,10 @@ use Rattle.group_run.specs.Rows.{accepts_mark, begin_copy, copy_in, parity_numbe
 use Rattle.group_run.specs.World.{sent_to}
 use Rattle.law_moves.specs.State.{State}
 use Rattle.law_moves.proofs.Members.{IsFrom, IsParity, MayStand, Members, Sits, is_notice}
-use Rattle.law_moves.proofs.Eaches.{each-sent_to}
-use Rattle.law_histories.proofs.Folding.{Along}
+use Rattle.law_moves.proofs.Standing.{each-sent_to}
 use Rattle.law_histories.proofs.LaneWords.{AckFits, AckGoes, AdoptGoes, Fine, Goes, MarkGoes, NumberGoes, Prolongs, Seen, UpdateGoes, appended, is_live, next, raised, replaced}
 use Rattle.law_histories.proofs.Reach.{IsKeeper, ReplicaFits, seen_at}
-use Rattle.law_histories.proofs.HistoryWords.{HistoryLaws, history}
+use Rattle.law_histories.proofs.HistoryWords.{HistoryLaws}
 use Rattle.law_histories.proofs.Acts.{Tells, act-pop, act-send}
 use Rattle.law_histories.proofs.Around.{Around, HeadSits}
 use Rattle.law_histories.proofs.Heads.{act-acked, fits-applied, replica-apply_to}
@@ -42,6 +41,7 @@ use Rattle.law_histories.proofs.Lanes.{Lower, live-is, stale-next}
 use Rattle.law_histories.proofs.Ranks.{Used, used}
 use Rattle.law_histories.proofs.Rows.{same-begin, still-copy_marked, still-mark}
 use Rattle.law_histories.proofs.Steps.{LeadsFrom, SameIn, Still, judge-leads, same-apply, same-in-refl, same-in-trans, settled-none, still-from, still-judge, still-leads, still-quiet, still-when}
+use Rattle.law_histories.proofs.Folds.{Along}
 
 pub parity-is : (p : ProcessId) → IsParity p → (i : ℕ) × (p ≡ ParityNode i)
 parity-is (ParityNode i) parity = (i, refl)

@@ -11,7 +11,7 @@ use Rattle.group_run.specs.Applying.{Sent}
 use Rattle.group_run.specs.Process.{Head, Process}
 use Rattle.group_run.specs.World.{sent_to}
 use Rattle.law_moves.proofs.Cores.{MaySend, SentWell}
-use Rattle.law_moves.proofs.Eaches.{each-sent_to}
+use Rattle.law_moves.proofs.Standing.{each-sent_to}
 use Rattle.law_histories.proofs.Told.{Acks, IsTold, newest, told_by}
 
 -- the message acknowledges nothing of partition d

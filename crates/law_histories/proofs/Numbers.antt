@@ -13,7 +13,7 @@ use Rattle.group_calls.specs.declared.event.Event.{Event}
 use Rattle.group_run.specs.Applying.{head_at, replica_of}
 use Rattle.group_run.specs.Fitting.{NumberedFrom}
 use Rattle.group_run.specs.Headline.{IsRun, LogsAreShort}
-use Rattle.group_run.specs.History.{History, history_of, no_history}
+use Rattle.group_run.specs.History.{History, history_of, no_history, history}
 use Rattle.group_run.specs.Meaning.{Lives, process_of}
 use Rattle.group_run.specs.Process.{Head}
 use Rattle.group_run.specs.Replica.{Replica}
@@ -23,7 +23,6 @@ use Rattle.law_moves.proofs.Runs.{shape-from, world-from}
 use Rattle.law_moves.proofs.Members.{Members}
 use Rattle.law_histories.specs.Numbers.{KeepsNumbers, LogsShortAlways, NumbersKept, NumbersKeptAlways}
 use Rattle.law_histories.proofs.Reach.{Any, HeadReaches, IsKeeper, Reach, ReplicaFits, ReplicaReaches}
-use Rattle.law_histories.proofs.HistoryWords.{history}
 use Rattle.law_histories.proofs.Histories.{front-long, length-history, log-numbered}
 use Rattle.law_histories.proofs.Keeping.{reach_always}
 use Rattle.law_histories.proofs.Messages.{seat-some}

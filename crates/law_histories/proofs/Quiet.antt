@@ -12,7 +12,7 @@ use Rattle.group_types.specs.declared.process.ProcessId.TheVariants.{ParityNode}
 use Rattle.group_types.specs.declared.run.Run.{Run}
 use Rattle.group_types.proofs.Names.{same-refl}
 use Rattle.group_types.specs.Each.{Each}
-use Rattle.membership.specs.Members.{Membership, knows_dead}
+use Rattle.membership.specs.Members.{knows_dead}
 use Rattle.memc_table.specs.Act.{key_of}
 use Rattle.memc_table.specs.Asked.{Asked}
 use Rattle.memc_table.specs.declared.reply.Reply.{Reply}
@@ -42,6 +42,7 @@ use Rattle.law_moves.specs.State.{State, state_of}
 use Rattle.law_moves.proofs.Runs.{shape-from, world-from}
 use Rattle.law_moves.proofs.Members.{Sits, seat_of}
 use Rattle.law_moves.proofs.Calls.{each-below, seat-known}
+use Rattle.law_moves.proofs.Aways.{all-lower}
 use Rattle.law_histories.proofs.Reach.{Any, ReplicaReaches}
 use Rattle.law_histories.proofs.Messages.{seat-some}
 use Rattle.law_histories.specs.Laws.{AskedAlways, FinishedAlways, IsAsked, IsFinished, IsTraced, TracedAlways}
@@ -138,12 +139,6 @@ all-filter test P a (suc n) all = by (test a) refl (all-filter test P (a + 1) n 
   by : (b : Bool) → test a ≡ b → list_all P (filter test (range_with_len (a + 1) n)) ≡ true → list_all P (cond b (a ∷ filter test (range_with_len (a + 1) n)) (filter test (range_with_len (a + 1) n))) ≡ true
   by true is rest = ap (λ (b : Bool). b && list_all P (filter test (range_with_len (a + 1) n))) (all a (omega arith) (omega arith) is) ∙ rest
   by false is rest = rest
-
-all-lower : (known : Membership) (a n : ℕ) → ((j : ℕ) → a ≤ j → j < a + n → knows_dead known (ParityNode j) ≡ true) → list_all (λ j. knows_dead known (ParityNode j)) (range_with_len a n) ≡ true
-all-lower known a zero each = refl
-all-lower known a (suc n) each =
-    ap (λ (b : Bool). b && list_all (λ j. knows_dead known (ParityNode j)) (range_with_len (a + 1) n)) (each a (omega arith) (omega arith))
-    ∙ all-lower known (a + 1) n (λ j low high. each j (omega (arith, low)) (omega (arith, high)))
 
 module _ (s : Dimensions) (v : State) (reached : Reached s v) (told : Told s v) (empty : IsEmpty s v) (p : ProcessId) (pin : IsProcess s p) (lives : v.dead p ≡ false) where
   -- whoever is dead is known to be

@@ -27,15 +27,14 @@ use Rattle.group_run.specs.Receiving.{ack_to, adopting, log_adopted, notice_come
 use Rattle.group_run.specs.Replica.{applied_to, empty_replica, last_of, with_update}
 use Rattle.group_run.specs.Rows.{parity_number}
 use Rattle.group_run.specs.World.{front_if, sent_to}
+use Rattle.group_run.specs.History.{history}
 use Rattle.law_moves.proofs.Moves.{Acted, Popped}
 use Rattle.law_moves.specs.State.{IsUp, State}
 use Rattle.law_moves.proofs.Members.{IsFrom, IsParity, MayStand, Members, Reigns, is_notice, seat_of}
 use Rattle.law_moves.proofs.Calls.{Owes}
-use Rattle.law_moves.proofs.Keeping.{ground_of, seat-from}
-use Rattle.law_moves.proofs.Messages.{DueTo, MarksRow, received}
+use Rattle.law_moves.proofs.Keeping.{ground_of, seat-from, may-mark}
+use Rattle.law_moves.proofs.Messages.{DueTo, received}
 use Rattle.law_moves.proofs.Notices.{Noticed, noticed}
-use Rattle.law_histories.proofs.Folding.{Along}
-use Rattle.law_histories.proofs.HistoryWords.{history}
 use Rattle.law_histories.proofs.LaneWords.{AckFits, AckGoes, AdoptGoes, Goes, Seen, UpdateGoes, next}
 use Rattle.law_histories.proofs.Histories.{applied-is, last-number, length-history}
 use Rattle.law_histories.proofs.Lanes.{live-is}
@@ -50,6 +49,7 @@ use Rattle.law_histories.proofs.Handling.{plain-adopt, plain-read, plain-taken}
 use Rattle.law_histories.proofs.ToldKeeping.{HeadSide, Reached, SenderSide, head-same, seated-at, sender-one, told-left}
 use Rattle.law_histories.proofs.Newest.{NoAck, Silent, newest-append, newest-sent, silent-well, told-here, told-none}
 use Rattle.law_histories.proofs.Plain.{Plain, onward-notice, plain-apply, plain-judge, plain-mark, plain-refl, plain-trans, plain-when, settles-judge, settles-notice, settles-plain}
+use Rattle.law_histories.proofs.Folds.{Along}
 
 -- an acknowledgement at a process: nothing but a head's record of it changes
 record TakesAck (s : Dimensions) (d j r n : ℕ) (p q : Process) : Type 0 where
@@ -150,21 +150,9 @@ module _ (s : Dimensions) (shaped : IsShape s) (v u w : State) (x p : ProcessId)
     sends-same d below plain.rank plain.last silent,
   )
 
-  marks : (n : Message) → MayStand s v x p n → MarksRow s x n p
-  marks (tells.Mark session r block d n) may = may.2
-  marks (tells.Update r d u stable) may = tt
-  marks (tells.Ack r d n) may = tt
-  marks (tells.Stable r d n) may = tt
-  marks (tells.Adopt r d base list) may = tt
-  marks (tells.ReadBlock session block rows) may = subst IsParity (sym may.0) may.1
-  marks (tells.Block session bytes n) may = tt
-  marks (tells.Row session bytes stamp) may = tt
-  marks (tells.Cease upto) may = tt
-  marks (tells.Notice dead) may = tt
-
   -- what is sent in answer to a message that isn't a notice
   silent-by : (d : ℕ) → is_notice m ≡ false → ((to : ProcessId) (r e : ℕ) → DueTo x m to r e → e ≢ d) → Silent d made.sent
-  silent-by d plain none = silent-well d (DueTo x m) s.k made.process none made.sent (received s x p m proc plain pin (seated-at s shaped v members p pin lives) (marks m may-first)).sent
+  silent-by d plain none = silent-well d (DueTo x m) s.k made.process none made.sent (received s x p m proc plain pin (seated-at s shaped v members p pin lives) (may-mark s v x p m may-first)).sent
 
   module _ (d : ℕ) (below : d < s.k) where
     around : Around Any s v d p proc (v.link p) (λ y. v.link y p) (v.settled d)

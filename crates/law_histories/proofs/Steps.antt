@@ -24,7 +24,7 @@ use Rattle.group_run.specs.Replica.{Replica, applied_to, empty_replica, last_of,
 use Rattle.group_run.specs.World.{front_if, new_ones, sent_to, settled_in}
 use Rattle.law_moves.specs.State.{State}
 use Rattle.law_moves.proofs.Members.{Members}
-use Rattle.law_moves.proofs.Eaches.{each-sent_to}
+use Rattle.law_moves.proofs.Standing.{each-sent_to}
 use Rattle.law_histories.proofs.HistoryWords.{HistoryLaws}
 use Rattle.law_histories.proofs.Acts.{Tells, act-same, act-send}
 use Rattle.law_histories.proofs.Around.{Around}

@@ -26,10 +26,10 @@ use Rattle.group_run.specs.Applying.{ProcessStep, apply_to, head_at, replica_of,
 use Rattle.group_run.specs.Asking.{Oldest, act_on, ask_head, ask_process, found_at, issued, oldest_inherited, reply_from, retry_block, ticketed, update_of}
 use Rattle.group_run.specs.Deciding.{decide}
 use Rattle.group_run.specs.Heading.{judge_head, least_acked, other_parities, settlements}
-use Rattle.group_run.specs.History.{settled_with}
+use Rattle.group_run.specs.History.{settled_with, history}
 use Rattle.group_run.specs.Process.{Head, Process}
 use Rattle.group_run.specs.Replica.{Replica, applied_to, empty_replica, last_of, up_to, with_update}
-use Rattle.group_run.specs.World.{Call, front_if, is_issued, new_ones, settled_in, update_name}
+use Rattle.group_run.specs.World.{Call, front_if, new_ones, settled_in, update_name}
 use Rattle.law_updates.specs.Decisions.{IsSound, ReadsFrom}
 use Rattle.law_updates.specs.Right.{ruling_in}
 use Rattle.law_updates.specs.Store.{held, store_after}
@@ -37,7 +37,7 @@ use Rattle.law_updates.proofs.Decides.{decisions_are_sound}
 use Rattle.law_updates.proofs.Fines.{issues_are_fine, now-fits, now-items}
 use Rattle.law_updates.proofs.Rules.{RulesWell, rules-well}
 use Rattle.law_log.proofs.Laws.{HeadsIssueFine}
-use Rattle.law_log.specs.Stands.{HeadStands, history_at}
+use Rattle.law_log.specs.Stands.{HeadStands}
 use Rattle.law_log.proofs.Entries.{accepted-from}
 use Rattle.law_log.proofs.Refusals.{front-is, head-replica, settled-refusal}
 
@@ -64,11 +64,11 @@ module _ (s : Dimensions) (calls : List Call) (settled : List Update) (c : Call)
   sound : IsSound (space_of s) h.inherited r (store_after s d (take r.applied settled)) c.op (decide (space_of s) h.inherited r c.op (found_at s d p p.name))
   sound =
       let replica = head-replica s calls settled d p h stands in
-      let front : take r.applied (history_at settled r) ≡ take r.applied settled = front-is s calls settled d p h stands in
-      let good = now-fits s calls d r.applied (history_at settled r) stands.fine r replica in
+      let front : take r.applied (history settled r) ≡ take r.applied settled = front-is s calls settled d p h stands in
+      let good = now-fits s calls d r.applied (history settled r) stands.fine r replica in
       subst (λ (us : List Update). IsSound (space_of s) h.inherited r (store_after s d us) c.op (decide (space_of s) h.inherited r c.op (found_at s d p p.name))) front
-      (decisions_are_sound (space_of s) h.inherited r (store_after s d (take r.applied (history_at settled r))) c.op (found_at s d p p.name) good.long good.inside
-      (sym (now-items s calls d r.applied (history_at settled r) stands.fine r replica))
+      (decisions_are_sound (space_of s) h.inherited r (store_after s d (take r.applied (history settled r))) c.op (found_at s d p p.name) good.long good.inside
+      (sym (now-items s calls d r.applied (history settled r) stands.fine r replica))
       (subst (λ (us : List Update). ReadsFrom (store_after s d us).space (found_at s d p p.name)) (sym front) stands.reads))
 
   -- a refusal
@@ -189,23 +189,10 @@ module _ (s : Dimensions) (calls : List Call) (settled : List Update) (c : Call)
     by None heads is = absurd (not-reply _ reply refl is)
     by (Some h) heads is = answered-when s calls settled c (home_of (key_of c.op.act) s.k) p h (stands h heads) _ (sound s calls settled c (home_of (key_of c.op.act) s.k) p h (stands h heads)) reply is accepted
 
--- a head that decides to issue an update says so, by a ticket or by a reply that accepts
-pub issue-says : (s : Dimensions) (c : Call) (p : Process) (h : Head) (body : Body) (outcome : Outcome) → head_at p (home_of (key_of c.op.act) s.k) ≡ Some h
-    → decide (space_of s) h.inherited (replica_of p (home_of (key_of c.op.act) s.k)) c.op (found_at s (home_of (key_of c.op.act) s.k) p p.name) ≡ decides.Issue body outcome
-    → is_issued (ask_process s c.name c.op p).answer ≡ true
-issue-says s c p h body outcome heads decided =
-    ap (λ (o : Option Head). is_issued (ask_head s c.name c.op (home_of (key_of c.op.act) s.k) p o).answer) heads
-    ∙ ap (λ (decision : Decision). is_issued (act_on s c.name c.op (home_of (key_of c.op.act) s.k) h p decision).answer) decided
-    ∙ by (nat_le (suc (last_of (replica_of p (home_of (key_of c.op.act) s.k)))) (replica_of (issued s (home_of (key_of c.op.act) s.k) h (update_of c.name c.op (home_of (key_of c.op.act) s.k) body outcome p) p).process (home_of (key_of c.op.act) s.k)).applied)
-    (issued s (home_of (key_of c.op.act) s.k) h (update_of c.name c.op (home_of (key_of c.op.act) s.k) body outcome p) p) where
-      by : (b : Bool) (step : ProcessStep) → is_issued (ticketed b (home_of (key_of c.op.act) s.k) (update_of c.name c.op (home_of (key_of c.op.act) s.k) body outcome p) step).answer ≡ true
-      by true step = accepted-from outcome
-      by false step = refl
-
 -- what it issues prolongs its history
 pub heads_issue_fine : HeadsIssueFine
 heads_issue_fine s calls settled d p h c body outcome stands next home decided =
     let r : Replica = replica_of p d in
-    issues_are_fine s calls d h.inherited (history_at settled r) c p body outcome stands.fine (head-replica s calls settled d p h stands)
+    issues_are_fine s calls d h.inherited (history settled r) c p body outcome stands.fine (head-replica s calls settled d p h stands)
     (record { caller = next.caller; home = home; bytes = next.bytes }) next.behind
     (subst (λ (us : List Update). ReadsFrom (store_after s d us).space (found_at s d p p.name)) (sym (front-is s calls settled d p h stands)) stands.reads) decided

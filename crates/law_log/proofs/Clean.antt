@@ -18,9 +18,10 @@ use Rattle.group_calls.specs.Within.{Traces}
 use Rattle.group_calls.specs.declared.event.Answer.TheVariants as says
 use Rattle.group_run.specs.Applying.{replica_of}
 use Rattle.group_run.specs.World.{update_name}
+use Rattle.group_run.specs.History.{history}
 use Rattle.law_moves.specs.State.{State}
 use Rattle.law_moves.proofs.Members.{Members}
-use Rattle.law_histories.proofs.HistoryWords.{Begins, HistoryLaws, history}
+use Rattle.law_histories.proofs.HistoryWords.{Begins, HistoryLaws}
 use Rattle.law_histories.proofs.Issuing.{IssueKeeps}
 use Rattle.law_histories.proofs.Reach.{Reach}
 use Rattle.law_histories.proofs.Around.{GrewBy, keeper-rank}

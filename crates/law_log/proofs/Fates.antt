@@ -17,9 +17,10 @@ use Rattle.group_run.specs.Asking.{fate_from, fate_of, fate_unless, gone_or, is_
 use Rattle.group_run.specs.Process.{Head, Process}
 use Rattle.group_run.specs.Replica.{callers, kept_after}
 use Rattle.group_run.specs.World.{Call, update_name}
+use Rattle.group_run.specs.History.{history}
 use Rattle.law_updates.specs.Fine.{ComesBefore}
 use Rattle.law_updates.proofs.Clears.{none-passes}
-use Rattle.law_log.specs.Stands.{HeadStands, IsSettledAs, history_at}
+use Rattle.law_log.specs.Stands.{HeadStands, IsSettledAs}
 use Rattle.law_log.proofs.Calls.{each-contained}
 use Rattle.law_log.proofs.Refusals.{front-is}
 use Rattle.law_log.proofs.Turnings.{contained-get, get-contained, get-taken}
@@ -46,7 +47,7 @@ kept-last caller (u ∷ us) kept rising =
 module _ (s : Dimensions) (calls : List Call) (settled : List Update) (d : ℕ) (p : Process) (h : Head) (stands : HeadStands s calls settled d p h) where
   front-rises : EachTwo ComesBefore (take (replica_of p d).applied settled)
   front-rises = subst (EachTwo ComesBefore) (front-is s calls settled d p h stands)
-      (each_two-take ComesBefore (replica_of p d).applied (history_at settled (replica_of p d)) stands.fine.rising)
+      (each_two-take ComesBefore (replica_of p d).applied (history settled (replica_of p d)) stands.fine.rising)
 
   kept-of : (caller : ℕ) → KeptOf caller (take (replica_of p d).applied settled) None (at None (replica_of p d).kept caller)
   kept-of caller = subst (λ (o : Option Kept). KeptOf caller (take (replica_of p d).applied settled) o (at None (replica_of p d).kept caller)) (at-replicate None callers caller)
@@ -82,7 +83,7 @@ module _ (s : Dimensions) (calls : List Call) (settled : List Update) (d : ℕ) 
         let other : x.call ≢ call = λ same. let e : (x.call == call) ≡ true = eq-eqb x.call call same in cc (e, one) in omega (arith, most, other)
 
   -- a call that is told to be gone has no update in the head's history
-  pub gone-unnamed : (caller call : ℕ) → fate_of s caller call d p (Some h) ≡ says.Gone → Each (λ u. update_name u ≢ record { caller = caller; call = call }) (history_at settled (replica_of p d))
+  pub gone-unnamed : (caller call : ℕ) → fate_of s caller call d p (Some h) ≡ says.Gone → Each (λ u. update_name u ≢ record { caller = caller; call = call }) (history settled (replica_of p d))
   gone-unnamed caller call is = by (is_in_log caller call (replica_of p d).log) refl is where
     named-call : (u : Update) → update_name u ≡ record { caller = caller; call = call } → (u.caller ≡ caller) × (u.call ≡ call)
     named-call u same = (ap (λ (n : CallName). n.caller) same, ap (λ (n : CallName). n.call) same)
@@ -110,7 +111,7 @@ module _ (s : Dimensions) (calls : List Call) (settled : List Update) (d : ℕ) 
         (λ v below name. let both = named-call v name in let most_here = below both.0 in let call_is = both.1 in omega arith) (take (replica_of p d).applied settled) most
 
     by : (b : Bool) → is_in_log caller call (replica_of p d).log ≡ b → fate_unless b (fate_from (is_adopted s p h) call (at None (replica_of p d).kept caller)) ≡ says.Gone
-        → Each (λ u. update_name u ≢ record { caller = caller; call = call }) (history_at settled (replica_of p d))
+        → Each (λ u. update_name u ≢ record { caller = caller; call = call }) (history settled (replica_of p d))
     by true logged is = absurd (cc is)
     by false none is = each-append (λ u. update_name u ≢ record { caller = caller; call = call }) (take (replica_of p d).applied settled) (replica_of p d).log
         (applied (fate-applied (is_adopted s p h) caller call (at None (replica_of p d).kept caller) is) (kept-of caller)) (in_log none)

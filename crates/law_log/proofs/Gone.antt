@@ -23,7 +23,7 @@ use Rattle.group_calls.specs.declared.event.Event.TheVariants.{Ask, Collect, Del
 use Rattle.group_run.specs.Applying.{head_at, replica_of}
 use Rattle.group_run.specs.Asking.{ask_process, collect_from, fate_from, fate_of, fate_unless, gone_or, is_adopted, is_in_log, reply_from}
 use Rattle.group_run.specs.Headline.{IsRun, MayCome}
-use Rattle.group_run.specs.History.{History, no_history, prolonged}
+use Rattle.group_run.specs.History.{History, no_history, prolonged, history}
 use Rattle.group_run.specs.Process.{Head}
 use Rattle.group_run.specs.Receiving.{receive}
 use Rattle.group_run.specs.World.{Call, World, flush_process, if_up, next_name, node_of, step, unchanged, update_name}
@@ -33,7 +33,6 @@ use Rattle.law_moves.proofs.Events.{FramedHistory, up_from}
 use Rattle.law_moves.proofs.Runs.{runs_move}
 use Rattle.law_moves.proofs.Members.{Members}
 use Rattle.law_moves.proofs.Keeping.{keeps}
-use Rattle.law_histories.proofs.HistoryWords.{history}
 use Rattle.law_histories.proofs.Issuing.{IssueKeeps}
 use Rattle.law_histories.proofs.Reach.{Reach}
 use Rattle.law_histories.proofs.Around.{keeper-rank}

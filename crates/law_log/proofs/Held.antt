@@ -20,7 +20,7 @@ use Rattle.group_calls.specs.declared.event.Event.{Event}
 use Rattle.group_run.specs.Applying.{ProcessStep, head_at, held_at, replica_of}
 use Rattle.group_run.specs.Fitting.{NumberedFrom}
 use Rattle.group_run.specs.Headline.{IsRun}
-use Rattle.group_run.specs.History.{History, settled_with}
+use Rattle.group_run.specs.History.{History, settled_with, history}
 use Rattle.group_run.specs.Process.{Head, Held, Process}
 use Rattle.group_run.specs.Receiving.{receive}
 use Rattle.group_run.specs.Replica.{Replica}
@@ -29,7 +29,7 @@ use Rattle.law_moves.specs.State.{State, state_of}
 use Rattle.law_moves.proofs.State.{Opens}
 use Rattle.law_moves.proofs.Runs.{holds_always}
 use Rattle.law_moves.proofs.Members.{Members}
-use Rattle.law_histories.proofs.HistoryWords.{Begins, HistoryLaws, history}
+use Rattle.law_histories.proofs.HistoryWords.{Begins, HistoryLaws}
 use Rattle.law_histories.proofs.Applies.{settled-begins}
 use Rattle.law_histories.proofs.Histories.{history-grown, log-numbered, numbered-front}
 use Rattle.law_histories.proofs.Reach.{Any, Reach, ReplicaFits, ReplicaReaches}

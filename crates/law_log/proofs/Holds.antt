@@ -22,9 +22,6 @@ use Rattle.group_run.specs.Rows.{accepts_mark, begin_copy, copy_begun, copy_in, 
 abbrev pub Holds : Process → ProcessStep → Type 0
 Holds p t = t.process.held ≡ p.held
 
-pub holds-then : (p : Process) (a : ProcessStep) (f : Process → ProcessStep) → Holds p a → Holds a.process (f a.process) → Holds p (and_then a f)
-holds-then p a f first later = later ∙ first
-
 pub holds-each : (xs : List ℕ) (f : ℕ → Process → ProcessStep) (p : Process) → ((x : ℕ) (q : Process) → Holds q (f x q)) → Holds p (for_each xs f p)
 holds-each [] f p each = refl
 holds-each (x ∷ xs) f p each = holds-each xs f (f x p).process each ∙ each x p

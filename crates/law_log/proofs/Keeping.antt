@@ -12,12 +12,13 @@ use Rattle.group_run.specs.Headline.{IsItem, IsLogged, IsRun, KeepsAll}
 use Rattle.group_run.specs.Meaning.{Logged, count_logged, run_on, table_at, updates_of}
 use Rattle.group_run.specs.Replica.{Items, Replica, items_after, slot_in}
 use Rattle.group_run.specs.World.{Call, World, after}
+use Rattle.group_run.specs.History.{history}
 use Rattle.law_updates.specs.Fine.{AreSteps}
 use Rattle.law_updates.proofs.Laws.{FineItems}
 use Rattle.law_updates.specs.Store.{Store, no_store, stored}
 use Rattle.law_updates.proofs.Homes.{fine_histories_leave_items}
 use Rattle.law_log.specs.Book.{book_of}
-use Rattle.law_log.specs.Stands.{StandsAlways, history_at}
+use Rattle.law_log.specs.Stands.{StandsAlways}
 use Rattle.law_log.proofs.Books.{book-shape, book-world}
 use Rattle.law_log.proofs.ReplicaWords.{ReplicaStands, ReplicasKeepAll}
 use Rattle.law_log.proofs.Shown.{AreShown, LogShows}
@@ -71,12 +72,12 @@ module _ (s : Dimensions) (always : StandsAlways s) (es : List Event) (run : IsR
   front-long = length-take-le r.applied settled stands.within
 
   -- an update of the log stands in the history
-  in-history : (j : ℕ) → slice_get (history_at settled r) (r.applied + j) ≡ slice_get r.log j
-  in-history j = ap (λ (n : ℕ). slice_get (history_at settled r) (n + j)) (sym front-long) ∙ get-behind (take r.applied settled) r.log j
+  in-history : (j : ℕ) → slice_get (history settled r) (r.applied + j) ≡ slice_get r.log j
+  in-history j = ap (λ (n : ℕ). slice_get (history settled r) (n + j)) (sym front-long) ∙ get-behind (take r.applied settled) r.log j
 
   fine-items : FineItems s d (items_after [] (take r.applied settled))
   fine-items = subst (λ (us : List Update). FineItems s d (items_after [] us)) (take_at (take r.applied settled) r.log r.applied front-long)
-      (fine_histories_leave_items s (book_of s es).issued d r.applied r.applied (history_at settled r) stands.fine)
+      (fine_histories_leave_items s (book_of s es).issued d r.applied r.applied (history settled r) stands.fine)
 
   pub keeps : KeepsAll (after s es) d r
   keeps = record {
@@ -89,12 +90,12 @@ module _ (s : Dimensions) (always : StandsAlways s) (es : List Event) (run : IsR
           (subst (λ (t : Dimensions). All (λ x. home_of x.0 t.k ≡ d) (items_after [] (take r.applied settled))) (sym shape-is) fine-items.homes);
       once = subst (λ (items : Items). AllPairs (λ x y. x.0 ≢ y.0) items) (sym stands.items) fine-items.once;
     };
-    numbers = λ j v is. number-at s (book_of s es).issued d 0 (r.applied + j) (no_store s) (history_at settled r) v stands.fine.steps (in-history j ∙ is) ∙ ap suc (omega arith);
+    numbers = λ j v is. number-at s (book_of s es).issued d 0 (r.applied + j) (no_store s) (history settled r) v stands.fine.steps (in-history j ∙ is) ∙ ap suc (omega arith);
     log = λ j u v is it.
         let below : r.applied + j < length (updates_of (after s es) d) = slice_get_within (updates_of (after s es) d) (r.applied + j) u it in
         let early : r.applied + j < length settled = let long = many in omega arith in
         let there : slice_get settled (r.applied + j) ≡ Some v
-        = ap (λ (us : List Update). slice_get us (r.applied + j)) (sym stands.prolongs) ∙ get-first (length settled) (history_at settled r) (r.applied + j) early ∙ in-history j ∙ is in
+        = ap (λ (us : List Update). slice_get us (r.applied + j)) (sym stands.prolongs) ∙ get-first (length settled) (history settled r) (r.applied + j) early ∙ in-history j ∙ is in
         logged-at s d (r.applied + j) (no_store s) settled (updates_of (after s es) d) v u log-shows.updates there it;
   }
 

@@ -21,6 +21,7 @@ use Rattle.group_run.specs.Deciding.{is_get, waits_for}
 use Rattle.group_run.specs.Process.{Head, Process}
 use Rattle.group_run.specs.Replica.{Items, Replica, item_settled, items_after, number_on}
 use Rattle.group_run.specs.World.{Call}
+use Rattle.group_run.specs.History.{history}
 use Rattle.law_updates.specs.Decisions.{IsRefusal}
 use Rattle.law_updates.specs.Fine.{AreClear, AreSteps}
 use Rattle.law_updates.proofs.Fine.{IsReplicaOf}
@@ -29,7 +30,7 @@ use Rattle.law_updates.specs.Store.{Store, held, no_store, store_after, stored}
 use Rattle.law_updates.proofs.Clears.{number_on-none}
 use Rattle.law_updates.proofs.Histories.{history-fits, steps-behind, steps-keep-held, steps-take, store-append}
 use Rattle.law_updates.proofs.Keys.{key-ne}
-use Rattle.law_log.specs.Stands.{HeadStands, history_at}
+use Rattle.law_log.specs.Stands.{HeadStands}
 
 -- a key that none of these is on
 number_on-others : (us : List Update) (key : List ℕ) → Each (λ v. key ≢ v.key) us → number_on us key ≡ None
@@ -80,14 +81,14 @@ module _ (s : Dimensions) (calls : List Call) (settled : List Update) (d : ℕ) 
   front-long : length (take r.applied settled) ≡ r.applied
   front-long = length-take-le r.applied settled stands.within
 
-  pub front-is : take r.applied (history_at settled r) ≡ take r.applied settled
+  pub front-is : take r.applied (history settled r) ≡ take r.applied settled
   front-is = take_at (take r.applied settled) r.log r.applied front-long
 
-  log-is : drop r.applied (history_at settled r) ≡ r.log
+  log-is : drop r.applied (history settled r) ≡ r.log
   log-is = drop_at (take r.applied settled) r.log r.applied front-long
 
   -- its replica is that of its history
-  pub head-replica : IsReplicaOf r.applied (history_at settled r) r
+  pub head-replica : IsReplicaOf r.applied (history settled r) r
   head-replica = record {
     applied = refl;
     within = let long = front-long in omega (arith, length-append (take r.applied settled) r.log);
@@ -98,7 +99,7 @@ module _ (s : Dimensions) (calls : List Call) (settled : List Update) (d : ℕ) 
   -- what is settled above its applied number stands first in its log
   rest-is : drop r.applied settled ≡ take (length settled - r.applied) r.log
   rest-is =
-      ap (drop r.applied) (sym stands.prolongs) ∙ drop-taken (length settled) (history_at settled r) ∙ ap (take (length settled - r.applied)) log-is where
+      ap (drop r.applied) (sym stands.prolongs) ∙ drop-taken (length settled) (history settled r) ∙ ap (take (length settled - r.applied)) log-is where
         drop-taken : (c : ℕ) (xs : List Update) → drop r.applied (take c xs) ≡ take (c - r.applied) (drop r.applied xs)
         drop-taken c xs = by (cases_lt c r.applied) where
           by : (c < r.applied) ⊎ (r.applied ≤ c) → drop r.applied (take c xs) ≡ take (c - r.applied) (drop r.applied xs)
@@ -109,7 +110,7 @@ module _ (s : Dimensions) (calls : List Call) (settled : List Update) (d : ℕ) 
               drop_all r.applied (take c xs) short ∙ sym (ap (λ (k : ℕ). take k (drop r.applied xs)) none)
 
   settled-fine : AreSteps s calls d 0 (no_store s) settled
-  settled-fine = subst (AreSteps s calls d 0 (no_store s)) stands.prolongs (steps-take s calls d (length settled) 0 (no_store s) (history_at settled r) stands.fine.steps)
+  settled-fine = subst (AreSteps s calls d 0 (no_store s)) stands.prolongs (steps-take s calls d (length settled) 0 (no_store s) (history settled r) stands.fine.steps)
 
   whole : take r.applied settled ++ drop r.applied settled ≡ settled
   whole = take-append-drop r.applied settled
@@ -117,8 +118,8 @@ module _ (s : Dimensions) (calls : List Call) (settled : List Update) (d : ℕ) 
   rest-steps : AreSteps s calls d r.applied (store_after s d (take r.applied settled)) (drop r.applied settled)
   rest-steps = steps-behind s calls d 0 r.applied (no_store s) (take r.applied settled) (drop r.applied settled) (omega (arith, front-long)) (subst (AreSteps s calls d 0 (no_store s)) (sym whole) settled-fine)
 
-  log-clear : AreClear (items_after [] (take r.applied (history_at settled r))) r.log
-  log-clear = subst (AreClear (items_after [] (take r.applied (history_at settled r)))) log-is stands.fine.clear
+  log-clear : AreClear (items_after [] (take r.applied (history settled r))) r.log
+  log-clear = subst (AreClear (items_after [] (take r.applied (history settled r)))) log-is stands.fine.clear
 
   -- no settled update above the applied number is on the key of an op that the head answers
   others : (op : Asked) → waits_for h.inherited op.act (number_on r.log (key_of op.act)) ≡ None → Each (λ v. v.key ≢ key_of op.act) (drop r.applied settled)
@@ -133,7 +134,7 @@ module _ (s : Dimensions) (calls : List Call) (settled : List Update) (d : ℕ) 
         = numbers-below s calls d r.applied (length settled) (store_after s d (take r.applied settled)) (drop r.applied settled) (let in_it = stands.within in omega (arith, length-drop r.applied settled)) rest-steps in
         let found : Each (λ v. v.key ≡ key_of op.act → v.number ≡ n) (drop r.applied settled)
         = subst (Each (λ v. v.key ≡ key_of op.act → v.number ≡ n)) (sym rest-is)
-        (each-take (λ v. v.key ≡ key_of op.act → v.number ≡ n) (length settled - r.applied) r.log (only-number (items_after [] (take r.applied (history_at settled r))) r.log (key_of op.act) n log-clear is)) in
+        (each-take (λ v. v.key ≡ key_of op.act → v.number ≡ n) (length settled - r.applied) r.log (only-number (items_after [] (take r.applied (history settled r))) r.log (key_of op.act) n log-clear is)) in
         each-weaker (λ v. (v.number ≤ length settled) × (v.key ≡ key_of op.act → v.number ≡ n)) (λ v. v.key ≢ key_of op.act)
         (λ v both same. let number : v.number ≡ n = both.1 same in let low = both.0 in omega arith) (drop r.applied settled)
         (each-both (λ v. v.number ≤ length settled) (λ v. v.key ≡ key_of op.act → v.number ≡ n) (drop r.applied settled) numbers found)

@@ -8,16 +8,17 @@ use Rattle.group_calls.specs.declared.event.Event.{Event}
 use Rattle.group_run.specs.Headline.{IsRun, KeepsAll}
 use Rattle.group_run.specs.Replica.{Replica, items_after, last_of}
 use Rattle.group_run.specs.World.{Call, after}
+use Rattle.group_run.specs.History.{history}
 use Rattle.law_updates.specs.Fine.{Fine}
 use Rattle.law_log.specs.Book.{book_of}
-use Rattle.law_log.specs.Stands.{StandsAlways, history_at}
+use Rattle.law_log.specs.Stands.{StandsAlways}
 
 -- a replica has every settled update of its partition, in a fine history, and the items of what it has applied
 pub record ReplicaStands (s : Dimensions) (calls : List Call) (settled : List Update) (d : ℕ) (r : Replica) : Type 0 where
   pub within : r.applied ≤ length settled
   pub reached : length settled ≤ last_of r
-  pub prolongs : take (length settled) (history_at settled r) ≡ settled
-  pub fine : Fine s calls d r.applied (history_at settled r)
+  pub prolongs : take (length settled) (history settled r) ≡ settled
+  pub fine : Fine s calls d r.applied (history settled r)
   pub items : r.items ≡ items_after [] (take r.applied settled)
 
 -- so it keeps all that is logged

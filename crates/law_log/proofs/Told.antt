@@ -20,16 +20,17 @@ use Rattle.group_run.specs.Applying.{head_at, replica_of}
 use Rattle.group_run.specs.Asking.{is_adopted}
 use Rattle.group_run.specs.Heading.{other_parities}
 use Rattle.group_run.specs.Process.{Head}
+use Rattle.group_run.specs.History.{history}
 use Rattle.law_moves.specs.State.{State}
 use Rattle.law_moves.proofs.Members.{Members, Reigns}
-use Rattle.law_histories.proofs.Folding.{run, Along}
-use Rattle.law_histories.proofs.HistoryWords.{Begins, history}
+use Rattle.law_histories.proofs.HistoryWords.{Begins}
 use Rattle.law_histories.proofs.LaneWords.{Goes, Seen, appended, next, replaced}
 use Rattle.law_histories.proofs.Lanes.{Stale, rank-rises, run-rises, same-rank-begins, stale-along}
 use Rattle.law_histories.proofs.Reach.{IsKeeper, Reach, seen_at}
 use Rattle.law_histories.proofs.Around.{enters}
 use Rattle.law_histories.proofs.Keeping.{unknown}
 use Rattle.law_histories.proofs.Ranks.{Used, head-from, may-stale}
+use Rattle.law_histories.proofs.Folds.{run, Along}
 
 -- what all that pass one test do, each does
 all-others : (t f : ℕ → Bool) (i n a : ℕ) → a ≤ i → i < a + n → f i ≡ true → list_all t (filter f (range_with_len a n)) ≡ true → t i ≡ true

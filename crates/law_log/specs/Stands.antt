@@ -1,5 +1,5 @@
 -- What has to stand at every moment for the log: what is settled is fine, and heads have it.
-use Rattle.std.specs.Prelude.{ℕ, ◌≡◌, ◌≢◌, ◌<◌, ◌≤◌, ◌++◌, false, List, [], length, replicate, take, None, Some, Contains}
+use Rattle.std.specs.Prelude.{ℕ, ◌≡◌, ◌≢◌, ◌<◌, ◌≤◌, false, List, [], length, replicate, take, None, Some, Contains}
 use Rattle.group_types.specs.Dimensions.{Dimensions}
 use Rattle.group_types.specs.Lists.{at}
 use Rattle.group_types.specs.Names.{IsProcess}
@@ -14,17 +14,14 @@ use Rattle.group_run.specs.Applying.{head_at, held_at, replica_of}
 use Rattle.group_run.specs.Asking.{found_at}
 use Rattle.group_run.specs.Headline.{IsRun}
 use Rattle.group_run.specs.Process.{Head, Held, Process}
-use Rattle.group_run.specs.Replica.{Replica, callers, items_after, kept_after, last_of}
+use Rattle.group_run.specs.Replica.{callers, items_after, kept_after, last_of}
 use Rattle.group_run.specs.World.{Call, update_name}
+use Rattle.group_run.specs.History.{history}
 use Rattle.law_moves.specs.State.{IsUp, State, state_of}
 use Rattle.law_updates.specs.Decisions.{ReadsFrom}
 use Rattle.law_updates.specs.Fine.{Fine}
 use Rattle.law_updates.specs.Store.{store_after}
 use Rattle.law_log.specs.Book.{book_of}
-
--- the whole history of a replica: the settled updates that it has applied, and its log
-abbrev pub history_at : List Update → Replica → List Update
-history_at settled r = take r.applied settled ++ r.log
 
 -- a head has every settled update of its partition, in a fine history; its items are those of what it has
 -- applied, so are the outcomes that it keeps, and it finds in runs what the space has then. What it inherited
@@ -32,8 +29,8 @@ history_at settled r = take r.applied settled ++ r.log
 pub record HeadStands (s : Dimensions) (calls : List Call) (settled : List Update) (d : ℕ) (p : Process) (h : Head) : Type 0 where
   pub within : (replica_of p d).applied ≤ length settled
   pub reached : length settled ≤ last_of (replica_of p d)
-  pub prolongs : take (length settled) (history_at settled (replica_of p d)) ≡ settled
-  pub fine : Fine s calls d (replica_of p d).applied (history_at settled (replica_of p d))
+  pub prolongs : take (length settled) (history settled (replica_of p d)) ≡ settled
+  pub fine : Fine s calls d (replica_of p d).applied (history settled (replica_of p d))
   pub items : (replica_of p d).items ≡ items_after [] (take (replica_of p d).applied settled)
   pub kept : (replica_of p d).kept ≡ kept_after (replicate callers None) (take (replica_of p d).applied settled)
   pub reads : ReadsFrom (store_after s d (take (replica_of p d).applied settled)).space (found_at s d p p.name)

@@ -67,15 +67,11 @@ contains-last : (front : List Message) (x : Message) → Contains (front ++ x �
 contains-last [] x = (0, omega arith, refl)
 contains-last (y ∷ ys) x = let rest = contains-last ys x in let low = rest.1 in (suc rest.0, omega (arith, low), rest.2)
 
-all-lower : (known : Membership) (a n : ℕ) → ((j : ℕ) → a ≤ j → j < a + n → knows_dead known (ParityNode j) ≡ true) → list_all (λ j. knows_dead known (ParityNode j)) (range_with_len a n) ≡ true
+pub all-lower : (known : Membership) (a n : ℕ) → ((j : ℕ) → a ≤ j → j < a + n → knows_dead known (ParityNode j) ≡ true) → list_all (λ j. knows_dead known (ParityNode j)) (range_with_len a n) ≡ true
 all-lower known a zero each = refl
 all-lower known a (suc n) each =
     ap (λ (b : Bool). b && list_all (λ j. knows_dead known (ParityNode j)) (range_with_len (a + 1) n)) (each a (omega arith) (omega arith))
     ∙ all-lower known (a + 1) n (λ j low high. each j (omega (arith, low)) (omega (arith, high)))
-
-some-seat : (p : Process) (d r : ℕ) (h : Option Head) → head_at p d ≡ h → seat_of p d ≡ Some r → (y : Head) × (h ≡ Some y)
-some-seat p d r None is seat = absurd (cc (seat, ap (option_map (λ (y : Head). y.rank)) is))
-some-seat p d r (Some y) is seat = (y, refl)
 
 module _ (h : History) (members : Members h.world.shape (state_of h)) (p : ProcessId) (d : ℕ) (pin : IsProcess h.world.shape p) (lives : is_dead h.world p ≡ false) (below : d < h.world.shape.k) where
   -- whoever sits there is the head and has taken over

@@ -29,10 +29,6 @@ core-refl p = record { name = refl; known = refl; ranks = refl; seats = λ d. re
 pub core-trans : {p q r : Process} → SameCore p q → SameCore q r → SameCore p r
 core-trans a b = record { name = b.name ∙ a.name; known = b.known ∙ a.known; ranks = b.ranks ∙ a.ranks; seats = λ d. b.seats d ∙ a.seats d }
 
--- the acknowledgements that a step owes
-abbrev pub Due : Type 1
-Due = ProcessId → ℕ → ℕ → Type 0
-
 -- a message that a process may send
 abbrev pub MaySend : (ProcessId → ℕ → ℕ → Type 0) → ℕ → Process → ProcessId → Message → Type 0
 MaySend due k p to (tells.Update r d u stable) = (d.0 < k) × (seat_of p d.0 ≡ Some r.0) × IsParity to

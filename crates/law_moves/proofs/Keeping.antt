@@ -29,9 +29,22 @@ use Rattle.law_moves.proofs.Runs.{holds_always}
 use Rattle.law_moves.proofs.Members.{IsData, IsFrom, IsParity, IsPlain, MayStand, Members, MembersAlways, Reigns, Sits, SitsWhen, Stands, is_notice, knows_lower, seat_of}
 use Rattle.law_moves.proofs.Calls.{Owes, Seated, seat-known, seat-lower, seated-core, step-treats}
 use Rattle.law_moves.proofs.Cores.{KeepsSeats, MaySend, SentWell, Step}
-use Rattle.law_moves.proofs.Eaches.{each-sent_to, stands-notice, stands-popped}
+use Rattle.law_moves.proofs.Standing.{each-sent_to, stands-notice, stands-popped}
 use Rattle.law_moves.proofs.Messages.{Brings, DueTo, MarksRow, Received, received}
 use Rattle.law_moves.proofs.Notices.{Noticed, knows-other, noticed}
+
+-- what may stand in a link is answered where a row may be
+pub may-mark : (s : Dimensions) (v : State) (x p : ProcessId) (n : Message) → MayStand s v x p n → MarksRow s x n p
+may-mark s v x p (tells.Mark session r block d n) may = may.2
+may-mark s v x p (tells.Update r d u stable) may = tt
+may-mark s v x p (tells.Ack r d n) may = tt
+may-mark s v x p (tells.Stable r d n) may = tt
+may-mark s v x p (tells.Adopt r d base list) may = tt
+may-mark s v x p (tells.ReadBlock session block rows) may = subst IsParity (sym may.0) may.1
+may-mark s v x p (tells.Block session bytes n) may = tt
+may-mark s v x p (tells.Row session bytes stamp) may = tt
+may-mark s v x p (tells.Cease upto) may = tt
+may-mark s v x p (tells.Notice dead) may = tt
 
 -- the processes of a rank are of the group
 of_rank-in : (s : Dimensions) (d r : ℕ) → d < s.k → r ≤ s.m → IsProcess s (of_rank d r)
@@ -427,20 +440,8 @@ module _ (s : Dimensions) (shaped : IsShape s) where
     may_first : MayStand s v x p m × Each (MayStand s v x p) (u.link x p)
     may_first = subst (Each (MayStand s v x p)) pops.first (members.may x p xin pin apart lives)
 
-    marks : (n : Message) → MayStand s v x p n → MarksRow s x n p
-    marks (tells.Mark session r block d n) may = may.2
-    marks (tells.Update r d u stable) may = tt
-    marks (tells.Ack r d n) may = tt
-    marks (tells.Stable r d n) may = tt
-    marks (tells.Adopt r d base list) may = tt
-    marks (tells.ReadBlock session block rows) may = subst IsParity (sym may.0) may.1
-    marks (tells.Block session bytes n) may = tt
-    marks (tells.Row session bytes stamp) may = tt
-    marks (tells.Cease upto) may = tt
-    marks (tells.Notice dead) may = tt
-
     got : Received s.k x m (v.process p) t
-    got = received s x p m (v.process p) plain pin (seated v members p pin lives) (marks m may_first.0)
+    got = received s x p m (v.process p) plain pin (seated v members p pin lives) (may-mark s v x p m may_first.0)
 
     comes_by : (y : ProcessId) → IsProcess s y → y ≢ p → (y ≡ x) ⊎ (y ≢ x) → Stands y (v.dead y) (knows_dead t.process.known y) (w.link y p)
     comes_by y yin other (inr yother) =

@@ -2,7 +2,6 @@ pub mod Aways
 pub mod Calls
 pub mod Cores
 pub mod Downs
-pub mod Eaches
 pub mod Events
 pub mod Keeping
 pub mod Known
@@ -13,5 +12,6 @@ pub mod Notices
 pub mod Reading
 pub mod Runs
 pub mod Settled
+pub mod Standing
 pub mod State
 pub mod Steps

@@ -89,7 +89,7 @@ seat-none : (p : Process) (d : ℕ) (seat : Option ℕ) → seat_of p d ≡ seat
 seat-none p d None is none = is
 seat-none p d (Some h) is none = cc none
 
-some-mapped : {X Y : Type 0} (f : X → Y) (o : Option X) → is_some (option_map f o) ≡ is_some o
+pub some-mapped : {X Y : Type 0} (f : X → Y) (o : Option X) → is_some (option_map f o) ≡ is_some o
 some-mapped f None = refl
 some-mapped f (Some x) = refl
 

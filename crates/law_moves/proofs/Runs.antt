@@ -23,10 +23,6 @@ use Rattle.law_moves.proofs.State.{Opens}
 use Rattle.law_moves.proofs.Events.{Comes, FramedHistory, event_comes}
 use Rattle.law_moves.proofs.Reading.{at-indices}
 
--- the nodes at the start
-opening_nodes : Dimensions → List Node
-opening_nodes s = map (λ x. opening_node s (process_at s x)) (range_with_len 0 (s.k + s.m))
-
 node-opening : (s : Dimensions) (p : ProcessId) → IsProcess s p → node_in s (map (λ x. opening_node s (process_at s x)) (range_with_len 0 (s.k + s.m))) p ≡ opening_node s p
 node-opening s p pin = at-indices s (opening_node s p) (λ x. opening_node s (process_at s x)) p pin ∙ ap (opening_node s) (process_at-index s p pin)
 

@@ -19,12 +19,12 @@ use Rattle.group_run.specs.Receiving.{receive}
 use Rattle.group_run.specs.Rows.{accepts_mark, parity_number}
 use Rattle.law_moves.proofs.Moves.{Acted, Keeps, Popped, Treats}
 use Rattle.law_moves.specs.State.{State}
-use Rattle.law_histories.proofs.Folding.{Along}
 use Rattle.law_histories.proofs.LaneWords.{Goes as LaneGoes, is_live, next}
 use Rattle.law_moves.proofs.Members.{IsData, IsFrom, MayStand, Members}
 use Rattle.law_moves.proofs.Keeping.{known-is-dead, living-unknown}
 use Rattle.law_histories.proofs.Reach.{Any, Reach, seen_at}
 use Rattle.law_histories.proofs.Keeping.{keeps_reach}
+use Rattle.law_histories.proofs.Folds.{Along}
 use Rattle.law_bytes.proofs.Tokens.{Row, Token, is_token, one_if, tokens}
 use Rattle.law_bytes.proofs.Groups.{popped-tokens}
 use Rattle.law_bytes.proofs.TokensKeeping.{Carried, comes-to}

@@ -17,7 +17,7 @@ use Rattle.group_run.specs.Process.{Gathering, Process}
 use Rattle.group_run.specs.World.{sent_to}
 use Rattle.law_moves.specs.State.{State}
 use Rattle.law_moves.proofs.Members.{MayStand}
-use Rattle.law_moves.proofs.Eaches.{each-sent_to}
+use Rattle.law_moves.proofs.Standing.{each-sent_to}
 use Rattle.law_bytes.proofs.Tokens.{Row, at_process, in_copy, is_token, one_if, tokens}
 use Rattle.law_bytes.proofs.TokensKeeping.{unknown}
 use Rattle.law_bytes.proofs.Nothing.{link-none, token}

@@ -13,8 +13,8 @@ use Rattle.group_run.specs.Process.{Copy}
 use Rattle.group_run.specs.Rows.{copy_in}
 use Rattle.law_moves.specs.State.{State}
 use Rattle.law_bytes.proofs.Finding.{and-join}
-use Rattle.law_bytes.proofs.Tokens.{Row, Token, around, at_process, between, everyone, in_copy, in_link, is_marked_in, is_token, one_if, sum_of, tokens}
-use Rattle.law_bytes.proofs.Sums.{Within, sum-less, within-everyone}
+use Rattle.law_bytes.proofs.Tokens.{Row, Token, around, at_process, between, everyone, in_copy, in_link, is_marked_in, is_token, sum_of, tokens}
+use Rattle.law_bytes.proofs.Sums.{sum-less, within-everyone, sum-at, bit-off}
 use Rattle.law_bytes.proofs.Nothing.{copy-none, link-none, named-so, token}
 use Rattle.law_progress.proofs.Waiting.{Has, IsAsk, IsMark, IsRow, Marked, marks_in}
 
@@ -109,16 +109,6 @@ module _ (s : Dimensions) (v : State) (k : Token) (few : tokens s v k ≤ 1) (q 
       let less = sum-less (everyone s) (around s v k) rest q (at_process k (v.process q)) (within-everyone s q qin) (λ p there. rest-le p) (let a = rest-here in let b = around-here in omega (arith, a, b)) in
       omega (arith, less, few, has)
 
-  -- one of them is at most the sum
-  at-most : (ps : List ProcessId) (f : ProcessId → ℕ) (p : ProcessId) → Within p ps → f p ≤ sum_of ps f
-  at-most [] f p there = absurd there
-  at-most (y ∷ ys) f p (inl same) = let is = ap f same in omega (arith, is)
-  at-most (y ∷ ys) f p (inr there) = let more = at-most ys f p there in omega (arith, more)
-
-  bit-off : (b : Bool) → one_if b ≤ 0 → b ≡ true → ⊥
-  bit-off true low is = absurd (omega (arith, low))
-  bit-off false low is = cc is
-
   off : (a b : ProcessId) (ms : List Message) → in_link k a b ms ≤ 0 → Each (λ m. is_token k a b m ≡ true → ⊥) ms
   off a b [] low = tt
   off a b (m ∷ ms) low = (bit-off (is_token k a b m) (omega (arith, low)), off a b ms (omega (arith, low)))
@@ -131,17 +121,17 @@ module _ (s : Dimensions) (v : State) (k : Token) (few : tokens s v k ≤ 1) (q 
     by : (b ≡ q) ⊎ (b ≢ q) → in_link k a b (v.link a b) ≤ 0
     by (inl same) =
         let none = rest-none in
-        let one = at-most (everyone s) rest q (within-everyone s q qin) in
+        let one = sum-at (everyone s) rest q (within-everyone s q qin) in
         let here = rest-here in
-        let sum = at-most (everyone s) (between v k b) a (within-everyone s a ain) in
+        let sum = sum-at (everyone s) (between v k b) a (within-everyone s a ain) in
         let moved : sum_of (everyone s) (between v k b) ≡ sum_of (everyone s) (between v k q) = ap (λ (y : ProcessId). sum_of (everyone s) (between v k y)) same in
         let it = linked in
         omega (arith, none, one, here, sum, moved, it)
     by (inr other) =
         let none = rest-none in
-        let one = at-most (everyone s) rest b (within-everyone s b bin) in
+        let one = sum-at (everyone s) rest b (within-everyone s b bin) in
         let here = rest-other b other in
         let is : around s v k b ≡ at_process k (v.process b) + sum_of (everyone s) (between v k b) = ap (λ (c : Bool). if c then 0 else at_process k (v.process b) + sum_of (everyone s) (between v k b)) b_lives in
-        let sum = at-most (everyone s) (between v k b) a (within-everyone s a ain) in
+        let sum = sum-at (everyone s) (between v k b) a (within-everyone s a ain) in
         let it = linked in
         omega (arith, none, one, here, is, sum, it)

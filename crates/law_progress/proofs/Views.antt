@@ -7,7 +7,6 @@ use Rattle.group_types.specs.Names.{same_process}
 use Rattle.group_types.specs.declared.process.ProcessId.{ProcessId}
 use Rattle.group_types.proofs.Names.{same-eq, same-refl}
 use Rattle.group_message.specs.declared.message.Message.{Message}
-use Rattle.group_message.specs.declared.message.Message.TheVariants as tells
 use Rattle.group_run.specs.Applying.{Sent}
 use Rattle.group_run.specs.Leaders.{gathered_when, open_session, without_session}
 use Rattle.group_run.specs.Process.{Gathering, LeaderState}
@@ -15,7 +14,7 @@ use Rattle.group_run.specs.World.{front_if, sent_to}
 use Rattle.law_bytes.proofs.Finding.{found-apart, found-exchanged, found-filter}
 use Rattle.law_bytes.proofs.Local.{number-is}
 use Rattle.law_bytes.proofs.Marks.{decoded-same}
-use Rattle.law_progress.proofs.Waiting.{Has, IsAsk, IsMark, IsRow}
+use Rattle.law_progress.proofs.Waiting.{Has}
 
 module _ {X : Type 0} (P : X → Type 0) where
   pub has-left : (xs ys : List X) → Has P xs → Has P (xs ++ ys)
@@ -131,31 +130,6 @@ link-sends P y (z ∷ zs) has = by (same_process z.to y) refl has (λ there. lin
   by true same (inl is) later = inl (same-eq z.to y same, is)
   by true same (inr there) later = inr (later there)
   by false other there later = inr (later there)
-
--- a message is of one kind
-pub ask-no-row : (l n r : ℕ) (m : Message) → IsAsk l n r m → IsRow l n m → ⊥
-ask-no-row l n r (tells.Update _ _ _ _) ask row = absurd ask
-ask-no-row l n r (tells.Ack _ _ _) ask row = absurd ask
-ask-no-row l n r (tells.Stable _ _ _) ask row = absurd ask
-ask-no-row l n r (tells.Adopt _ _ _ _) ask row = absurd ask
-ask-no-row l n r (tells.ReadBlock _ _ _) ask row = absurd row
-ask-no-row l n r (tells.Block _ _ _) ask row = absurd ask
-ask-no-row l n r (tells.Mark _ _ _ _ _) ask row = absurd ask
-ask-no-row l n r (tells.Row _ _ _) ask row = absurd ask
-ask-no-row l n r (tells.Cease _) ask row = absurd ask
-ask-no-row l n r (tells.Notice _) ask row = absurd ask
-
-pub mark-no-row : (l n d : ℕ) (m : Message) → IsMark l n d m → IsRow l n m → ⊥
-mark-no-row l n d (tells.Update _ _ _ _) mark row = absurd mark
-mark-no-row l n d (tells.Ack _ _ _) mark row = absurd mark
-mark-no-row l n d (tells.Stable _ _ _) mark row = absurd mark
-mark-no-row l n d (tells.Adopt _ _ _ _) mark row = absurd mark
-mark-no-row l n d (tells.ReadBlock _ _ _) mark row = absurd mark
-mark-no-row l n d (tells.Block _ _ _) mark row = absurd mark
-mark-no-row l n d (tells.Mark _ _ _ _ _) mark row = absurd row
-mark-no-row l n d (tells.Row _ _ _) mark row = absurd mark
-mark-no-row l n d (tells.Cease _) mark row = absurd mark
-mark-no-row l n d (tells.Notice _) mark row = absurd mark
 
 -- what a leader keeps once something came in for a session: it is closed if all is in
 module _ (s : Dimensions) (g h : Gathering) (state : LeaderState) (number : ℕ) (opens : open_session state number ≡ Some h) (is : g.number ≡ number) where

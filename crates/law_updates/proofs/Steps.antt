@@ -204,9 +204,3 @@ no_store-fits s = record {
   bytes = bytes-all (replicate (space_of s) 0) (λ k. let e = get_or-zeros (space_of s) k in omega arith);
   inside = tt;
 }
-
--- a right update is accepted, and is no get's
-pub right-accepted : (s : Dimensions) (store : Store) (n : ℕ) (op : Asked) (u : Update) (right : IsRight s store n op u)
-    → RulesWell n op.act (live_at op.moment (held store (key_of op.act))) (Accepted right.reply right.leaves)
-right-accepted s store n op u right =
-    subst (RulesWell n op.act (live_at op.moment (held store (key_of op.act)))) right.ruled (rules-well op.moment n op.act (live_at op.moment (held store (key_of op.act))))

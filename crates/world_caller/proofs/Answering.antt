@@ -15,7 +15,7 @@ use Rattle.group_calls.specs.declared.event.Event.TheVariants.{Ask, Collect}
 use Rattle.group_run.specs.Applying.{head_at, held_at, replica_of}
 use Rattle.group_run.specs.Causes.{AnswersHaveCauses, AskCause, home_in}
 use Rattle.group_run.specs.Headline.{IsRun, MayCome}
-use Rattle.group_run.specs.History.{History, history_of}
+use Rattle.group_run.specs.History.{History, history_of, history}
 use Rattle.group_run.specs.Meaning.{HasTakenOver, Heads, IsDown, IsDrained, is_dead}
 use Rattle.group_run.specs.Process.{Head, Held}
 use Rattle.group_run.specs.Progress.{IsQuiet}
@@ -23,7 +23,6 @@ use Rattle.group_run.specs.Replica.{Replica}
 use Rattle.group_run.specs.World.{after, step}
 use Rattle.law_moves.specs.State.{State, state_of}
 use Rattle.law_moves.proofs.Members.{Reigns}
-use Rattle.law_histories.proofs.HistoryWords.{history}
 use Rattle.law_histories.proofs.Around.{keeper-rank}
 use Rattle.law_histories.proofs.Ranks.{head-from}
 use Rattle.law_log.proofs.Calls.{each-contained}

@@ -1,3 +1,4 @@
+-- What stands in a link of whom is dead or known to be, and what goes to one process.
 use Rattle.std.proofs.Common.{◌≡◌, Bool, true, false, List, [], ◌∷◌, ◌++◌, refl, ap, subst}
 use Rattle.group_types.specs.Names.{same_process}
 use Rattle.group_types.specs.declared.process.ProcessId.{ProcessId}
@@ -56,3 +57,10 @@ stands-notice x true false d rest stands = by stands.front stands.is stands.plai
     first_is : List Message → Bool
     first_is [] = false
     first_is (z ∷ zs) = is_notice z
+
+-- whose message stands in a link isn't known to be dead
+pub sender-lives : (x : ProcessId) (dead known : Bool) (m : Message) (rest : List Message) → Stands x dead known (m ∷ rest) → known ≡ false
+sender-lives x false false m rest stands = refl
+sender-lives x true false m rest stands = refl
+sender-lives x true true m rest stands = absurd (cc stands)
+sender-lives x false true m rest stands = absurd stands
