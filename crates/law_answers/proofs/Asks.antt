@@ -188,14 +188,18 @@ module _ (h : History) (framed : FramedHistory h) (members : Members h.world.sha
         replied : reply_of (table_now w) op ≡ reply
         replied = ap reply_in other.1
 
-        of_value : (k : Holding) → leaves ≡ Some k → (o : Option Holding) → ruling_on (table_now w) op ≡ Accepted reply o → SameValue leaves o → (v : Holding) × Leaves w op v × (length k.item.value ≡ length v.item.value)
+        of_value : (k : Holding) → leaves ≡ Some k → (o : Option Holding) → ruling_on (table_now w) op ≡ Accepted reply o → SameValue leaves o
+            → (v : Holding) × Leaves w op v × (length k.item.value ≡ length v.item.value)
         of_value k left None ruled same = absurd (subst (λ (x : Option Holding). SameValue x None) left same)
         of_value k left (Some v) ruled same =
-            let here : (table_after (table_now w) op).items key ≡ Some v = ap (λ (x : Ruling). (after_ruling (table_now w) key x).items key) ruled ∙ ap (λ (b : Bool). if b then Some v else (table_now w).items key) (key-refl key) in
+            let here : (table_after (table_now w) op).items key ≡ Some v = ap (λ (x : Ruling). (after_ruling (table_now w) key x).items key) ruled
+            ∙ ap (λ (b : Bool). if b then Some v else (table_now w).items key) (key-refl key) in
             let values : k.item.value ≡ v.item.value = subst (λ (x : Option Holding). SameValue x (Some v)) left same in
             (v, (ap accepts replied ∙ well.0, here), ap length values)
 
-      needs : (run : Run) (b : ℕ) → read run ≡ Missing b → (run_needed op (slot_in r.items key) ≡ Some run) ⊎ ((k : Holding) × Accepts real (Some k) × (place_for (space_of w.shape) r (length k.item.value) ≡ Some run)) → NeedsBlock w p op b
+      needs : (run : Run) (b : ℕ) → read run ≡ Missing b
+          → (run_needed op (slot_in r.items key) ≡ Some run) ⊎ ((k : Holding) × Accepts real (Some k) × (place_for (space_of w.shape) r (length k.item.value) ≡ Some run))
+          → NeedsBlock w p op b
       needs run b missed needed = record { run = run; needed = of_run needed; parity = (miss.parity.0, sym (members.named p pin) ∙ miss.parity.1); missing = miss.missing } where
         miss : Misses w.shape d (process_of w p) (process_of w p).name run b
         miss = misses w.shape d (process_of w p) (process_of w p).name run b missed
@@ -221,7 +225,8 @@ module _ (h : History) (framed : FramedHistory h) (members : Members h.world.sha
           let oldest : IsOldest (process_of w p) 0 w.shape.k o = is-oldest (process_of w p) w.shape.k 0 o is in
           (up, ready, inr (inr (record { block = b; needed = need; partition = let high = oldest.to in omega (arith, high); has = oldest.has; lowest = λ e below. oldest.lowest e (omega arith) below; oldest = oldest.number })))
 
-      ticket-reason : (name : CallName) (after : World) (decision : Decision) (u : Update) → u.number ≡ suc (last_of r) → accepts (reply_of (table_now w) op) ≡ true → reply_from u.outcome ≡ reply_of (table_now w) op → w.shape ≡ after.shape
+      ticket-reason : (name : CallName) (after : World) (decision : Decision) (u : Update) → u.number ≡ suc (last_of r)
+          → accepts (reply_of (table_now w) op) ≡ true → reply_from u.outcome ≡ reply_of (table_now w) op → w.shape ≡ after.shape
           → (b : Bool) → nat_le u.number (replica_of (issued w.shape d y u (process_of w p)).process d).applied ≡ b
           → process_of after p ≡ (ticketed b d u (issued w.shape d y u (process_of w p))).step.process
           → AskCause w after p op (ticketed b d u (issued w.shape d y u (process_of w p))).answer
@@ -248,7 +253,8 @@ module _ (h : History) (framed : FramedHistory h) (members : Members h.world.sha
           let least = is.1 in
           (up, ready, inr (inl (record { home = refl; accepted = table.accepted; full = omega (arith, most, least); oldest = is.0 })))
       act-reason name after decides.NoSpace is shape same = (up, ready, no_space is.0 is.1 is.2 ((table-accepts is.1.0 (Some is.0) is.1.1).left is.0 refl)) where
-        no_space : (k : Holding) → Accepts real (Some k) → place_for (space_of w.shape) r (length k.item.value) ≡ None → (v : Holding) × Leaves w op v × (length k.item.value ≡ length v.item.value) → FindsNoRun w p op
+        no_space : (k : Holding) → Accepts real (Some k) → place_for (space_of w.shape) r (length k.item.value) ≡ None
+            → (v : Holding) × Leaves w op v × (length k.item.value ≡ length v.item.value) → FindsNoRun w p op
         no_space k takes none (v, leaves, long) =
             let both = no-run (space_of w.shape) r (length v.item.value) (ap (place_for (space_of w.shape) r) (sym long) ∙ none) in
             record { value = v; leaves = leaves; some = both.0; none = both.1 }

@@ -82,7 +82,8 @@ contains-end [] g = (0, omega arith, refl)
 contains-end (x ∷ xs) g = let rest = contains-end xs g in let low = rest.1 in (suc rest.0, omega (arith, low), rest.2)
 
 -- rebuilt blocks stay so
-some-unless : (c : Bool) (s : Dimensions) (g : Gathering) (l : ℕ) (state : LeaderState) (d : ℕ) → is_some (rebuilt_block state d g.block) ≡ true → is_some (rebuilt_block (rebuilt_unless c s g l state) d g.block) ≡ true
+some-unless : (c : Bool) (s : Dimensions) (g : Gathering) (l : ℕ) (state : LeaderState) (d : ℕ) → is_some (rebuilt_block state d g.block) ≡ true
+    → is_some (rebuilt_block (rebuilt_unless c s g l state) d g.block) ≡ true
 some-unless true s g l state d some = some
 some-unless false s g l state d some = by (cases_eq d l) where
   blocks : List (Option (List ℕ))
@@ -90,22 +91,26 @@ some-unless false s g l state d some = by (cases_eq d l) where
 
   by : (d ≡ l) ⊎ (d ≢ l) → is_some (at None (at [] (put [] state.rebuilt l blocks) d) g.block) ≡ true
   by (inl same) =
-      ap (λ (j : ℕ). is_some (at None (at [] (put [] state.rebuilt l blocks) j) g.block)) same ∙ ap (λ (bs : List (Option (List ℕ))). is_some (at None bs g.block)) (at-put [] [] state.rebuilt l blocks)
+      ap (λ (j : ℕ). is_some (at None (at [] (put [] state.rebuilt l blocks) j) g.block)) same
+      ∙ ap (λ (bs : List (Option (List ℕ))). is_some (at None bs g.block)) (at-put [] [] state.rebuilt l blocks)
       ∙ ap is_some (at-put None None (at [] state.rebuilt l) g.block (Some (decoded_of s g l)))
   by (inr other) = ap (λ (bs : List (Option (List ℕ))). is_some (at None bs g.block)) (at-put-other [] state.rebuilt l d blocks other) ∙ some
 
-now-some : (c : Bool) (s : Dimensions) (g : Gathering) (l : ℕ) (state : LeaderState) → is_some (rebuilt_block state l g.block) ≡ c → is_some (rebuilt_block (rebuilt_unless c s g l state) l g.block) ≡ true
+now-some : (c : Bool) (s : Dimensions) (g : Gathering) (l : ℕ) (state : LeaderState) → is_some (rebuilt_block state l g.block) ≡ c
+    → is_some (rebuilt_block (rebuilt_unless c s g l state) l g.block) ≡ true
 now-some true s g l state is = is
 now-some false s g l state is =
     ap (λ (bs : List (Option (List ℕ))). is_some (at None bs g.block)) (at-put [] [] state.rebuilt l (put None (at [] state.rebuilt l) g.block (Some (decoded_of s g l))))
     ∙ ap is_some (at-put None None (at [] state.rebuilt l) g.block (Some (decoded_of s g l)))
 
-some-decoded : (s : Dimensions) (g : Gathering) (ls : List ℕ) (state : LeaderState) (d : ℕ) → is_some (rebuilt_block state d g.block) ≡ true → is_some (rebuilt_block (with_decoded s g ls state) d g.block) ≡ true
+some-decoded : (s : Dimensions) (g : Gathering) (ls : List ℕ) (state : LeaderState) (d : ℕ) → is_some (rebuilt_block state d g.block) ≡ true
+    → is_some (rebuilt_block (with_decoded s g ls state) d g.block) ≡ true
 some-decoded s g [] state d some = some
 some-decoded s g (l ∷ ls) state d some = some-decoded s g ls _ d (some-unless (is_some (rebuilt_block state l g.block)) s g l state d some)
 
 -- a session that is decoded rebuilds its block of each lost partition
-pub decoded-some : (s : Dimensions) (g : Gathering) (ls : List ℕ) (state : LeaderState) (d : ℕ) → list_any (λ l. l == d) ls ≡ true → is_some (rebuilt_block (with_decoded s g ls state) d g.block) ≡ true
+pub decoded-some : (s : Dimensions) (g : Gathering) (ls : List ℕ) (state : LeaderState) (d : ℕ) → list_any (λ l. l == d) ls ≡ true
+    → is_some (rebuilt_block (with_decoded s g ls state) d g.block) ≡ true
 decoded-some s g [] state d lost = absurd (cc lost)
 decoded-some s g (l ∷ ls) state d lost = by (l == d) refl lost (decoded-some s g ls (rebuilt_unless (is_some (rebuilt_block state l g.block)) s g l state) d) where
   by : (b : Bool) → (l == d) ≡ b → (b || list_any (λ l. l == d) ls) ≡ true
@@ -127,7 +132,8 @@ kept-apply s e n p d b = by (cases_eq d e) where
   kept f None = refl
   kept f (Some x) = refl
 
-  by : (d ≡ e) ⊎ (d ≢ e) → is_some (at None (at [] (put [] p.as_leader.rebuilt e (rebuilt_after s e (up_to n (replica_of p e)) 0 (at [] p.as_leader.rebuilt e))) d) b) ≡ is_some (rebuilt_block p.as_leader d b)
+  by : (d ≡ e) ⊎ (d ≢ e)
+      → is_some (at None (at [] (put [] p.as_leader.rebuilt e (rebuilt_after s e (up_to n (replica_of p e)) 0 (at [] p.as_leader.rebuilt e))) d) b) ≡ is_some (rebuilt_block p.as_leader d b)
   by (inl same) =
       ap (λ (j : ℕ). is_some (at None (at [] (put [] p.as_leader.rebuilt e (rebuilt_after s e (up_to n (replica_of p e)) 0 (at [] p.as_leader.rebuilt e))) j) b)) same
       ∙ ap (λ (bs : List (Option (List ℕ))). is_some (at None bs b)) (at-put [] [] p.as_leader.rebuilt e (rebuilt_after s e (up_to n (replica_of p e)) 0 (at [] p.as_leader.rebuilt e)))
@@ -159,7 +165,8 @@ two-there (x ∷ []) zero_in one_in = by (x == 0) (x == 1) refl refl zero_in one
 two-there (x ∷ y ∷ zs) zero_in one_in = omega arith
 
 -- two rows that differ can't both be the leader's
-rows-apart : (rows_in : List (Option (List ℕ))) (l : ℕ) (rows : List ℕ) → ((i : ℕ) → i ≢ l → at None rows_in i ≡ None) → Rising rows → list_all (λ i. is_some (at None rows_in i)) rows ≡ true → length rows < 2
+rows-apart : (rows_in : List (Option (List ℕ))) (l : ℕ) (rows : List ℕ) → ((i : ℕ) → i ≢ l → at None rows_in i ≡ None) → Rising rows
+    → list_all (λ i. is_some (at None rows_in i)) rows ≡ true → length rows < 2
 rows-apart rows_in l [] none rising all = omega arith
 rows-apart rows_in l (x ∷ []) none rising all = omega arith
 rows-apart rows_in l (x ∷ y ∷ zs) none rising all = by (cases_eq x l) where
@@ -276,7 +283,9 @@ module _ (s : Dimensions) (p : Process) (l b number d : ℕ) (low : d < s.k) (ri
         subst (λ (x : ℕ). Comes (row_comes s x c.leader c.bytes z).as_leader) (sym numbered) (subst (λ (x : ℕ). Comes (row_comes s number x c.bytes z).as_leader) (sym leader) (row-comes c.bytes z distinct comes))
     finished false c z leader numbered distinct comes = comes
 
-    kept : (c : Copy) → c.leader ≡ l → c.number ≡ number → IsDistinct (apply_to s e n (begin_copy s l number b q)) → Comes (apply_to s e n (begin_copy s l number b q)).as_leader → (all : Bool) → Comes (copy_kept all s c (apply_to s e n (begin_copy s l number b q))).process.as_leader
+    kept : (c : Copy) → c.leader ≡ l → c.number ≡ number → IsDistinct (apply_to s e n (begin_copy s l number b q))
+        → Comes (apply_to s e n (begin_copy s l number b q)).as_leader → (all : Bool)
+        → Comes (copy_kept all s c (apply_to s e n (begin_copy s l number b q))).process.as_leader
     kept c leader numbered distinct comes true =
         let z : Process = with_copies (without_copy c.leader c.number (apply_to s e n (begin_copy s l number b q)).as_row.copies) (apply_to s e n (begin_copy s l number b q)) in
         finished (same_process z.name (ParityNode c.leader)) c z leader numbered distinct comes
@@ -288,7 +297,8 @@ module _ (s : Dimensions) (p : Process) (l b number d : ℕ) (low : d < s.k) (ri
       eqb-eq' x y is = grind (arith, common_steps)
 
     found : IsDistinct (apply_to s e n (begin_copy s l number b q)) → Comes (apply_to s e n (begin_copy s l number b q)).as_leader
-        → (o : Option Copy) → copy_in (apply_to s e n (begin_copy s l number b q)).as_row.copies l number ≡ o → Comes (copy_marked s e n o (apply_to s e n (begin_copy s l number b q))).process.as_leader
+        → (o : Option Copy) → copy_in (apply_to s e n (begin_copy s l number b q)).as_row.copies l number ≡ o
+        → Comes (copy_marked s e n o (apply_to s e n (begin_copy s l number b q))).process.as_leader
     found distinct comes None is = comes
     found distinct comes (Some c) is =
         let both = named c (found-there (is_copy l number) (apply_to s e n (begin_copy s l number b q)).as_row.copies c is).1 in
@@ -313,7 +323,8 @@ none-of (Some x) none = cc none
 -- a call that has to wait for a block
 module _ (s : Dimensions) (p : Process) (b d : ℕ) (low : d < s.k) (missing : is_some (rebuilt_block p.as_leader d b) ≡ false) (rising : Rising (rows_of s p)) (many : length (rows_of s p) ≡ length (lost_of s p)) (distinct : IsDistinct p) where
   ends : (after : World) (y : ProcessId) (q : Process) → process_of after y ≡ q → s.k ≡ after.shape.k → IsDistinct q
-      → ((g : Gathering) × (g.block ≡ b) × Contains q.as_leader.sessions g × (is_some (rebuilt_block q.as_leader d b) ≡ false)) ⊎ ((s.k ≡ 1) × (is_some (rebuilt_block q.as_leader d b) ≡ true)) → ComesToBe after y b
+      → ((g : Gathering) × (g.block ≡ b) × Contains q.as_leader.sessions g × (is_some (rebuilt_block q.as_leader d b) ≡ false)) ⊎ ((s.k ≡ 1) × (is_some (rebuilt_block q.as_leader d b) ≡ true))
+      → ComesToBe after y b
   ends after y q is same apart (inl (g, block, there, none)) = inl (subst (λ (x : Process). IsAwaited x b) (sym is) (record {
     d = d;
     missing = none-of (rebuilt_block q.as_leader d b) none;

@@ -93,7 +93,8 @@ module _ (f : Gathering → Gathering) where
   low-changed last (x ∷ xs) stays all = ((let e = stays.0.0 in let low = all.0 in omega (arith, e, low)), low-changed last xs stays.1 all.1)
 
 -- to keep rebuilt blocks changes no session
-pub decoded-sessions : (s : Dimensions) (g : Gathering) (ls : List ℕ) (state : LeaderState) → ((with_decoded s g ls state).sessions ≡ state.sessions) × ((with_decoded s g ls state).last_session ≡ state.last_session)
+pub decoded-sessions : (s : Dimensions) (g : Gathering) (ls : List ℕ) (state : LeaderState)
+    → ((with_decoded s g ls state).sessions ≡ state.sessions) × ((with_decoded s g ls state).last_session ≡ state.last_session)
 decoded-sessions s g [] state = (refl, refl)
 decoded-sessions s g (l ∷ ls) state =
     let next : LeaderState = rebuilt_unless (is_some (rebuilt_block state l g.block)) s g l state in
@@ -127,7 +128,9 @@ module _ (s : Dimensions) where
     stays = each-weaker (λ x. x.number ≡ g.number → x.block ≡ g.block) (λ x. ((if x.number == g.number then g else x).number ≡ x.number) × ((if x.number == g.number then g else x).block ≡ x.block)) (λ x same. by x (x.number == g.number) refl same) state.sessions same
 
   found-same : (n : ℕ) (g : Gathering) (gs : List Gathering) → EachTwo Differ gs → find (λ x. x.number == n) gs ≡ Some g → Each (λ x. x.number ≡ g.number → x.block ≡ g.block) gs
-  found-same n g gs differ found = let both = find-block n gs g differ found in each-weaker (λ x. x.number ≡ n → x.block ≡ g.block) (λ x. x.number ≡ g.number → x.block ≡ g.block) (λ x same e. same (e ∙ both.0)) gs both.1
+  found-same n g gs differ found =
+      let both = find-block n gs g differ found in
+      each-weaker (λ x. x.number ≡ n → x.block ≡ g.block) (λ x. x.number ≡ g.number → x.block ≡ g.block) (λ x same e. same (e ∙ both.0)) gs both.1
 
   pub row-still : (i number : ℕ) (bytes : List ℕ) (p : Process) → Still p (row_comes s number i bytes p)
   row-still i number bytes p all = by (open_session p.as_leader number) refl where
@@ -156,25 +159,26 @@ module _ (s : Dimensions) where
     by (Some h) here = here
 
   pub mark-still : (l number r block d n : ℕ) (p : Process) → Still p (mark_comes s l number r block d n p).process
-  mark-still l number r block d n p = when-still (accepts_mark p l number r d) p (mark_taken s l number block d n p) (λ here. found (copy_in q.as_row.copies l number) (begun (is_some (copy_in p.as_row.copies l number)) here)) where
-    q : Process
-    q = apply_to s d n (begin_copy s l number block p)
+  mark-still l number r block d n p =
+      when-still (accepts_mark p l number r d) p (mark_taken s l number block d n p) (λ here. found (copy_in q.as_row.copies l number) (begun (is_some (copy_in p.as_row.copies l number)) here)) where
+        q : Process
+        q = apply_to s d n (begin_copy s l number block p)
 
-    begun : (b : Bool) → Still p (copy_begun b s l number block p)
-    begun true here = here
-    begun false here = here
+        begun : (b : Bool) → Still p (copy_begun b s l number block p)
+        begun true here = here
+        begun false here = here
 
-    finished : (b : Bool) (c : Copy) (z : Process) → Still z (row_finished b s c z).process
-    finished true c z = row-still c.leader c.number c.bytes z
-    finished false c z = λ here. here
+        finished : (b : Bool) (c : Copy) (z : Process) → Still z (row_finished b s c z).process
+        finished true c z = row-still c.leader c.number c.bytes z
+        finished false c z = λ here. here
 
-    kept : (b : Bool) (c : Copy) → Still q (copy_kept b s c q).process
-    kept true c = let z : Process = with_copies (without_copy c.leader c.number q.as_row.copies) q in finished (same_process z.name (ParityNode c.leader)) c z
-    kept false c = λ here. here
+        kept : (b : Bool) (c : Copy) → Still q (copy_kept b s c q).process
+        kept true c = let z : Process = with_copies (without_copy c.leader c.number q.as_row.copies) q in finished (same_process z.name (ParityNode c.leader)) c z
+        kept false c = λ here. here
 
-    found : (o : Option Copy) → Still q (copy_marked s d n o q).process
-    found None here = here
-    found (Some c) here = kept (is_marked s (marked d n c)) (marked d n c) here
+        found : (o : Option Copy) → Still q (copy_marked s d n o q).process
+        found None here = here
+        found (Some c) here = kept (is_marked s (marked d n c)) (marked d n c) here
 
   pub opened-distinct : (block : ℕ) (p : Process) → IsDistinct p → list_any (λ g. g.block == block) p.as_leader.sessions ≡ false → IsDistinct (session_opened s (suc p.as_leader.last_session) block p)
   opened-distinct block p all none = (
@@ -184,7 +188,8 @@ module _ (s : Dimensions) where
     new : Gathering
     new = new_session s (suc p.as_leader.last_session) block p
 
-    differs : (gs : List Gathering) → Each (λ g. g.number ≤ p.as_leader.last_session) gs → Each (λ g. (g.block == block) ≡ false) gs → Each (λ g. (g.number ≢ suc p.as_leader.last_session) × (g.block ≢ block)) gs
+    differs : (gs : List Gathering) → Each (λ g. g.number ≤ p.as_leader.last_session) gs → Each (λ g. (g.block == block) ≡ false) gs
+        → Each (λ g. (g.number ≢ suc p.as_leader.last_session) × (g.block ≢ block)) gs
     differs [] low other = tt
     differs (g ∷ gs) low other = (((λ e. let small = low.0 in absurd (omega (arith, small, e))), (λ e. let test : (g.block == block) ≡ true = grind (arith, common_steps) in absurd (cc (test, other.0)))), differs gs low.1 other.1)
 
@@ -279,7 +284,8 @@ module _ (s : Dimensions) where
   abbrev pub AreDistinct : State → Type 0
   AreDistinct v = (p : ProcessId) → IsProcess s p → IsDistinct (v.process p)
 
-  moved : (v w : State) (p : ProcessId) (t : ProcessStep) → w.process p ≡ t.process → ((q : ProcessId) → IsProcess s q → q ≢ p → w.process q ≡ v.process q) → IsProcess s p → Still (v.process p) t.process → AreDistinct v → AreDistinct w
+  moved : (v w : State) (p : ProcessId) (t : ProcessStep) → w.process p ≡ t.process → ((q : ProcessId) → IsProcess s q → q ≢ p → w.process q ≡ v.process q)
+      → IsProcess s p → Still (v.process p) t.process → AreDistinct v → AreDistinct w
   moved v w p t is others pin still all q qin = by (same-cases q p) where
     by : (q ≡ p) ⊎ (q ≢ p) → IsDistinct (w.process q)
     by (inl same) = subst IsDistinct (sym (ap w.process same ∙ is)) (still (all p pin))

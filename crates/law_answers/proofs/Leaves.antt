@@ -82,12 +82,14 @@ module _ (s : Dimensions) (nodes : List Node) (size : length nodes ≡ s.k + s.m
   sent-many : (t : ProcessStep) (node : Node) → length (node_after s t node).links ≡ s.k + s.m
   sent-many t node = length-map-range_with_len _ 0 (s.k + s.m)
 
-  links-treated : (p : ProcessId) (call : CallStep) (down dead : Bool) → IsProcess s p → LinksMany s (with_node s p (if_up down dead (node_in s nodes p) (treated s (node_in s nodes p) call)).node nodes)
+  links-treated : (p : ProcessId) (call : CallStep) (down dead : Bool) → IsProcess s p
+      → LinksMany s (with_node s p (if_up down dead (node_in s nodes p) (treated s (node_in s nodes p) call)).node nodes)
   links-treated p call true dead pin = links-one p (node_in s nodes p) pin (all p pin)
   links-treated p call false true pin = links-one p (node_in s nodes p) pin (all p pin)
   links-treated p call false false pin = links-one p (node_after s call.step (node_in s nodes p)) pin (sent-many call.step (node_in s nodes p))
 
-  links-answered : (p : ProcessId) (answer : Answer) (down dead : Bool) → IsProcess s p → LinksMany s (with_node s p (if_up down dead (node_in s nodes p) (unchanged answer (node_in s nodes p))).node nodes)
+  links-answered : (p : ProcessId) (answer : Answer) (down dead : Bool) → IsProcess s p
+      → LinksMany s (with_node s p (if_up down dead (node_in s nodes p) (unchanged answer (node_in s nodes p))).node nodes)
   links-answered p answer true dead pin = links-one p (node_in s nodes p) pin (all p pin)
   links-answered p answer false true pin = links-one p (node_in s nodes p) pin (all p pin)
   links-answered p answer false false pin = links-one p (node_in s nodes p) pin (all p pin)
@@ -101,19 +103,22 @@ module _ (s : Dimensions) (nodes : List Node) (size : length nodes ≡ s.k + s.m
       ∙ links-one p (node_failed s p keep (node_in s nodes p)) pin (length-map-range_with_len _ 0 (s.k + s.m)) q qin
 
 -- two nodes change
-links-delivered : (s : Dimensions) (nodes : List Node) (size : length nodes ≡ s.k + s.m) (all : LinksMany s nodes) (x p : ProcessId) (down dead : Bool) (link : List Message) → IsProcess s x → IsProcess s p
+links-delivered : (s : Dimensions) (nodes : List Node) (size : length nodes ≡ s.k + s.m) (all : LinksMany s nodes) (x p : ProcessId) (down dead : Bool) (link : List Message)
+    → IsProcess s x → IsProcess s p
     → let b : DeliveryStep = delivered down dead s x p (node_in s nodes x) (node_in s nodes p) link in LinksMany s (with_node s p b.receiver.node (with_node s x b.sender nodes))
 links-delivered s nodes size all x p true dead link xin pin = links-one s (with_node s x (node_in s nodes x) nodes) (size-with_node s nodes x (node_in s nodes x) xin size) (links-one s nodes size all x (node_in s nodes x) xin (all x xin)) p (node_in s nodes p) pin (all p pin)
 links-delivered s nodes size all x p false true link xin pin = links-one s (with_node s x (node_in s nodes x) nodes) (size-with_node s nodes x (node_in s nodes x) xin size) (links-one s nodes size all x (node_in s nodes x) xin (all x xin)) p (node_in s nodes p) pin (all p pin)
 links-delivered s nodes size all x p false false [] xin pin = links-one s (with_node s x (node_in s nodes x) nodes) (size-with_node s nodes x (node_in s nodes x) xin size) (links-one s nodes size all x (node_in s nodes x) xin (all x xin)) p (node_in s nodes p) pin (all p pin)
 links-delivered s nodes size all x p false false (m ∷ rest) xin pin =
     let sender : Node = with_link s p rest (node_in s nodes x) in
-    let many : length sender.links ≡ s.k + s.m = length-put [] (node_in s nodes x).links (index_of s p) rest (let low = index-below s p pin in let long = all x xin in omega (arith, low, long)) ∙ all x xin in
+    let many : length sender.links ≡ s.k + s.m = length-put [] (node_in s nodes x).links (index_of s p) rest (let low = index-below s p pin in let long = all x xin in omega (arith, low, long))
+    ∙ all x xin in
     links-one s (with_node s x sender nodes) (size-with_node s nodes x sender xin size) (links-one s nodes size all x sender xin many) p (receive_node s x m (node_in s nodes p)).node pin
     (emptied-many s m (node_after s (receive s x m (node_in s nodes p).process) (node_in s nodes p)) (length-map-range_with_len _ 0 (s.k + s.m)))
 
 -- places are kept for each partition
-places-many : (tickets : List Ticket) (t : List Settlement) (n a k : ℕ) (ledger : Ledger) → a + n ≤ k → length ledger.places ≡ k → length (ledger_after tickets t (range_with_len a n) ledger).places ≡ k
+places-many : (tickets : List Ticket) (t : List Settlement) (n a k : ℕ) (ledger : Ledger) → a + n ≤ k → length ledger.places ≡ k
+    → length (ledger_after tickets t (range_with_len a n) ledger).places ≡ k
 places-many tickets t zero a k ledger low many = many
 places-many tickets t (suc n) a k ledger low many = places-many tickets t n (a + 1) k _ (omega (arith, low)) (length-put [] ledger.places a _ (omega (arith, low, many)) ∙ many)
 
@@ -124,9 +129,11 @@ record IsWide (w : World) : Type 0 where
 
 wide-links : (w : World) (e : Event) → length w.nodes ≡ w.shape.k + w.shape.m → LinksMany w.shape w.nodes → MayCome w e → LinksMany w.shape (group_step w e).nodes
 wide-links w (Ask caller op p) size all may = links-treated w.shape w.nodes size all p (ask_process w.shape (next_name w caller) op (process_of w p)) (node_of w p).down (node_of w p).dead may.1
-wide-links w (Collect caller call p) size all may = links-treated w.shape w.nodes size all p (collect_from caller call (process_of w p) (range_with_len 0 w.shape.k)) (node_of w p).down (node_of w p).dead may.1
+wide-links w (Collect caller call p) size all may =
+    links-treated w.shape w.nodes size all p (collect_from caller call (process_of w p) (range_with_len 0 w.shape.k)) (node_of w p).down (node_of w p).dead may.1
 wide-links w (Flush p) size all may = links-treated w.shape w.nodes size all p (flush_process w.shape (process_of w p)) (node_of w p).down (node_of w p).dead may
-wide-links w (Trace caller call d p) size all may = links-answered w.shape w.nodes size all p (fate_of w.shape caller call d.0 (process_of w p) (head_at (process_of w p) d.0)) (node_of w p).down (node_of w p).dead may.3
+wide-links w (Trace caller call d p) size all may =
+    links-answered w.shape w.nodes size all p (fate_of w.shape caller call d.0 (process_of w p) (head_at (process_of w p) d.0)) (node_of w p).down (node_of w p).dead may.3
 wide-links w (Deliver from to) size all may = links-delivered w.shape w.nodes size all from to (node_of w to).down (node_of w to).dead (at [] (node_of w from).links (index_of w.shape to)) may.0 may.1
 wide-links w (Fail p keep) size all may = links-failed w.shape w.nodes size all p keep (node_of w p).dead may
 
@@ -226,7 +233,8 @@ module _ (w : World) (size : length w.nodes ≡ w.shape.k + w.shape.m) (wide : I
   walked-ticketed true d u t = λ refused. absurd (let yes = accepted-from u.outcome in cc (yes, refused))
   walked-ticketed false d u t = tt
 
-  walked-act : (name : CallName) (op : Asked) (d : ℕ) (h : Head) (decision : Decision) → Walked w.nodes (step_of (act_on w.shape name op d h (process_of w p) decision)) (act_on w.shape name op d h (process_of w p) decision).answer
+  walked-act : (name : CallName) (op : Asked) (d : ℕ) (h : Head) (decision : Decision)
+      → Walked w.nodes (step_of (act_on w.shape name op d h (process_of w p) decision)) (act_on w.shape name op d h (process_of w p) decision).answer
   walked-act name op d h (decides.Answer r) = λ refused. (put_back, refl)
   walked-act name op d h (decides.Retry n) = (put_back, refl)
   walked-act name op d h decides.NoSpace = (put_back, refl)
@@ -235,7 +243,8 @@ module _ (w : World) (size : length w.nodes ≡ w.shape.k + w.shape.m) (wide : I
       let u : Update = update_of name op d body outcome (process_of w p) in
       walked-ticketed (nat_le u.number (replica_of (issued w.shape d h u (process_of w p)).process d).applied) d u (issued w.shape d h u (process_of w p))
 
-  walked-head : (name : CallName) (op : Asked) (d : ℕ) (o : Option Head) → Walked w.nodes (step_of (ask_head w.shape name op d (process_of w p) o)) (ask_head w.shape name op d (process_of w p) o).answer
+  walked-head : (name : CallName) (op : Asked) (d : ℕ) (o : Option Head)
+      → Walked w.nodes (step_of (ask_head w.shape name op d (process_of w p) o)) (ask_head w.shape name op d (process_of w p) o).answer
   walked-head name op d None = (put_back, refl)
   walked-head name op d (Some h) = walked-act name op d h (decide (space_of w.shape) h.inherited (replica_of (process_of w p) d) op (found_at w.shape d (process_of w p) (process_of w p).name))
 
@@ -269,7 +278,8 @@ module _ (w : World) (wide : IsWide w) (c : Call) (other : Each (λ t. t.name �
       ∙ ledger-stays tickets w.shape.k 0 (record { logged = logged; places = w.places }) (let many = wide.places in omega (arith, many))
 
   -- where nothing is logged at once
-  keeps : (nodes : List Node) (settled : List Settlement) (answer : Answer) → settled ≡ [] → logged_at_once (Some c) answer ≡ [] → tickets_after (length w.log) (Some c) answer w.tickets ≡ w.tickets → KeepsLedger w (world_with w c nodes settled answer)
+  keeps : (nodes : List Node) (settled : List Settlement) (answer : Answer) → settled ≡ [] → logged_at_once (Some c) answer ≡ []
+      → tickets_after (length w.log) (Some c) answer w.tickets ≡ w.tickets → KeepsLedger w (world_with w c nodes settled answer)
   keeps nodes settled answer none quiet_log same =
       let ledger = ledger-is (tickets_after (length w.log) (Some c) answer w.tickets) (logged_at_once (Some c) answer) settled none in
       record {
@@ -307,7 +317,8 @@ module _ (w : World) (wide : IsWide w) (c : Call) (other : Each (λ t. t.name �
   leaves g (says.Stale n) walks = (walks.0, keeps g.nodes g.settled (says.Stale n) walks.1 refl refl)
 
 -- tickets are of calls that were asked, so the next call has none
-tickets-other : (log : List Entry) (asked : List ℕ) (c : Call) (calls : List Call) (tickets : List Ticket) → c.name.call ≡ at 0 asked c.name.caller → AreAsked asked calls → AreTickets log calls tickets → Each (λ t. t.name ≢ c.name) tickets
+tickets-other : (log : List Entry) (asked : List ℕ) (c : Call) (calls : List Call) (tickets : List Ticket) → c.name.call ≡ at 0 asked c.name.caller
+    → AreAsked asked calls → AreTickets log calls tickets → Each (λ t. t.name ≢ c.name) tickets
 tickets-other log asked c [] [] next all are = tt
 tickets-other log asked c [] (t ∷ ts) next all are = absurd are
 tickets-other log asked c (x ∷ xs) [] next all are = absurd are

@@ -45,11 +45,14 @@ module _ (space : ℕ) (r : Replica) (store : Store) (op : Asked) (read : Run �
   real = ruling_in store (suc (last_of r)) op
 
   module _ (reply : Reply) (leaves : Option Holding) (ruled : real ≡ Accepted reply leaves) where
-    written : (h k : Holding) → leaves ≡ Some k → h ≡ k → (run : Run) → place_for space r (length h.item.value) ≡ Some run → (found : Found) → read run ≡ found → Caused space r op read real (decide_written (outcome_of reply) h run found)
-    written h k left same run place (Missing b) found = (run, found, inr (k, (reply, ruled ∙ ap (Accepted reply) left), ap (λ (x : Holding). place_for space r (length x.item.value)) (sym same) ∙ place))
+    written : (h k : Holding) → leaves ≡ Some k → h ≡ k → (run : Run) → place_for space r (length h.item.value) ≡ Some run → (found : Found) → read run ≡ found
+        → Caused space r op read real (decide_written (outcome_of reply) h run found)
+    written h k left same run place (Missing b) found =
+        (run, found, inr (k, (reply, ruled ∙ ap (Accepted reply) left), ap (λ (x : Holding). place_for space r (length x.item.value)) (sym same) ∙ place))
     written h k left same run place (Bytes under) found = (reply, leaves, ruled, refl)
 
-    placed : (h k : Holding) → leaves ≡ Some k → h ≡ k → (place : Option Run) → place_for space r (length h.item.value) ≡ place → Caused space r op read real (decide_placed read (outcome_of reply) h place)
+    placed : (h k : Holding) → leaves ≡ Some k → h ≡ k → (place : Option Run) → place_for space r (length h.item.value) ≡ place
+        → Caused space r op read real (decide_placed read (outcome_of reply) h place)
     placed h k left same None is = (k, (reply, ruled ∙ ap (Accepted reply) left), ap (λ (x : Holding). place_for space r (length x.item.value)) (sym same) ∙ is)
     placed h k left same (Some run) is = written h k left same run is (read run) refl
 

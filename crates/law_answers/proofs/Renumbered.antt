@@ -43,12 +43,14 @@ numbers-alike t n m (Touch key expiry) None = refl
 numbers-alike t n m (Touch key expiry) (Some h) = (refl, refl)
 numbers-alike t n m (Append key value) None = refl
 numbers-alike t n m (Append key value) (Some h) = by (nat_le (length (h.item.value ++ value)) longest_value) where
-  by : (b : Bool) → SameButNumber (if b then Accepted reply.Stored (changed n h (h.item.value ++ value)) else Refused reply.TooLarge) (if b then Accepted reply.Stored (changed m h (h.item.value ++ value)) else Refused reply.TooLarge)
+  by : (b : Bool)
+      → SameButNumber (if b then Accepted reply.Stored (changed n h (h.item.value ++ value)) else Refused reply.TooLarge) (if b then Accepted reply.Stored (changed m h (h.item.value ++ value)) else Refused reply.TooLarge)
   by true = (refl, refl)
   by false = refl
 numbers-alike t n m (Prepend key value) None = refl
 numbers-alike t n m (Prepend key value) (Some h) = by (nat_le (length (value ++ h.item.value)) longest_value) where
-  by : (b : Bool) → SameButNumber (if b then Accepted reply.Stored (changed n h (value ++ h.item.value)) else Refused reply.TooLarge) (if b then Accepted reply.Stored (changed m h (value ++ h.item.value)) else Refused reply.TooLarge)
+  by : (b : Bool)
+      → SameButNumber (if b then Accepted reply.Stored (changed n h (value ++ h.item.value)) else Refused reply.TooLarge) (if b then Accepted reply.Stored (changed m h (value ++ h.item.value)) else Refused reply.TooLarge)
   by true = (refl, refl)
   by false = refl
 numbers-alike t n m (Incr key more) None = refl
@@ -63,7 +65,8 @@ numbers-alike t n m (Decr key less) (Some h) = by (number_of h.item.value) where
   by (Some v) = (refl, refl)
 
 -- a ruling that accepts, by another number
-pub accepted-alike : (a b : Ruling) (reply : Reply) (leaves : Option Holding) → SameButNumber a b → a ≡ Accepted reply leaves → (other : Option Holding) × (b ≡ Accepted reply other) × SameValue leaves other
+pub accepted-alike : (a b : Ruling) (reply : Reply) (leaves : Option Holding) → SameButNumber a b → a ≡ Accepted reply leaves
+    → (other : Option Holding) × (b ≡ Accepted reply other) × SameValue leaves other
 accepted-alike (Refused x) b reply leaves same is = absurd (cc is)
 accepted-alike (Accepted x l) (Refused y) reply leaves same is = absurd same
 accepted-alike (Accepted x l) (Accepted y m) reply leaves same is =

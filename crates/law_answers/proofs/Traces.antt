@@ -61,7 +61,8 @@ module _ (w : World) (p : ProcessId) (name : (process_of w p).name ≡ p) (h : H
 
   pub lets-is : (i : ℕ) → lets i ≡ true → (ParityNode i ≢ p) × (knows_dead (process_of w p).known (ParityNode i) ≡ false)
   lets-is i let_it = by (same_process (process_of w p).name (ParityNode i)) refl (knows_dead (process_of w p).known (ParityNode i)) refl let_it where
-    by : (a : Bool) → same_process (process_of w p).name (ParityNode i) ≡ a → (b : Bool) → knows_dead (process_of w p).known (ParityNode i) ≡ b → (not a && not b) ≡ true → (ParityNode i ≢ p) × (knows_dead (process_of w p).known (ParityNode i) ≡ false)
+    by : (a : Bool) → same_process (process_of w p).name (ParityNode i) ≡ a → (b : Bool) → knows_dead (process_of w p).known (ParityNode i) ≡ b
+        → (not a && not b) ≡ true → (ParityNode i ≢ p) × (knows_dead (process_of w p).known (ParityNode i) ≡ false)
     by true same b is e = absurd (cc e)
     by false same true is e = absurd (cc e)
     by false same false is e = ((λ equal. let yes : same_process (process_of w p).name (ParityNode i) ≡ true = ap (λ (z : ProcessId). same_process z (ParityNode i)) (name ∙ sym equal) ∙ same-refl (ParityNode i) in cc (yes, same)), is)
@@ -81,7 +82,9 @@ module _ (w : World) (p : ProcessId) (name : (process_of w p).name ≡ p) (h : H
     by false first all = inr (λ i low other living. some-it (at None h.acks i) (every-other (λ j. is_some (at None h.acks j)) lets w.shape.m 0 i (omega arith) (omega (arith, low)) (lets-it i other living) all))
 
   adopted-is : IsAdopted w p h → is_adopted w.shape (process_of w p) h ≡ true
-  adopted-is (inl first) = let test : (h.rank == 0) ≡ true = grind (arith, common_steps) in ap (λ (b : Bool). b || list_all (λ i. is_some (at None h.acks i)) (other_parities w.shape.m (process_of w p).name (process_of w p).known)) test
+  adopted-is (inl first) =
+      let test : (h.rank == 0) ≡ true = grind (arith, common_steps) in
+      ap (λ (b : Bool). b || list_all (λ i. is_some (at None h.acks i)) (other_parities w.shape.m (process_of w p).name (process_of w p).known)) test
   adopted-is (inr acked) = either (h.rank == 0) where
     all : list_all (λ i. is_some (at None h.acks i)) (other_parities w.shape.m (process_of w p).name (process_of w p).known) ≡ true
     all = all-others (λ j. is_some (at None h.acks j)) lets w.shape.m 0 (λ i low high let_it. let both = lets-is i let_it in is-some-it (at None h.acks i) (acked i (omega (arith, high)) both.0 both.1))
@@ -109,7 +112,8 @@ module _ (w : World) (p : ProcessId) (name : (process_of w p).name ≡ p) (calle
     fate-from None is = open-fate (record { not_in_log = unlogged; earlier = λ other there. absurd (cc (there, is)) }) (is_adopted w.shape (process_of w p) h) refl
     fate-from (Some kept) is = kept-fate kept is (kept.call == call) (nat_lt call kept.call) refl refl
 
-  fate-cause : (b : Bool) → is_in_log caller call (replica_of (process_of w p) d).log ≡ b → TraceCause w p caller call d (fate_unless b (fate_from (is_adopted w.shape (process_of w p) h) call (kept_at w p d caller)))
+  fate-cause : (b : Bool) → is_in_log caller call (replica_of (process_of w p) d).log ≡ b
+      → TraceCause w p caller call d (fate_unless b (fate_from (is_adopted w.shape (process_of w p) h) call (kept_at w p d caller)))
   fate-cause true is = (up, ready, inl is)
   fate-cause false is = fate-from is (kept_at w p d caller) refl
 

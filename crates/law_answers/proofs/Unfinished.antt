@@ -30,12 +30,14 @@ least-lags h last test (suc n) a lags = by (test a) refl lags (λ less. more (le
   more (i, low, high, lets, less) = (i, omega (arith, low), omega (arith, high), lets, less)
 
   here : test a ≡ true → least_acked h last (a ∷ filter test (range_with_len (a + 1) n)) < last → (acked_by h a < last) ⊎ (last ≤ acked_by h a)
-      → (least_acked h last (filter test (range_with_len (a + 1) n)) < last → (i : ℕ) × (a ≤ i) × (i < a + suc n) × (test i ≡ true) × (acked_by h i < last)) → (i : ℕ) × (a ≤ i) × (i < a + suc n) × (test i ≡ true) × (acked_by h i < last)
+      → (least_acked h last (filter test (range_with_len (a + 1) n)) < last → (i : ℕ) × (a ≤ i) × (i < a + suc n) × (test i ≡ true) × (acked_by h i < last))
+      → (i : ℕ) × (a ≤ i) × (i < a + suc n) × (test i ≡ true) × (acked_by h i < last)
   here lets lags (inl less) rest = (a, omega arith, omega arith, lets, less)
   here lets lags (inr most) rest = rest (omega (arith, lags, most))
 
   by : (b : Bool) → test a ≡ b → least_acked h last (if b then a ∷ filter test (range_with_len (a + 1) n) else filter test (range_with_len (a + 1) n)) < last
-      → (least_acked h last (filter test (range_with_len (a + 1) n)) < last → (i : ℕ) × (a ≤ i) × (i < a + suc n) × (test i ≡ true) × (acked_by h i < last)) → (i : ℕ) × (a ≤ i) × (i < a + suc n) × (test i ≡ true) × (acked_by h i < last)
+      → (least_acked h last (filter test (range_with_len (a + 1) n)) < last → (i : ℕ) × (a ≤ i) × (i < a + suc n) × (test i ≡ true) × (acked_by h i < last))
+      → (i : ℕ) × (a ≤ i) × (i < a + suc n) × (test i ≡ true) × (acked_by h i < last)
   by true lets lags rest = here lets lags (cases_lt (acked_by h a) last) rest
   by false lets lags rest = rest lags
 
@@ -90,7 +92,8 @@ module _ (s : Dimensions) (d : ℕ) (h : Head) (u : Update) (p : Process) (heads
 
     short : (applied_to least (with_update u r)).applied < u.number
     short =
-        let e : (replica_of (issued s d h u p).process d).applied ≡ (applied_to least (with_update u r)).applied = ap (λ (x : Process). (replica_of x d).applied) issued-is ∙ ap (λ (x : Replica). x.applied) replica-after in
+        let e : (replica_of (issued s d h u p).process d).applied ≡ (applied_to least (with_update u r)).applied = ap (λ (x : Process). (replica_of x d).applied) issued-is
+        ∙ ap (λ (x : Replica). x.applied) replica-after in
         let low : (replica_of (issued s d h u p).process d).applied < u.number = grind (arith, common_steps) in
         omega (arith, e, low)
 
@@ -111,7 +114,10 @@ module _ (s : Dimensions) (d : ℕ) (h : Head) (u : Update) (p : Process) (heads
     pub unfinished : IsUnfinished after q d u.number h
     unfinished = record {
       heads = ap (λ (x : Process). head_at x d) process-is ∙ heads;
-      above = let e : (replica_of (process_of after q) d).applied ≡ (applied_to least (with_update u r)).applied = ap (λ (x : Replica). x.applied) replica-is in let low = short in omega (arith, e, low);
+      above =
+          let e : (replica_of (process_of after q) d).applied ≡ (applied_to least (with_update u r)).applied = ap (λ (x : Replica). x.applied) replica-is in
+          let low = short in
+          omega (arith, e, low);
       within = let e : last_of (replica_of (process_of after q) d) ≡ u.number = ap last_of replica-is ∙ last-after in omega (arith, e);
       waits = waiting lagging;
     }

@@ -45,7 +45,8 @@ found-there test (y ∷ ys) x is = by (test y) refl is (found-there test ys x) w
 pub none-there : {X : Type 0} (test : X → Bool) (xs : List X) (x : X) → find test xs ≡ None → Contains xs x → test x ≡ false
 none-there test [] x is (k, low, there) = absurd (omega (arith, low))
 none-there test (y ∷ ys) x is (k, low, there) = by (test y) refl is k low there (none-there test ys x) where
-  by : (b : Bool) → test y ≡ b → cond b (Some y) (find test ys) ≡ None → (k : ℕ) → k < length (y ∷ ys) → slice_index_or (y ∷ ys) k x ≡ x → (find test ys ≡ None → Contains ys x → test x ≡ false) → test x ≡ false
+  by : (b : Bool) → test y ≡ b → cond b (Some y) (find test ys) ≡ None → (k : ℕ) → k < length (y ∷ ys) → slice_index_or (y ∷ ys) k x ≡ x
+      → (find test ys ≡ None → Contains ys x → test x ≡ false) → test x ≡ false
   by true passes is k low there later = absurd (cc is)
   by false fails is zero low there later = ap test (sym there) ∙ fails
   by false fails is (suc k) low there later = later is (k, omega (arith, low), there)
@@ -80,7 +81,8 @@ module _ (w : World) (settled : List (List Update)) (framed : Framed w.shape w.n
 
   pub flushes : FlushesHaveCauses w
   flushes p may = by (node_of w p).down (node_of w p).dead refl refl where
-    by : (down dead : Bool) → (node_of w p).down ≡ down → (node_of w p).dead ≡ dead → FlushCause w p (if_up down dead (node_of w p) (treated w.shape (node_of w p) (flush_process w.shape (process_of w p)))).answer
+    by : (down dead : Bool) → (node_of w p).down ≡ down → (node_of w p).dead ≡ dead
+        → FlushCause w p (if_up down dead (node_of w p) (treated w.shape (node_of w p) (flush_process w.shape (process_of w p)))).answer
     by true dead isdown isdead = is-down p may isdown
     by false true isdown isdead = (not-down p may isdown, isdead)
     by false false isdown isdead = is-up p may isdown isdead
@@ -91,7 +93,8 @@ module _ (w : World) (settled : List (List Update)) (framed : Framed w.shape w.n
         → CollectCause w p caller call (collect_from caller call (process_of w p) (range_with_len a n)).answer
     collect-walk zero a all none = (up, λ d h holds. let low = holds.partition in none d h (omega (arith, low, all)) holds)
     collect-walk (suc n) a all none = by (find (is_call caller call) (held_at (process_of w p) a)) refl (collect-walk n (a + 1) (omega (arith, all))) where
-      handed : (x : Held) → HoldsCall w p caller call a x → (b : Bool) → nat_le x.number (replica_of (process_of w p) a).applied ≡ b → CollectCause w p caller call (handed_out b a x (process_of w p)).answer
+      handed : (x : Held) → HoldsCall w p caller call a x → (b : Bool) → nat_le x.number (replica_of (process_of w p) a).applied ≡ b
+          → CollectCause w p caller call (handed_out b a x (process_of w p)).answer
       handed x holds true test = (up, (a, x, holds, grind (arith, common_steps), refl))
       handed x holds false test = (up, (a, x, holds, grind (arith, common_steps)))
 

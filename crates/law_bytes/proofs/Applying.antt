@@ -34,7 +34,8 @@ abbrev pub rebuilt_at : Process → ℕ → ℕ → Bool
 rebuilt_at p d b = is_some (rebuilt_block p.as_leader d b)
 
 pub holding-from : (s : Dimensions) (settled : ℕ → List Update) (p : Process) → Holds s settled p → Holding s settled (rebuilt_at p) p
-holding-from s settled p holds = record { within = holds.within; space = holds.space; copies = holds.copies; rebuilt = λ d b bytes below old is. holds.rebuilt d b bytes below is; there = λ d b below old. old }
+holding-from s settled p holds =
+    record { within = holds.within; space = holds.space; copies = holds.copies; rebuilt = λ d b bytes below old is. holds.rebuilt d b bytes below is; there = λ d b below old. old }
 
 pub holds-from : (s : Dimensions) (settled : ℕ → List Update) (p q : Process) → Holding s settled (rebuilt_at p) q → RebuildsRight s settled p q → Holds s settled q
 holds-from s settled p q holding right = record {
@@ -87,10 +88,13 @@ goes-applied settled r n goes m short within = by (cases_lt (length r.log) (n - 
       ap (λ (k : ℕ). take m (drop k r.log)) (sym is) ∙ both (omega (arith, is, short, length-drop (n - r.applied) r.log))
 
 -- a rebuilt block after updates
-pub at-rebuilt : (s : Dimensions) (d : ℕ) (us : List Update) (a : ℕ) (blocks : List (Option (List ℕ))) (b : ℕ) → at None (rebuilt_after s d us a blocks) b ≡ option_map (block_after s (DataNode d) d (a + b) us) (at None blocks b)
+pub at-rebuilt : (s : Dimensions) (d : ℕ) (us : List Update) (a : ℕ) (blocks : List (Option (List ℕ))) (b : ℕ)
+    → at None (rebuilt_after s d us a blocks) b ≡ option_map (block_after s (DataNode d) d (a + b) us) (at None blocks b)
 at-rebuilt s d us a [] b = refl
 at-rebuilt s d us a (block ∷ blocks) zero = let same : a ≡ a + 0 = omega arith in ap (λ (c : ℕ). option_map (block_after s (DataNode d) d c us) block) same
-at-rebuilt s d us a (block ∷ blocks) (suc b) = at-rebuilt s d us (suc a) blocks b ∙ (let same : suc a + b ≡ a + suc b = omega arith in ap (λ (c : ℕ). option_map (block_after s (DataNode d) d c us) (at None blocks b)) same)
+at-rebuilt s d us a (block ∷ blocks) (suc b) =
+    at-rebuilt s d us (suc a) blocks b
+    ∙ (let same : suc a + b ≡ a + suc b = omega arith in ap (λ (c : ℕ). option_map (block_after s (DataNode d) d c us) (at None blocks b)) same)
 
 module _ (s : Dimensions) (settled : ℕ → List Update) (write : SettledWrite s settled) (old : ℕ → ℕ → Bool) (p : Process) (d n : ℕ) (concerns : Concerns s p.name d) (below : d < s.k) where
   news : List Update

@@ -62,8 +62,10 @@ module _ (s : Dimensions) (shaped : IsShape s) (settled : ℕ → List Update) (
       by (Some g) follows = let low = follows.0 in absurd (omega (arith, low))
 
     -- what is said of the new session is said of the open one
-    opened-is : (P : Gathering → Type 0) → P (new_session s (suc p.as_leader.last_session) block p) → IfSome (open_session (session_opened s (suc p.as_leader.last_session) block p).as_leader (suc p.as_leader.last_session)) P
-    opened-is P holds_new = found-behind (λ g. g.number == suc p.as_leader.last_session) P p.as_leader.sessions (new_session s (suc p.as_leader.last_session) block p) (subst (λ o. IfSome o P) (sym unopened) tt) holds_new
+    opened-is : (P : Gathering → Type 0) → P (new_session s (suc p.as_leader.last_session) block p)
+        → IfSome (open_session (session_opened s (suc p.as_leader.last_session) block p).as_leader (suc p.as_leader.last_session)) P
+    opened-is P holds_new =
+        found-behind (λ g. g.number == suc p.as_leader.last_session) P p.as_leader.sessions (new_session s (suc p.as_leader.last_session) block p) (subst (λ o. IfSome o P) (sym unopened) tt) holds_new
 
     lost-opened : LostFollows i (suc p.as_leader.last_session) (opening_plan s block p) (session_opened s (suc p.as_leader.last_session) block p)
     lost-opened leads = opened-is (λ g. (e : ℕ) → Contains g.lost e → ((replica_of p e).applied ≤ (replica_of p e).applied) × IfSome (head_at p e) (λ h. h.inherited ≤ (replica_of p e).applied))
@@ -93,7 +95,8 @@ module _ (s : Dimensions) (shaped : IsShape s) (settled : ℕ → List Update) (
         ((opened-passes s settled i (suc p.as_leader.last_session) write old p i name goes next holds block (opening_plan s block p) fits).follows (begins i block name)).0
         lost-opened sound-opened d b bytes before after)
       where
-        fits : i ≡ i → suc p.as_leader.last_session ≡ suc p.as_leader.last_session → (opening_plan s block p ≡ opening_plan s block p) × (block < s.blocks) × ((e : ℕ) → Among e (lost_of s p) → Contains (rows_of s p) i)
+        fits : i ≡ i → suc p.as_leader.last_session ≡ suc p.as_leader.last_session
+            → (opening_plan s block p ≡ opening_plan s block p) × (block < s.blocks) × ((e : ℕ) → Among e (lost_of s p) → Contains (rows_of s p) i)
         fits leads numbers = (refl, within, first)
 
   first-row : (d i : ℕ) (h : Head) → p.name ≡ ParityNode i → d < s.k → head_at p d ≡ Some h → (e : ℕ) → Among e (lost_of s p) → Contains (rows_of s p) i
@@ -116,7 +119,8 @@ module _ (s : Dimensions) (shaped : IsShape s) (settled : ℕ → List Update) (
   retry-given d h op block None is below heads decided = by (not (list_any (λ g. g.block == block) p.as_leader.sessions)) where
     started : (y : ProcessId) → p.name ≡ y → RebuildsGiven s settled p (start_session s block p).process
     started (ParityNode i) name = start-given block i name (needs d h op block below heads decided) (first-row d i h name below heads) is
-    started (DataNode e) name = absurd (data-never s h.inherited op d e block p (subst (λ (y : ProcessId). decide (space_of s) h.inherited (replica_of p d) op (found_at s d p y) ≡ decides.NeedBlock block) name decided))
+    started (DataNode e) name =
+        absurd (data-never s h.inherited op d e block p (subst (λ (y : ProcessId). decide (space_of s) h.inherited (replica_of p d) op (found_at s d p y) ≡ decides.NeedBlock block) name decided))
 
     by : (b : Bool) → RebuildsGiven s settled p (when b p (start_session s block p)).process
     by true = started p.name refl
@@ -126,7 +130,8 @@ module _ (s : Dimensions) (shaped : IsShape s) (settled : ℕ → List Update) (
   ticketed-stays true d u step stays = stays
   ticketed-stays false d u step stays = stays
 
-  act-given : (call : CallName) (op : Asked) (d : ℕ) (h : Head) (decision : Decision) → d < s.k → head_at p d ≡ Some h → decide (space_of s) h.inherited (replica_of p d) op (found_at s d p p.name) ≡ decision
+  act-given : (call : CallName) (op : Asked) (d : ℕ) (h : Head) (decision : Decision) → d < s.k → head_at p d ≡ Some h
+      → decide (space_of s) h.inherited (replica_of p d) op (found_at s d p p.name) ≡ decision
       → RebuildsGiven s settled p (act_on s call op d h p decision).step.process
   act-given call op d h (decides.Answer r) below heads is = stays-given p (none-self s p)
   act-given call op d h (decides.Retry k) below heads is = stays-given p (none-self s p)
@@ -161,7 +166,8 @@ module _ (s : Dimensions) (shaped : IsShape s) (settled : ℕ → List Update) (
   treats-given _ Flushes = stays-given p (none-self s p)
 
 module _ (s : Dimensions) (shaped : IsShape s) where
-  treated : (v w : State) (p : ProcessId) (t : ProcessStep) → IsProcess s p → IsUp s v → v.dead p ≡ false → Treats s (v.process p) t → Backed s v → Members s w → NextIsNew s (v.process p) → NeedsInside s (v.process p)
+  treated : (v w : State) (p : ProcessId) (t : ProcessStep) → IsProcess s p → IsUp s v → v.dead p ≡ false → Treats s (v.process p) t → Backed s v → Members s w
+      → NextIsNew s (v.process p) → NeedsInside s (v.process p)
       → StepSettles s w.settled (v.process p) t → Acted s v w p t → SessionsStand s v → RebuildsGiven s w.settled (v.process p) t.process
   treated v w p t pin up lives treats backed after next needs right acts stands =
       treats-given s shaped w.settled right.write (rebuilt_at (v.process p)) (v.process p) p (record { name = name; some = some; sits = λ d below. backed.members.sits p d pin lives below }) pin (backed.members.not_self p pin lives)

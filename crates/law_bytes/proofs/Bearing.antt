@@ -111,21 +111,25 @@ module _ (s : Dimensions) (n : ℕ) where
   kept-all state None is = tt
   kept-all state (Some g) is = (g, is, refl)
 
-  bears-leader : (p : Process) (state : LeaderState) → IfSome (open_session state n) (λ g. (old : Gathering) × (open_session p.as_leader n ≡ Some old) × (g.lost ≡ old.lost)) → Bears p (record p { as_leader = state })
+  bears-leader : (p : Process) (state : LeaderState)
+      → IfSome (open_session state n) (λ g. (old : Gathering) × (open_session p.as_leader n ≡ Some old) × (g.lost ≡ old.lost))
+      → Bears p (record p { as_leader = state })
   bears-leader p state all g opens =
       let one = if-some (λ (x : Gathering). (old : Gathering) × (open_session p.as_leader n ≡ Some old) × (x.lost ≡ old.lost)) (open_session state n) g opens all in
       record { session = one.0; opens = one.1; lost = one.2; applied = λ e. omega arith; heads = λ e h is. (h, is, refl) }
 
   bears-row : (number i : ℕ) (bytes : List ℕ) (p : Process) → Bears p (row_comes s number i bytes p)
   bears-row number i bytes p = bears-leader p (row_gathered s i bytes (open_session p.as_leader number) p.as_leader) (by (open_session p.as_leader number) refl) where
-    by : (o : Option Gathering) → open_session p.as_leader number ≡ o → IfSome (open_session (row_gathered s i bytes o p.as_leader) n) (λ g. (old : Gathering) × (open_session p.as_leader n ≡ Some old) × (g.lost ≡ old.lost))
+    by : (o : Option Gathering) → open_session p.as_leader number ≡ o
+        → IfSome (open_session (row_gathered s i bytes o p.as_leader) n) (λ g. (old : Gathering) × (open_session p.as_leader n ≡ Some old) × (g.lost ≡ old.lost))
     by None is = kept-all p.as_leader (open_session p.as_leader n) refl
     by (Some g) is = gathered-if s (λ x. (old : Gathering) × (open_session p.as_leader n ≡ Some old) × (x.lost ≡ old.lost)) (is_complete s (with_row i bytes g)) (with_row i bytes g) g p.as_leader n number is
         (number-is g number (found-passes (λ x. x.number == number) p.as_leader.sessions g is)) (λ here. (g, ap (open_session p.as_leader) here ∙ is, refl)) (kept-all p.as_leader (open_session p.as_leader n) refl)
 
   bears-block : (number e : ℕ) (bytes : List ℕ) (p : Process) → Bears p (block_comes s number e bytes p)
   bears-block number e bytes p = bears-leader p (block_gathered s e bytes (open_session p.as_leader number) p.as_leader) (by (open_session p.as_leader number) refl) where
-    by : (o : Option Gathering) → open_session p.as_leader number ≡ o → IfSome (open_session (block_gathered s e bytes o p.as_leader) n) (λ g. (old : Gathering) × (open_session p.as_leader n ≡ Some old) × (g.lost ≡ old.lost))
+    by : (o : Option Gathering) → open_session p.as_leader number ≡ o
+        → IfSome (open_session (block_gathered s e bytes o p.as_leader) n) (λ g. (old : Gathering) × (open_session p.as_leader n ≡ Some old) × (g.lost ≡ old.lost))
     by None is = kept-all p.as_leader (open_session p.as_leader n) refl
     by (Some g) is = gathered-if s (λ x. (old : Gathering) × (open_session p.as_leader n ≡ Some old) × (x.lost ≡ old.lost)) (is_complete s (with_block e bytes g)) (with_block e bytes g) g p.as_leader n number is
         (number-is g number (found-passes (λ x. x.number == number) p.as_leader.sessions g is)) (λ here. (g, ap (open_session p.as_leader) here ∙ is, refl)) (kept-all p.as_leader (open_session p.as_leader n) refl)
@@ -171,7 +175,9 @@ module _ (s : Dimensions) (n : ℕ) where
       by e j is (inr other) = (j, sym (at-put-other None p.heads d e (Some (acknowledged i k h)) other) ∙ is, refl)
 
   -- after a notice no session is open
-  sessions-each : (xs : List ℕ) (f : ℕ → Process → ProcessStep) (p : Process) → ((x : ℕ) (q : Process) → (f x q).process.as_leader.sessions ≡ q.as_leader.sessions) → (for_each xs f p).process.as_leader.sessions ≡ p.as_leader.sessions
+  sessions-each : (xs : List ℕ) (f : ℕ → Process → ProcessStep) (p : Process)
+      → ((x : ℕ) (q : Process) → (f x q).process.as_leader.sessions ≡ q.as_leader.sessions)
+      → (for_each xs f p).process.as_leader.sessions ≡ p.as_leader.sessions
   sessions-each [] f p all = refl
   sessions-each (x ∷ xs) f p all = sessions-each xs f (f x p).process all ∙ all x p
 
@@ -196,7 +202,8 @@ module _ (s : Dimensions) (n : ℕ) where
       let q : Process = death_known dead p in
       let closed : Process = (close_sessions s q.as_leader.sessions q).process in
       let judged : Process = (for_each (range_with_len 0 s.k) (judge s) closed).process in
-      let none : (notice_comes s dead p).process.as_leader.sessions ≡ [] = sessions-each (range_with_len 0 s.k) (take_over_if s) judged sessions-takes ∙ sessions-each (range_with_len 0 s.k) (judge s) closed sessions-judge ∙ sessions-close q.as_leader.sessions q refl in
+      let none : (notice_comes s dead p).process.as_leader.sessions ≡ [] = sessions-each (range_with_len 0 s.k) (take_over_if s) judged sessions-takes
+      ∙ sessions-each (range_with_len 0 s.k) (judge s) closed sessions-judge ∙ sessions-close q.as_leader.sessions q refl in
       absurd (cc (sym opens ∙ ap (λ (gs : List Gathering). find (λ x. x.number == n) gs) none))
 
   bears-read : (session : Session) (block : ℕ) (rows : List ℕ) (p : Process) (name : ProcessId) → Bears p (read_comes s session block rows p name).process
@@ -233,7 +240,8 @@ module _ (s : Dimensions) (n : ℕ) where
     low : (a b : ℕ) → nat_lt a b ≡ false → b ≤ a
     low a b is = grind (arith, common_steps)
 
-    tested : (b : Bool) (h' : Head) → nat_lt (replica_of p d).applied h'.inherited ≡ b → head_at p d ≡ Some h' → (if b then Some (record { partition = d; number = suc (replica_of p d).applied }) else oldest_inherited p ds) ≡ None
+    tested : (b : Bool) (h' : Head) → nat_lt (replica_of p d).applied h'.inherited ≡ b → head_at p d ≡ Some h'
+        → (if b then Some (record { partition = d; number = suc (replica_of p d).applied }) else oldest_inherited p ds) ≡ None
         → (e ≡ d) ⊎ Among e ds → (oldest_inherited p ds ≡ None → Among e ds → h.inherited ≤ (replica_of p e).applied) → h.inherited ≤ (replica_of p e).applied
     tested true h' is here some place later = absurd (cc some)
     tested false h' is here rest (inr deeper) later = later rest deeper
@@ -245,7 +253,8 @@ module _ (s : Dimensions) (n : ℕ) where
         let applied = ap (λ (k : ℕ). (replica_of p k).applied) same in
         omega (arith, less, inherited, applied)
 
-    by : (o : Option Head) → head_at p d ≡ o → inherited_or p d o (oldest_inherited p ds) ≡ None → (e ≡ d) ⊎ Among e ds → (oldest_inherited p ds ≡ None → Among e ds → h.inherited ≤ (replica_of p e).applied) → h.inherited ≤ (replica_of p e).applied
+    by : (o : Option Head) → head_at p d ≡ o → inherited_or p d o (oldest_inherited p ds) ≡ None → (e ≡ d) ⊎ Among e ds
+        → (oldest_inherited p ds ≡ None → Among e ds → h.inherited ≤ (replica_of p e).applied) → h.inherited ≤ (replica_of p e).applied
     by None is rest (inr deeper) later = later rest deeper
     by None is rest (inl same) later = absurd (cc (sym heads ∙ ap (head_at p) same ∙ is))
     by (Some h') is rest place later = tested (nat_lt (replica_of p d).applied h'.inherited) h' refl is rest place later
@@ -352,7 +361,8 @@ module _ (s : Dimensions) (n : ℕ) where
 module _ (s : Dimensions) (l n : ℕ) where
   pub lost-borne : (plan : Plan) (p q : Process) → q.name ≡ p.name → Bears s n p q → LostFollows l n plan p → LostFollows l n plan q
   lost-borne plan p q name bears before leads = by (open_session q.as_leader n) refl where
-    by : (o : Option Gathering) → open_session q.as_leader n ≡ o → IfSome o (λ g. (e : ℕ) → Contains g.lost e → (plan.numbers e ≤ (replica_of q e).applied) × IfSome (head_at q e) (λ h. h.inherited ≤ plan.numbers e))
+    by : (o : Option Gathering) → open_session q.as_leader n ≡ o
+        → IfSome o (λ g. (e : ℕ) → Contains g.lost e → (plan.numbers e ≤ (replica_of q e).applied) × IfSome (head_at q e) (λ h. h.inherited ≤ plan.numbers e))
     by None is = tt
     by (Some g) is = λ e lost.
         let b = bears g is in
@@ -362,7 +372,8 @@ module _ (s : Dimensions) (l n : ℕ) where
         let low = old.0 in
         (omega (arith, more, low), heads g b e old.1 (head_at q e) refl)
       where
-        heads : (g : Gathering) → Before s n p q g → (e : ℕ) → IfSome (head_at p e) (λ h. h.inherited ≤ plan.numbers e) → (o : Option Head) → head_at q e ≡ o → IfSome o (λ h. h.inherited ≤ plan.numbers e)
+        heads : (g : Gathering) → Before s n p q g → (e : ℕ) → IfSome (head_at p e) (λ h. h.inherited ≤ plan.numbers e) → (o : Option Head) → head_at q e ≡ o
+            → IfSome o (λ h. h.inherited ≤ plan.numbers e)
         heads g b e old None is_it = tt
         heads g b e old (Some h) is_it =
             let was = b.heads e h is_it in
@@ -373,7 +384,8 @@ module _ (s : Dimensions) (l n : ℕ) where
   -- where the session is new, the plan's numbers are those that the leader had applied
   pub lost-new : (plan : Plan) (p q : Process) → ((e : ℕ) → plan.numbers e ≡ (replica_of p e).applied) → BearsNew s n p q → LostFollows l n plan q
   lost-new plan p q numbers new leads = by (open_session q.as_leader n) refl where
-    by : (o : Option Gathering) → open_session q.as_leader n ≡ o → IfSome o (λ g. (e : ℕ) → Contains g.lost e → (plan.numbers e ≤ (replica_of q e).applied) × IfSome (head_at q e) (λ h. h.inherited ≤ plan.numbers e))
+    by : (o : Option Gathering) → open_session q.as_leader n ≡ o
+        → IfSome o (λ g. (e : ℕ) → Contains g.lost e → (plan.numbers e ≤ (replica_of q e).applied) × IfSome (head_at q e) (λ h. h.inherited ≤ plan.numbers e))
     by None is = tt
     by (Some g) is = λ e lost.
         let is_new = new g is e lost in

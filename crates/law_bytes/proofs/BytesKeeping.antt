@@ -123,7 +123,8 @@ module _ (s : Dimensions) where
     pub before-holds : v.dead p ≡ false → HoldsBytes s v → Holds s w.settled (v.process p)
     before-holds lives holds = holds-grown v.settled w.settled (v.process p) (inside-of (v.process p) p (members.named p pin) pin) prolongs (holds p pin lives)
 
-  ready-before : (v : State) (settled : ℕ → List Update) (p : ProcessId) (t : ProcessStep) → IsProcess s p → v.dead p ≡ false → Members s v → AppliesSettled s settled (v.process p) t → Ready s settled (v.process p)
+  ready-before : (v : State) (settled : ℕ → List Update) (p : ProcessId) (t : ProcessStep) → IsProcess s p → v.dead p ≡ false → Members s v
+      → AppliesSettled s settled (v.process p) t → Ready s settled (v.process p)
   ready-before v settled p t pin lives members applies = record {
     goes = applies.log;
     own = λ d h below heads. subst (λ (x : ProcessId). Concerns s x d) (sym (members.named p pin)) (own-head (v.process p) d h p below (members.sits p d pin lives below) heads);

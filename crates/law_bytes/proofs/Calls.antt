@@ -95,7 +95,8 @@ module _ (s : Dimensions) (settled : ℕ → List Update) (l n : ℕ) (write : S
       leader-of : OfSession l n (session_of i (suc p.as_leader.last_session)) → i ≡ l
       leader-of of_it = let names = of_it.0 in cc names
 
-      questions-follow : (ds : List ℕ) → Each (λ (z : Sent). Follows s settled l n plan p.name z.to z.message) (map (λ d. record { to = DataNode d; message = tells.ReadBlock (session_of i (suc p.as_leader.last_session)) block (rows_of s p) }) ds)
+      questions-follow : (ds : List ℕ)
+          → Each (λ (z : Sent). Follows s settled l n plan p.name z.to z.message) (map (λ d. record { to = DataNode d; message = tells.ReadBlock (session_of i (suc p.as_leader.last_session)) block (rows_of s p) }) ds)
       questions-follow ds = each-map (λ (z : Sent). Follows s settled l n plan p.name z.to z.message) (λ d. record { to = DataNode d; message = tells.ReadBlock (session_of i (suc p.as_leader.last_session)) block (rows_of s p) }) ds
           (each-all (λ d. OfSession l n (session_of i (suc p.as_leader.last_session)) → (block ≡ plan.block) × (rows_of s p ≡ plan.rows))
           (λ d of_it. let fit = fits (leader-of of_it) of_it.1 in (ap (λ (x : Plan). x.block) (sym fit.0), ap (λ (x : Plan). x.rows) (sym fit.0))) ds)
@@ -171,7 +172,8 @@ module _ (s : Dimensions) (settled : ℕ → List Update) (l n : ℕ) (write : S
                 (λ j low. all-among (λ k. knows_dead p.known (ParityNode k)) (range_with_len 0 i) j (and-split (knows_dead p.known (DataNode d)) (list_all (λ k. knows_dead p.known (ParityNode k)) (range_with_len 0 i)) lower).1 (among-range j 0 i (omega arith) (omega (arith, low))))
                 (subst (λ (y : ProcessId). knows_dead p.known y ≡ false) here living)
 
-            by : ((i ≡ l) × (suc p.as_leader.last_session ≡ n)) ⊎ (same_session (t s settled l n plan) i (suc p.as_leader.last_session) ≡ false) → Claims p (and_then (sending (session_starts s i (suc p.as_leader.last_session) block p) (session_opened s (suc p.as_leader.last_session) block p)) (for_each (lost_of s p) (own_mark s i (suc p.as_leader.last_session) block)))
+            by : ((i ≡ l) × (suc p.as_leader.last_session ≡ n)) ⊎ (same_session (t s settled l n plan) i (suc p.as_leader.last_session) ≡ false)
+                → Claims p (and_then (sending (session_starts s i (suc p.as_leader.last_session) block p) (session_opened s (suc p.as_leader.last_session) block p)) (for_each (lost_of s p) (own_mark s i (suc p.as_leader.last_session) block)))
             by (inl same) = inr (record {
               block = block;
               leads = name ∙ ap ParityNode same.0;
@@ -180,7 +182,8 @@ module _ (s : Dimensions) (settled : ℕ → List Update) (l n : ℕ) (write : S
             })
             by (inr other) = inl (started-passes p i name goes next holds block plan (λ leads numbers. absurd (cc (other, session-is (t s settled l n plan) i (suc p.as_leader.last_session) leads numbers))))
 
-      session-claims : (d : ℕ) (h : Head) (op : Asked) (block : ℕ) → d < s.k → head_at p d ≡ Some h → decide (space_of s) h.inherited (replica_of p d) op (found_at s d p p.name) ≡ decides.NeedBlock block → Claims p (start_session s block p)
+      session-claims : (d : ℕ) (h : Head) (op : Asked) (block : ℕ) → d < s.k → head_at p d ≡ Some h
+          → decide (space_of s) h.inherited (replica_of p d) op (found_at s d p p.name) ≡ decides.NeedBlock block → Claims p (start_session s block p)
       session-claims d h op block below heads decided = by p.name refl where
         by : (y : ProcessId) → p.name ≡ y → Claims p (start_session s block p)
         by (ParityNode i) is = start-claims block d i h is below heads (needs d h op block below heads decided)
@@ -205,7 +208,8 @@ module _ (s : Dimensions) (settled : ℕ → List Update) (l n : ℕ) (write : S
         follows = λ is. let after = passes.follows is in ((still-same s settled l n plan step.process (holding d u step.process) refl refl refl).follows after.0, after.1);
       }
 
-      act-claims : (call : CallName) (op : Asked) (d : ℕ) (h : Head) (decision : Decision) → d < s.k → head_at p d ≡ Some h → decide (space_of s) h.inherited (replica_of p d) op (found_at s d p p.name) ≡ decision → Claims p (act_on s call op d h p decision).step
+      act-claims : (call : CallName) (op : Asked) (d : ℕ) (h : Head) (decision : Decision) → d < s.k → head_at p d ≡ Some h
+          → decide (space_of s) h.inherited (replica_of p d) op (found_at s d p p.name) ≡ decision → Claims p (act_on s call op d h p decision).step
       act-claims call op d h (decides.Answer r) below heads is = inl (passes-self s settled l n plan p)
       act-claims call op d h (decides.Retry k) below heads is = inl (passes-self s settled l n plan p)
       act-claims call op d h decides.NoSpace below heads is = inl (passes-self s settled l n plan p)
@@ -219,7 +223,8 @@ module _ (s : Dimensions) (settled : ℕ → List Update) (l n : ℕ) (write : S
       ask-claims call op d (Some h) below heads = act-claims call op d h (decide (space_of s) h.inherited (replica_of p d) op (found_at s d p p.name)) below heads refl
 
       handed-passes : (b : Bool) (d : ℕ) (h : Held) → Passes s settled l n plan p (handed_out b d h p).step
-      handed-passes true d h = still-passes s settled l n plan p (quiet _) (still-same s settled l n plan p (with_held d (filter (λ y. not (is_call h.caller h.call y)) (held_at p d)) p) refl refl refl) tt
+      handed-passes true d h =
+          still-passes s settled l n plan p (quiet _) (still-same s settled l n plan p (with_held d (filter (λ y. not (is_call h.caller h.call y)) (held_at p d)) p) refl refl refl) tt
       handed-passes false d h = passes-self s settled l n plan p
 
       collect-passes : (caller call : ℕ) (ds : List ℕ) → Passes s settled l n plan p (collect_from caller call p ds).step
@@ -242,4 +247,5 @@ module _ (s : Dimensions) (settled : ℕ → List Update) (l n : ℕ) (write : S
       pub treats-claims : (step : ProcessStep) → Treats s p step → Claims p step
       treats-claims _ (Asks call op bytes) = ask-claims call op (home_of (key_of op.act) s.k) (head_at p (home_of (key_of op.act) s.k)) (home-below (key_of op.act)) refl
       treats-claims _ (Collects caller call) = inl (collect-passes caller call (range_with_len 0 s.k))
-      treats-claims _ Flushes = inl (still-passes s settled l n plan p (sending (tell_stables s p (range_with_len 0 s.k)) p) (still-same s settled l n plan p p refl refl refl) (stables-silent (range_with_len 0 s.k)))
+      treats-claims _ Flushes =
+          inl (still-passes s settled l n plan p (sending (tell_stables s p (range_with_len 0 s.k)) p) (still-same s settled l n plan p p refl refl refl) (stables-silent (range_with_len 0 s.k)))

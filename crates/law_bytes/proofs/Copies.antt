@@ -42,7 +42,8 @@ module _ (s : Dimensions) (settled : ℕ → List Update) where
   stand-same p q same = same-functions (stand settled q) (stand settled p) (λ d. ap (λ (k : ℕ). take k (settled d)) (same.applied d))
 
   marked-stand-same : (p q : Process) (marks : List (Option ℕ)) → SameStand p q → marked_stand settled marks q ≡ marked_stand settled marks p
-  marked-stand-same p q marks same = same-functions (marked_stand settled marks q) (marked_stand settled marks p) (λ d. ap (λ (k : ℕ). take (unwrap_or (at None marks d) k) (settled d)) (same.applied d))
+  marked-stand-same p q marks same =
+      same-functions (marked_stand settled marks q) (marked_stand settled marks p) (λ d. ap (λ (k : ℕ). take (unwrap_or (at None marks d) k) (settled d)) (same.applied d))
 
   pub copy-same : (p q : Process) → SameStand p q → (c : Copy) → CopyHolds s settled p c → CopyHolds s settled q c
   copy-same p q same c holds = record {
@@ -98,7 +99,8 @@ module _ (s : Dimensions) (settled : ℕ → List Update) where
       }
 
   -- a copy that is marked at the number that the process has applied
-  pub marked-holds : (p : Process) (c : Copy) (d n : ℕ) → Inside s p.name → d < s.k → (replica_of p d).applied ≡ n → (replica_of p d).applied ≤ length (settled d) → at None c.marks d ≡ None → CopyHolds s settled p c → CopyHolds s settled p (marked d n c)
+  pub marked-holds : (p : Process) (c : Copy) (d n : ℕ) → Inside s p.name → d < s.k → (replica_of p d).applied ≡ n
+      → (replica_of p d).applied ≤ length (settled d) → at None c.marks d ≡ None → CopyHolds s settled p c → CopyHolds s settled p (marked d n c)
   marked-holds p c d n inside below stands within free holds = record {
     bytes = area-same (c.block * s.block) (block_size s c.block) (held s p.name (marked_stand settled c.marks p)) (held s p.name (marked_stand settled (put None c.marks d (Some n)) p)) c.bytes holds.bytes
         (λ x. held-same s p.name (marked_stand settled c.marks p) (marked_stand settled (put None c.marks d (Some n)) p) x inside (λ e low. same e (cases_eq e d)));
@@ -154,11 +156,13 @@ module _ (s : Dimensions) where
 
   pub stays-row : (i : ℕ) (bytes : List ℕ) (o : Option Gathering) (state : LeaderState) → StaysRebuilt state (row_gathered s i bytes o state)
   stays-row i bytes None state d b there = refl
-  stays-row i bytes (Some g) state d b there = stays-gathered (is_complete s (record g { rows_in = put None g.rows_in i (Some bytes) })) (record g { rows_in = put None g.rows_in i (Some bytes) }) state d b there
+  stays-row i bytes (Some g) state d b there =
+      stays-gathered (is_complete s (record g { rows_in = put None g.rows_in i (Some bytes) })) (record g { rows_in = put None g.rows_in i (Some bytes) }) state d b there
 
   pub stays-block : (e : ℕ) (bytes : List ℕ) (o : Option Gathering) (state : LeaderState) → StaysRebuilt state (block_gathered s e bytes o state)
   stays-block e bytes None state d b there = refl
-  stays-block e bytes (Some g) state d b there = stays-gathered (is_complete s (record g { blocks_in = put None g.blocks_in e (Some bytes) })) (record g { blocks_in = put None g.blocks_in e (Some bytes) }) state d b there
+  stays-block e bytes (Some g) state d b there =
+      stays-gathered (is_complete s (record g { blocks_in = put None g.blocks_in e (Some bytes) })) (record g { blocks_in = put None g.blocks_in e (Some bytes) }) state d b there
 
   pub holding-leader : (settled : ℕ → List Update) (old : ℕ → ℕ → Bool) (p : Process) (l : LeaderState) → StaysRebuilt p.as_leader l → Holding s settled old p → Holding s settled old (with_leader l p)
   holding-leader settled old p l stays holding = record {

@@ -81,7 +81,8 @@ module _ (k from len : ℕ) (f : ℕ → ℕ → ℕ) (cs : List (List ℕ)) (ar
   }
 
 -- what has come in, with its numbers
-columns-each : (P : ℕ → List ℕ → Type 0) (a : ℕ) (parts : List (Option (List ℕ))) → ((j : ℕ) (bytes : List ℕ) → at None parts j ≡ Some bytes → P (a + j) bytes) → Each (λ c. P c.number c.bytes) (columns_from a parts)
+columns-each : (P : ℕ → List ℕ → Type 0) (a : ℕ) (parts : List (Option (List ℕ))) → ((j : ℕ) (bytes : List ℕ) → at None parts j ≡ Some bytes → P (a + j) bytes)
+    → Each (λ c. P c.number c.bytes) (columns_from a parts)
 columns-each P a [] every = tt
 columns-each P a (None ∷ parts) every = columns-each P (suc a) parts (λ j bytes is. subst (λ (n : ℕ). P n bytes) (let same : a + suc j ≡ suc a + j = omega arith in same) (every (suc j) bytes is))
 columns-each P a (Some bytes ∷ parts) every = (
@@ -102,9 +103,11 @@ columns-rise a (Some bytes ∷ parts) = (each-weaker (λ y. suc a ≤ y) (λ y. 
 columns-among : (a : ℕ) (parts : List (Option (List ℕ))) (j : ℕ) → is_some (at None parts j) ≡ true → Among (a + j) (numbers_of (columns_from a parts))
 columns-among a [] j there = absurd (cc there)
 columns-among a (None ∷ parts) zero there = absurd (cc there)
-columns-among a (None ∷ parts) (suc j) there = subst (λ (n : ℕ). Among n (numbers_of (columns_from (suc a) parts))) (let same : suc a + j ≡ a + suc j = omega arith in same) (columns-among (suc a) parts j there)
+columns-among a (None ∷ parts) (suc j) there =
+    subst (λ (n : ℕ). Among n (numbers_of (columns_from (suc a) parts))) (let same : suc a + j ≡ a + suc j = omega arith in same) (columns-among (suc a) parts j there)
 columns-among a (Some bytes ∷ parts) zero there = inl (let same : a + 0 ≡ a = omega arith in same)
-columns-among a (Some bytes ∷ parts) (suc j) there = inr (subst (λ (n : ℕ). Among n (numbers_of (columns_from (suc a) parts))) (let same : suc a + j ≡ a + suc j = omega arith in same) (columns-among (suc a) parts j there))
+columns-among a (Some bytes ∷ parts) (suc j) there =
+    inr (subst (λ (n : ℕ). Among n (numbers_of (columns_from (suc a) parts))) (let same : suc a + j ≡ a + suc j = omega arith in same) (columns-among (suc a) parts j there))
 
 numbers-each : (P : ℕ → Type 0) (cs : List Column) → Each (λ c. P c.number) cs → Each P (numbers_of cs)
 numbers-each P [] all = tt

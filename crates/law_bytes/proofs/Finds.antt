@@ -24,7 +24,8 @@ found-behind test P (x ∷ xs) y front last = by (test x) front (λ there. found
   by false there later = later there
 
 -- of the first that is found among turned members
-pub found-map : {X : Type 0} (test : X → Bool) (P : X → Type 0) (f : X → X) (xs : List X) → ((x : X) → test (f x) ≡ test x) → ((x : X) → P x → P (f x)) → IfSome (find test xs) P → IfSome (find test (map f xs)) P
+pub found-map : {X : Type 0} (test : X → Bool) (P : X → Type 0) (f : X → X) (xs : List X) → ((x : X) → test (f x) ≡ test x) → ((x : X) → P x → P (f x))
+    → IfSome (find test xs) P → IfSome (find test (map f xs)) P
 found-map test P f [] same turns front = tt
 found-map test P f (x ∷ xs) same turns front = by (test x) (test (f x)) (same x) front (λ there. found-map test P f xs same turns there) where
   by : (b c : Bool) → c ≡ b → IfSome (cond b (Some x) (find test xs)) P → (IfSome (find test xs) P → IfSome (find test (map f xs)) P) → IfSome (cond c (Some (f x)) (find test (map f xs))) P

@@ -43,9 +43,11 @@ module _ (s : Dimensions) (v : State) (carried : Carried s v) where
   bit-on : (b : Bool) → b ≡ true → one_if b ≡ 1
   bit-on b is = ap one_if is
 
-  marked-at : (t : Token) (r : ℕ) (p : ProcessId) → t.way ≡ Row r → (v.process p).name ≡ ParityNode r → is_marked_in t.partition (copy_in (v.process p).as_row.copies t.leader t.number) ≡ true → 1 ≤ at_process t (v.process p)
+  marked-at : (t : Token) (r : ℕ) (p : ProcessId) → t.way ≡ Row r → (v.process p).name ≡ ParityNode r
+      → is_marked_in t.partition (copy_in (v.process p).as_row.copies t.leader t.number) ≡ true → 1 ≤ at_process t (v.process p)
   marked-at t r p way name marked =
-      let there : in_copy t t.way (v.process p) ≡ true = ap (λ (w : Way). in_copy t w (v.process p)) way ∙ and-join _ _ (ap (λ (x : ProcessId). same_process x (ParityNode r)) name ∙ same-refl (ParityNode r)) marked in
+      let there : in_copy t t.way (v.process p) ≡ true = ap (λ (w : Way). in_copy t w (v.process p)) way
+      ∙ and-join _ _ (ap (λ (x : ProcessId). same_process x (ParityNode r)) name ∙ same-refl (ParityNode r)) marked in
       let one = bit-on (in_copy t t.way (v.process p)) there in
       omega (arith, one)
 
@@ -84,7 +86,8 @@ module _ (s : Dimensions) (v : State) (carried : Carried s v) where
         let sum = sum-at (everyone s) (between v t (ParityNode i)) x (within-everyone s x xin) in
         absurd (omega (arith, held, all, most, link, has, one, sum))
 
-  coming : (x p : ProcessId) (m : Message) (rest : List Message) → IsProcess s x → IsProcess s p → x ≢ p → v.dead p ≡ false → v.link x p ≡ m ∷ rest → MayStand s v x p m → Fact m → IsUnmarked m (v.process p)
+  coming : (x p : ProcessId) (m : Message) (rest : List Message) → IsProcess s x → IsProcess s p → x ≢ p → v.dead p ≡ false → v.link x p ≡ m ∷ rest
+      → MayStand s v x p m → Fact m → IsUnmarked m (v.process p)
   coming x (DataNode e) (tells.Mark session r block d n) rest xin pin apart lives first may fact = elim may.2 [ ]
   coming x (ParityNode i) (tells.Mark session r block d n) rest xin pin apart lives first may fact = by session.leader refl where
     by : (y : ProcessId) → session.leader ≡ y → IfSome (copy_in (v.process (ParityNode i)).as_row.copies (parity_number y) session.number) (λ c. at None c.marks d.0 ≡ None)

@@ -38,7 +38,8 @@ module _ (s : Dimensions) where
 
   module _ (settled : ℕ → List Update) (l n : ℕ) (plan : Plan) where
     -- a row for the session is kept
-    pub row-more : (i : ℕ) (bytes : List ℕ) (g : Gathering) → Contains plan.rows i → IsBlock s plan.block (code s i (planned settled plan)) bytes → GatheringFollows s settled plan g → GatheringFollows s settled plan (with_row i bytes g)
+    pub row-more : (i : ℕ) (bytes : List ℕ) (g : Gathering) → Contains plan.rows i → IsBlock s plan.block (code s i (planned settled plan)) bytes
+        → GatheringFollows s settled plan g → GatheringFollows s settled plan (with_row i bytes g)
     row-more i bytes g among is follows = record {
       block = follows.block;
       inside = follows.inside;
@@ -54,7 +55,8 @@ module _ (s : Dimensions) where
           (among, subst (IsBlock s plan.block (code s i (planned settled plan))) bytes_are is)
       by j more there (inr other) = follows.rows_in j more (sym (at-put-other None g.rows_in i j (Some bytes) other) ∙ there)
 
-    pub block-more : (e : ℕ) (bytes : List ℕ) (g : Gathering) → e < s.k → IsBlock s plan.block (value (planned settled plan e)) bytes → GatheringFollows s settled plan g → GatheringFollows s settled plan (with_block e bytes g)
+    pub block-more : (e : ℕ) (bytes : List ℕ) (g : Gathering) → e < s.k → IsBlock s plan.block (value (planned settled plan e)) bytes
+        → GatheringFollows s settled plan g → GatheringFollows s settled plan (with_block e bytes g)
     block-more e bytes g below is follows = record {
       block = follows.block;
       inside = follows.inside;

@@ -41,7 +41,8 @@ module _ (s : Dimensions) (settled : ℕ → List Update) (write : SettledWrite 
   }
 
   -- and what it decodes to are the lost partitions' values
-  pub decodes-right : (g : Gathering) (d b : ℕ) (bytes : List ℕ) → IsShape s → IsSound s g → GatheringFollows s settled plan g → is_complete s g ≡ true → IsDecoded s g g.lost d b bytes → IsBlock s b (value (planned settled plan d)) bytes
+  pub decodes-right : (g : Gathering) (d b : ℕ) (bytes : List ℕ) → IsShape s → IsSound s g → GatheringFollows s settled plan g → is_complete s g ≡ true
+      → IsDecoded s g g.lost d b bytes → IsBlock s b (value (planned settled plan d)) bytes
   decodes-right g d b bytes shaped sound follows complete decoded =
       subst (λ (c : ℕ). IsBlock s c (value (planned settled plan d)) bytes) (sym decoded.block) (subst (IsBlock s g.block (value (planned settled plan d))) (sym decoded.is)
       (sessions_decode s (planned settled plan) g shaped (gathers-right g sound follows) complete d (among-contains g.lost d decoded.lost)))
@@ -51,10 +52,11 @@ module _ (s : Dimensions) (settled : ℕ → List Update) (write : SettledWrite 
   row-sound i bytes g sound = record { lost = sound.lost; lost_in = sound.lost_in; rows = sound.rows; rows_in = sound.rows_in; as_many = sound.as_many; blocks = sound.blocks }
 
   pub block-sound : (e : ℕ) (bytes : List ℕ) (g : Gathering) → e < s.k → ¬ (Contains g.lost e) → IsSound s g → IsSound s (with_block e bytes g)
-  block-sound e bytes g below kept sound = record { lost = sound.lost; lost_in = sound.lost_in; rows = sound.rows; rows_in = sound.rows_in; as_many = sound.as_many; blocks = λ d more there. by d more there (cases_eq d e) } where
-    by : (d : ℕ) (more : List ℕ) → at None (put None g.blocks_in e (Some bytes)) d ≡ Some more → (d ≡ e) ⊎ (d ≢ e) → (d < s.k) × (¬ (Contains g.lost d))
-    by d more there (inl same) = subst (λ (c : ℕ). (c < s.k) × (¬ (Contains g.lost c))) (sym same) (below, kept)
-    by d more there (inr other) = sound.blocks d more (sym (at-put-other None g.blocks_in e d (Some bytes) other) ∙ there)
+  block-sound e bytes g below kept sound =
+      record { lost = sound.lost; lost_in = sound.lost_in; rows = sound.rows; rows_in = sound.rows_in; as_many = sound.as_many; blocks = λ d more there. by d more there (cases_eq d e) } where
+        by : (d : ℕ) (more : List ℕ) → at None (put None g.blocks_in e (Some bytes)) d ≡ Some more → (d ≡ e) ⊎ (d ≢ e) → (d < s.k) × (¬ (Contains g.lost d))
+        by d more there (inl same) = subst (λ (c : ℕ). (c < s.k) × (¬ (Contains g.lost c))) (sym same) (below, kept)
+        by d more there (inr other) = sound.blocks d more (sym (at-put-other None g.blocks_in e d (Some bytes) other) ∙ there)
 
 pub sessions_gather : SessionsGather
 sessions_gather s v sound up write stands l n g lin lives name opens =

@@ -60,7 +60,9 @@ module _ (s : Dimensions) where
         ∙ ap (λ (bs : List (Option (List ℕ))). at None bs b) (at-put [] [] p.as_leader.rebuilt e (rebuilt_after s e (up_to k (replica_of p e)) 0 (at [] p.as_leader.rebuilt e)))
         ∙ at-rebuilt s e (up_to k (replica_of p e)) 0 (at [] p.as_leader.rebuilt e) b
         ∙ ap (option_map (block_after s (DataNode e) e (0 + b) (up_to k (replica_of p e)))) (ap (λ (j : ℕ). rebuilt_block p.as_leader j b) (sym same) ∙ none)
-    by (inr other) = ap (λ (bs : List (Option (List ℕ))). at None bs b) (at-put-other [] p.as_leader.rebuilt e d (rebuilt_after s e (up_to k (replica_of p e)) 0 (at [] p.as_leader.rebuilt e)) other) ∙ none
+    by (inr other) =
+        ap (λ (bs : List (Option (List ℕ))). at None bs b) (at-put-other [] p.as_leader.rebuilt e d (rebuilt_after s e (up_to k (replica_of p e)) 0 (at [] p.as_leader.rebuilt e)) other)
+        ∙ none
 
   none-each : (xs : List ℕ) (f : ℕ → Process → ProcessStep) (p : Process) → ((x : ℕ) (q : Process) → NoneStays q (f x q).process) → NoneStays p (for_each xs f p).process
   none-each [] f p all = none-self p
@@ -111,7 +113,8 @@ module _ (s : Dimensions) where
       (session : IfSome (open_session p.as_leader n) (λ g. (n ≤ p.as_leader.last_session) × GatheringFollows s settled plan g)) (lost : LostFollows l n plan p) (sound : IfSome (open_session p.as_leader n) (SoundFor known)) where
     -- what a complete session gives
     gives : (d b : ℕ) (bytes : List ℕ) (g : Gathering) (more : Gathering → Gathering) (gb : GivesBlock s p.as_leader n d b bytes more) → (more gb.session).lost ≡ gb.session.lost
-        → (GatheringFollows s settled plan gb.session → GatheringFollows s settled plan (more gb.session)) → (SoundFor known gb.session → IsSound s (more gb.session)) → GivenAt s settled known p d b bytes
+        → (GatheringFollows s settled plan gb.session → GatheringFollows s settled plan (more gb.session))
+        → (SoundFor known gb.session → IsSound s (more gb.session)) → GivenAt s settled known p d b bytes
     gives d b bytes g more gb same follows sounds =
         let before = if-some (λ x. (n ≤ p.as_leader.last_session) × GatheringFollows s settled plan x) (open_session p.as_leader n) gb.session gb.opens session in
         let sound_for = if-some (SoundFor known) (open_session p.as_leader n) gb.session gb.opens sound in
@@ -134,7 +137,8 @@ module _ (s : Dimensions) where
         record { number = given.number; values = given.values; lost = given.lost; applied = given.applied; inherited = given.inherited }
 
     -- a block comes
-    pub block-given : (e : ℕ) (block : List ℕ) → e < s.k → knows_dead known (DataNode e) ≡ false → IsBlock s plan.block (value (planned settled plan e)) block → (d b : ℕ) (bytes : List ℕ) → rebuilt_block p.as_leader d b ≡ None
+    pub block-given : (e : ℕ) (block : List ℕ) → e < s.k → knows_dead known (DataNode e) ≡ false → IsBlock s plan.block (value (planned settled plan e)) block
+        → (d b : ℕ) (bytes : List ℕ) → rebuilt_block p.as_leader d b ≡ None
         → rebuilt_block (block_comes s n e block p).as_leader d b ≡ Some bytes → GivenAt s settled known (block_comes s n e block p) d b bytes
     block-given e block below living is d b bytes before after =
         let gb = block-gives s p.as_leader n e block d b bytes before after in
@@ -153,7 +157,8 @@ module _ (s : Dimensions) where
     abbrev marking : Process
     marking = apply_to s d k (begin_copy s leader n block p)
 
-    begun-leader : (b : Bool) → ((copy_begun b s leader n block p).as_leader ≡ p.as_leader) × ((copy_begun b s leader n block p).name ≡ p.name) × ((copy_begun b s leader n block p).heads ≡ p.heads) × ((copy_begun b s leader n block p).replicas ≡ p.replicas)
+    begun-leader : (b : Bool)
+        → ((copy_begun b s leader n block p).as_leader ≡ p.as_leader) × ((copy_begun b s leader n block p).name ≡ p.name) × ((copy_begun b s leader n block p).heads ≡ p.heads) × ((copy_begun b s leader n block p).replicas ≡ p.replicas)
     begun-leader true = (refl, refl, refl, refl)
     begun-leader false = (refl, refl, refl, refl)
 
@@ -190,7 +195,8 @@ module _ (s : Dimensions) where
       parts : (c.leader ≡ leader) × (c.number ≡ n)
       parts = copy-parts leader n c (found-passes (is_copy leader n) marking.as_row.copies c first)
 
-      finished : (own : Bool) → same_process marking.name (ParityNode c.leader) ≡ own → is_marked s (marked d k c) ≡ true → New (row_finished own s (marked d k c) (with_copies (without_copy c.leader c.number marking.as_row.copies) marking)).process
+      finished : (own : Bool) → same_process marking.name (ParityNode c.leader) ≡ own → is_marked s (marked d k c) ≡ true
+          → New (row_finished own s (marked d k c) (with_copies (without_copy c.leader c.number marking.as_row.copies) marking)).process
       finished false other whole = new-none _ none-marking
       finished true own whole = λ e b bytes before after.
           subst (λ (x : ℕ). rebuilt_block (row_comes s x c.leader c.bytes (with_copies (without_copy c.leader c.number marking.as_row.copies) marking)).as_leader e b ≡ Some bytes

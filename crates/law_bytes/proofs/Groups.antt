@@ -72,45 +72,49 @@ module _ (s : Dimensions) (t : Token) where
 
   -- by whether a process is dead, in both states alike
   around-le : (v w : State) (q : ProcessId) (c : ℕ) → w.dead q ≡ v.dead q
-      → (v.dead q ≡ false → at_process t (w.process q) + sum_of (everyone s) (between w t q) ≤ at_process t (v.process q) + sum_of (everyone s) (between v t q) + c) → around s w t q ≤ around s v t q + c
+      → (v.dead q ≡ false → at_process t (w.process q) + sum_of (everyone s) (between w t q) ≤ at_process t (v.process q) + sum_of (everyone s) (between v t q) + c)
+      → around s w t q ≤ around s v t q + c
   around-le v w q c same living = by (v.dead q) refl where
     by : (b : Bool) → v.dead q ≡ b → around s w t q ≤ around s v t q + c
     by true dead = let none = around-dead w q (same ∙ dead) in omega (arith, none)
     by false lives = let before = around-living v q lives in let after = around-living w q (same ∙ lives) in let less = living lives in omega (arith, before, after, less)
 
   -- a message is taken out
-  pub popped-tokens : (v u : State) (x p : ProcessId) (m : Message) → IsProcess s x → IsProcess s p → x ≢ p → v.dead p ≡ false → Popped s v u x p m → tokens s u t + one_if (is_token t x p m) ≤ tokens s v t
-  popped-tokens v u x p m xin pin apart lives pops = sum-less (everyone s) (around s v t) (around s u t) p (one_if (is_token t x p m)) (within-everyone s p pin) (λ q there. every q (everyone-inside s q there)) here where
-    link-less : (q y : ProcessId) → IsProcess s q → IsProcess s y → between u t q y ≤ between v t q y
-    link-less q y qin yin = by (same-cases y x) (same-cases q p) where
-      by : (y ≡ x) ⊎ (y ≢ x) → (q ≡ p) ⊎ (q ≢ p) → between u t q y ≤ between v t q y
-      by (inr other) _ = let same = between-same v u q y (pops.links y q yin qin (inl other)) in omega (arith, same)
-      by (inl is) (inr other) = let same = between-same v u q y (pops.links y q yin qin (inr other)) in omega (arith, same)
-      by (inl is) (inl here) =
-          let a = between-other u p x apart in
-          let b : between v t p x ≡ one_if (is_token t x p m) + in_link t x p (u.link x p) = between-other v p x apart ∙ ap (in_link t x p) pops.first in
-          subst (λ (z : ProcessId). between u t q z ≤ between v t q z) (sym is) (subst (λ (z : ProcessId). between u t z x ≤ between v t z x) (sym here) (omega (arith, a, b)))
+  pub popped-tokens : (v u : State) (x p : ProcessId) (m : Message) → IsProcess s x → IsProcess s p → x ≢ p → v.dead p ≡ false → Popped s v u x p m
+      → tokens s u t + one_if (is_token t x p m) ≤ tokens s v t
+  popped-tokens v u x p m xin pin apart lives pops =
+      sum-less (everyone s) (around s v t) (around s u t) p (one_if (is_token t x p m)) (within-everyone s p pin) (λ q there. every q (everyone-inside s q there)) here where
+        link-less : (q y : ProcessId) → IsProcess s q → IsProcess s y → between u t q y ≤ between v t q y
+        link-less q y qin yin = by (same-cases y x) (same-cases q p) where
+          by : (y ≡ x) ⊎ (y ≢ x) → (q ≡ p) ⊎ (q ≢ p) → between u t q y ≤ between v t q y
+          by (inr other) _ = let same = between-same v u q y (pops.links y q yin qin (inl other)) in omega (arith, same)
+          by (inl is) (inr other) = let same = between-same v u q y (pops.links y q yin qin (inr other)) in omega (arith, same)
+          by (inl is) (inl here) =
+              let a = between-other u p x apart in
+              let b : between v t p x ≡ one_if (is_token t x p m) + in_link t x p (u.link x p) = between-other v p x apart ∙ ap (in_link t x p) pops.first in
+              subst (λ (z : ProcessId). between u t q z ≤ between v t q z) (sym is) (subst (λ (z : ProcessId). between u t z x ≤ between v t z x) (sym here) (omega (arith, a, b)))
 
-    every : (q : ProcessId) → IsProcess s q → around s u t q ≤ around s v t q
-    every q qin =
-        let less = around-le v u q 0 (pops.dead q qin) (λ living.
-        let links = sum-le (everyone s) (between v t q) (between u t q) (λ y there. link-less q y qin (everyone-inside s y there)) in
-        let same = ap (at_process t) (pops.processes q qin) in
-        omega (arith, links, same)) in
-        omega (arith, less)
+        every : (q : ProcessId) → IsProcess s q → around s u t q ≤ around s v t q
+        every q qin =
+            let less = around-le v u q 0 (pops.dead q qin) (λ living.
+            let links = sum-le (everyone s) (between v t q) (between u t q) (λ y there. link-less q y qin (everyone-inside s y there)) in
+            let same = ap (at_process t) (pops.processes q qin) in
+            omega (arith, links, same)) in
+            omega (arith, less)
 
-    here : around s u t p + one_if (is_token t x p m) ≤ around s v t p
-    here =
-        let before = around-living v p lives in
-        let after = around-living u p (pops.dead p pin ∙ lives) in
-        let same = ap (at_process t) (pops.processes p pin) in
-        let a = between-other u p x apart in
-        let b : between v t p x ≡ one_if (is_token t x p m) + in_link t x p (u.link x p) = between-other v p x apart ∙ ap (in_link t x p) pops.first in
-        let links = sum-less (everyone s) (between v t p) (between u t p) x (one_if (is_token t x p m)) (within-everyone s x xin) (λ y there. link-less p y pin (everyone-inside s y there)) (omega (arith, a, b)) in
-        omega (arith, before, after, same, links)
+        here : around s u t p + one_if (is_token t x p m) ≤ around s v t p
+        here =
+            let before = around-living v p lives in
+            let after = around-living u p (pops.dead p pin ∙ lives) in
+            let same = ap (at_process t) (pops.processes p pin) in
+            let a = between-other u p x apart in
+            let b : between v t p x ≡ one_if (is_token t x p m) + in_link t x p (u.link x p) = between-other v p x apart ∙ ap (in_link t x p) pops.first in
+            let links = sum-less (everyone s) (between v t p) (between u t p) x (one_if (is_token t x p m)) (within-everyone s x xin) (λ y there. link-less p y pin (everyone-inside s y there)) (omega (arith, a, b)) in
+            omega (arith, before, after, same, links)
 
   -- a process makes a step
-  pub acted-tokens : (v w : State) (p : ProcessId) (step : ProcessStep) → IsProcess s p → v.dead p ≡ false → ((q : ProcessId) → IsProcess s q → q ≢ p → v.dead q ≡ false → knows_dead step.process.known q ≡ false) → Acted s v w p step
+  pub acted-tokens : (v w : State) (p : ProcessId) (step : ProcessStep) → IsProcess s p → v.dead p ≡ false
+      → ((q : ProcessId) → IsProcess s q → q ≢ p → v.dead q ≡ false → knows_dead step.process.known q ≡ false) → Acted s v w p step
       → tokens s w t + at_process t (v.process p) ≤ tokens s v t + at_process t step.process + in_sent t p step.sent
   acted-tokens v w p step pin lives unknown acts =
       let moved = sum-less (everyone s) allowed (around s w t) p (at_process t (v.process p)) (within-everyone s p pin) (λ q there. every q (everyone-inside s q there)) here in
@@ -132,7 +136,8 @@ module _ (s : Dimensions) (t : Token) where
           let only = sum-only (everyone s) p c (everyone-once s) in
           omega (arith, less, split, only)
         where
-          each : (y : ProcessId) → IsProcess s y → w.link p q ≡ v.link p q ++ sent_to q step.sent → (y ≡ p) ⊎ (y ≢ p) → between w t q y ≤ between v t q y + only_at p (in_link t p q (sent_to q step.sent)) y
+          each : (y : ProcessId) → IsProcess s y → w.link p q ≡ v.link p q ++ sent_to q step.sent → (y ≡ p) ⊎ (y ≢ p)
+              → between w t q y ≤ between v t q y + only_at p (in_link t p q (sent_to q step.sent)) y
           each y yin grown (inr apart) = let same = between-same v w q y (acts.links y q yin qin apart) in omega (arith, same)
           each y yin grown (inl is) =
               let from : p ≢ q = λ (e : p ≡ q). other (sym e) in

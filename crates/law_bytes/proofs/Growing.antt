@@ -62,7 +62,8 @@ module _ (s : Dimensions) (before after : ℕ → List Update) (grows : Prolongs
         )) (open_session p.as_leader n) (is.session named);
   }
 
-pub grown : (s : Dimensions) (v : State) (after : ℕ → List Update) (l n : ℕ) (plan : Plan) → Prolongs s v.settled after → SessionFollows s v l n plan → SessionFollows s (record v { settled = after }) l n plan
+pub grown : (s : Dimensions) (v : State) (after : ℕ → List Update) (l n : ℕ) (plan : Plan) → Prolongs s v.settled after → SessionFollows s v l n plan
+    → SessionFollows s (record v { settled = after }) l n plan
 grown s v after l n plan grows is = record {
   within = longer s v.settled after grows l n plan is.within;
   links = λ x q xin qin apart living. each-weaker (Follows s v.settled l n plan x q) (Follows s after l n plan x q) (λ m. follows-grown s v.settled after grows l n plan is.within x q m xin) (v.link x q) (is.links x q xin qin apart living);

@@ -79,7 +79,8 @@ module _ (s : Dimensions) where
       (let q : Process = enthroned s (suc (parity_number p.name)) d p in then-leads p q (judge s d q).process (same-leads p q refl refl) (judge-leads d q))
 
   -- what comes in leaves the other sessions
-  gathered-leads : (complete : Bool) (known : Membership) (g : Gathering) (state : LeaderState) → IsFor s known g → Each (IsFor s known) state.sessions → Each (IsFor s known) (gathered_when complete s g state).sessions
+  gathered-leads : (complete : Bool) (known : Membership) (g : Gathering) (state : LeaderState) → IsFor s known g → Each (IsFor s known) state.sessions
+      → Each (IsFor s known) (gathered_when complete s g state).sessions
   gathered-leads true known g state mine all =
       subst (Each (IsFor s known)) (sym (decoded-same s g g.lost (record state { sessions = without_session g.number state.sessions })).0) (each-filter (IsFor s known) (λ x. not (x.number == g.number)) state.sessions all)
   gathered-leads false known g state mine all =
@@ -106,7 +107,8 @@ module _ (s : Dimensions) where
         gathered-leads (is_complete s (record g { blocks_in = put None g.blocks_in e (Some bytes) })) p.known (record g { blocks_in = put None g.blocks_in e (Some bytes) }) p.as_leader
         (record { lost = is.lost; rows = is.rows; blocks = λ d more there. of g is d more there (cases_eq d e) }) all
       where
-        of : (g : Gathering) → IsFor s p.known g → (d : ℕ) (more : List ℕ) → at None (put None g.blocks_in e (Some bytes)) d ≡ Some more → (d ≡ e) ⊎ (d ≢ e) → (d < s.k) × (knows_dead p.known (DataNode d) ≡ false)
+        of : (g : Gathering) → IsFor s p.known g → (d : ℕ) (more : List ℕ) → at None (put None g.blocks_in e (Some bytes)) d ≡ Some more → (d ≡ e) ⊎ (d ≢ e)
+            → (d < s.k) × (knows_dead p.known (DataNode d) ≡ false)
         of g is d more there (inl same) = subst (λ (j : ℕ). (j < s.k) × (knows_dead p.known (DataNode j) ≡ false)) (sym same) (inside, living)
         of g is d more there (inr other) = is.blocks d more (sym (at-put-other None g.blocks_in e d (Some bytes) other) ∙ there)
 
@@ -207,7 +209,8 @@ module _ (s : Dimensions) where
 
   acked-leads : (p : Process) (i r d n : ℕ) (o : Option Head) → Leads p (acknowledge s i r d n o p).process
   acked-leads p i r d n None = self-leads p
-  acked-leads p i r d n (Some h) = when-leads (r == h.rank) p _ (let q : Process = with_head d (Some (acknowledged i n h)) p in then-leads p q (judge s d q).process (same-leads p q refl refl) (judge-leads d q))
+  acked-leads p i r d n (Some h) =
+      when-leads (r == h.rank) p _ (let q : Process = with_head d (Some (acknowledged i n h)) p in then-leads p q (judge s d q).process (same-leads p q refl refl) (judge-leads d q))
 
   read-leads : (session : Session) (block : ℕ) (rows : List ℕ) (p : Process) (name : ProcessId) → Leads p (read_comes s session block rows p name).process
   read-leads session block rows p (DataNode e) = self-leads p
@@ -216,12 +219,15 @@ module _ (s : Dimensions) where
   fits-after : (p q : Process) → Leads p q → Each (IsFor s p.known) p.as_leader.sessions → Each (IsFor s q.known) q.as_leader.sessions
   fits-after p q leads all = subst (λ (known : Membership). Each (IsFor s known) q.as_leader.sessions) (sym leads.known) (leads.sessions all)
 
-  receive-fits : (x : ProcessId) (m : Message) (p : Process) → IsProcess s x → knows_dead p.known x ≡ false → Each (IsFor s p.known) p.as_leader.sessions → Each (IsFor s (receive s x m p).process.known) (receive s x m p).process.as_leader.sessions
-  receive-fits x (tells.Update r d u stable) p xin living all = fits-after p _ (when-leads (nat_le (at 0 p.ranks d.0) r.0) p (ack_to x r.0 d.0 u.number (update_taken s d.0 u stable p)) (same-leads p _ refl refl)) all
+  receive-fits : (x : ProcessId) (m : Message) (p : Process) → IsProcess s x → knows_dead p.known x ≡ false → Each (IsFor s p.known) p.as_leader.sessions
+      → Each (IsFor s (receive s x m p).process.known) (receive s x m p).process.as_leader.sessions
+  receive-fits x (tells.Update r d u stable) p xin living all =
+      fits-after p _ (when-leads (nat_le (at 0 p.ranks d.0) r.0) p (ack_to x r.0 d.0 u.number (update_taken s d.0 u stable p)) (same-leads p _ refl refl)) all
   receive-fits (DataNode e) (tells.Ack r d n) p xin living all = all
   receive-fits (ParityNode i) (tells.Ack r d n) p xin living all = fits-after p _ (acked-leads p i r.0 d.0 n (head_at p d.0)) all
   receive-fits x (tells.Stable r d n) p xin living all = fits-after p _ (when-leads (nat_le (at 0 p.ranks d.0) r.0) p (quiet (apply_to s d.0 n p)) (same-leads p _ refl refl)) all
-  receive-fits x (tells.Adopt r d base list) p xin living all = fits-after p _ (when-leads (nat_le (at 0 p.ranks d.0) r.0) p (ack_to x r.0 d.0 _ (log_adopted s r.0 d.0 base list p)) (same-leads p _ refl refl)) all
+  receive-fits x (tells.Adopt r d base list) p xin living all =
+      fits-after p _ (when-leads (nat_le (at 0 p.ranks d.0) r.0) p (ack_to x r.0 d.0 _ (log_adopted s r.0 d.0 base list p)) (same-leads p _ refl refl)) all
   receive-fits x (tells.ReadBlock session block rows) p xin living all = fits-after p _ (read-leads session block rows p p.name) all
   receive-fits (DataNode e) (tells.Block session bytes n) p xin living all = fits-after p _ (block-leads e session.number bytes p xin living) all
   receive-fits (ParityNode i) (tells.Block session bytes n) p xin living all = all

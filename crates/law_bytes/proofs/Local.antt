@@ -104,7 +104,8 @@ module _ (t : Token) where
   fewer-self p = record { name = refl; marked = λ is. is; kept = λ is. is; last = omega arith }
 
   pub fewer-trans : (p q r : Process) → Fewer p q → Fewer q r → Fewer p r
-  fewer-trans p q r a b = record { name = b.name ∙ a.name; marked = λ is. a.marked (b.marked is); kept = λ is. a.kept (b.kept is); last = let one = a.last in let two = b.last in omega (arith, one, two) }
+  fewer-trans p q r a b =
+      record { name = b.name ∙ a.name; marked = λ is. a.marked (b.marked is); kept = λ is. a.kept (b.kept is); last = let one = a.last in let two = b.last in omega (arith, one, two) }
 
   pub copy-less : (w : Way) (p q : Process) → Fewer p q → in_copy t w q ≡ true → in_copy t w p ≡ true
   copy-less (Row r) p q fewer is =

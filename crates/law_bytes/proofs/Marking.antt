@@ -55,7 +55,8 @@ module _ (s : Dimensions) where
     by true = refl
     by false = refl
 
-  open-applied : (name : ProcessId) (d : ℕ) (us : List Update) (leader number : ℕ) (xs : List ℕ) (cs : List Copy) → OpenIn leader number xs cs → OpenIn leader number xs (map (copy_after s name d us) cs)
+  open-applied : (name : ProcessId) (d : ℕ) (us : List Update) (leader number : ℕ) (xs : List ℕ) (cs : List Copy) → OpenIn leader number xs cs
+      → OpenIn leader number xs (map (copy_after s name d us) cs)
   open-applied name d us leader number xs cs open_there = found-map (is_copy leader number) (IsOpen xs) (copy_after s name d us) cs (λ c. copy-test name d us leader number c)
       (λ c free. copy-mark name d us c (λ (marks : List (Option ℕ)). Each (λ x. at None marks x ≡ None) xs) free) open_there
 
@@ -69,7 +70,8 @@ module _ (s : Dimensions) where
   begun-open false leader number block xs p open_there = found-behind (is_copy leader number) (IsOpen xs) p.as_row.copies (new_copy s leader number block p.space) open_there
       (each-all (λ x. at None (replicate s.k None) x ≡ None) (λ x. at-replicate None s.k x) xs)
 
-  pub finished-same : (own : Bool) (c : Copy) (p : Process) → ((row_finished own s c p).process.replicas ≡ p.replicas) × ((row_finished own s c p).process.name ≡ p.name) × ((row_finished own s c p).process.as_row.copies ≡ p.as_row.copies)
+  pub finished-same : (own : Bool) (c : Copy) (p : Process)
+      → ((row_finished own s c p).process.replicas ≡ p.replicas) × ((row_finished own s c p).process.name ≡ p.name) × ((row_finished own s c p).process.as_row.copies ≡ p.as_row.copies)
   finished-same true c p = (refl, refl, refl)
   finished-same false c p = (refl, refl, refl)
 
@@ -83,7 +85,8 @@ module _ (s : Dimensions) where
   marked-same d n (Some c) p = kept-same (is_marked s (marked d n c)) (marked d n c) p
 
   -- the other partitions of the session stay unmarked
-  kept-open : (whole : Bool) (xs : List ℕ) (c first : Copy) (p : Process) → copy_in p.as_row.copies c.leader c.number ≡ Some first → IsOpen xs c → OpenIn c.leader c.number xs (copy_kept whole s c p).process.as_row.copies
+  kept-open : (whole : Bool) (xs : List ℕ) (c first : Copy) (p : Process) → copy_in p.as_row.copies c.leader c.number ≡ Some first → IsOpen xs c
+      → OpenIn c.leader c.number xs (copy_kept whole s c p).process.as_row.copies
   kept-open true xs c first p is free =
       let q : Process = with_copies (without_copy c.leader c.number p.as_row.copies) p in
       subst (OpenIn c.leader c.number xs) (sym (finished-same (same_process p.name (ParityNode c.leader)) c q).2)
@@ -120,16 +123,20 @@ module _ (s : Dimensions) where
         ∙ at-rebuilt s d [] 0 (at [] p.as_leader.rebuilt d) b ∙ mapped-none d (0 + b) (at None (at [] p.as_leader.rebuilt d) b)
         ∙ ap (λ (j : ℕ). rebuilt_block p.as_leader j b) (sym here)
 
-    none-holds : (d : ℕ) (r : Replica) (us : List Update) (p : Process) → us ≡ [] → r.applied ≡ (replica_of p d).applied → Holding s settled old p → Holding s settled old (with_replica d r (bytes_after s d us p))
-    none-holds d r us p none same holding = subst (λ (news : List Update). Holding s settled old (with_replica d r (bytes_after s d news p))) (sym none) (holding-same s settled old p (with_replica d r (bytes_after s d [] p)) (record {
-      stand = record { name = refl; applied = λ e. applied e (cases_eq e d) };
-      space = refl;
-      rebuilt = λ e b. none-rebuilt d e b p (cases_eq e d);
-    }) (each-map (CopyHolds s settled p) (copy_after s p.name d []) p.as_row.copies
+    none-holds : (d : ℕ) (r : Replica) (us : List Update) (p : Process) → us ≡ [] → r.applied ≡ (replica_of p d).applied → Holding s settled old p
+        → Holding s settled old (with_replica d r (bytes_after s d us p))
+    none-holds d r us p none same holding =
+        subst (λ (news : List Update). Holding s settled old (with_replica d r (bytes_after s d news p))) (sym none) (holding-same s settled old p (with_replica d r (bytes_after s d [] p)) (record {
+          stand = record { name = refl; applied = λ e. applied e (cases_eq e d) };
+          space = refl;
+          rebuilt = λ e b. none-rebuilt d e b p (cases_eq e d);
+        }) (each-map (CopyHolds s settled p) (copy_after s p.name d []) p.as_row.copies
         (each-weaker (CopyHolds s settled p) (λ c. CopyHolds s settled p (copy_after s p.name d [] c)) (λ c holds. copy c holds (is_some (at None c.marks d))) p.as_row.copies holding.copies)) holding) where
           applied : (e : ℕ) → (e ≡ d) ⊎ (e ≢ d) → (at empty_replica (put empty_replica p.replicas d r) e).applied ≡ (replica_of p e).applied
           applied e (inr other) = ap (λ (x : Replica). x.applied) (at-put-other empty_replica p.replicas d e r other)
-          applied e (inl here) = ap (λ (j : ℕ). (at empty_replica (put empty_replica p.replicas d r) j).applied) here ∙ ap (λ (x : Replica). x.applied) (at-put empty_replica empty_replica p.replicas d r) ∙ same ∙ ap (λ (j : ℕ). (replica_of p j).applied) (sym here)
+          applied e (inl here) =
+              ap (λ (j : ℕ). (at empty_replica (put empty_replica p.replicas d r) j).applied) here
+              ∙ ap (λ (x : Replica). x.applied) (at-put empty_replica empty_replica p.replicas d r) ∙ same ∙ ap (λ (j : ℕ). (replica_of p j).applied) (sym here)
 
           copy : (c : Copy) → CopyHolds s settled p c → (b : Bool) → CopyHolds s settled p (if b then c else record c { bytes = block_after s p.name d c.block [] c.bytes })
           copy c holds true = holds
@@ -177,7 +184,8 @@ module _ (s : Dimensions) where
       free : IfSome (copy_in q.as_row.copies leader number) (λ c. at None c.marks d ≡ None)
       free = if-weaker (IsOpen (d ∷ xs)) (λ c. at None c.marks d ≡ None) (λ c free_all. free_all.0) (copy_in q.as_row.copies leader number) q_open
 
-      by : (b : Bool) → Holding s settled old (when b p (mark_taken s leader number block d n p)).process × OpenIn leader number xs (when b p (mark_taken s leader number block d n p)).process.as_row.copies × ((when b p (mark_taken s leader number block d n p)).process.name ≡ p.name)
+      by : (b : Bool)
+          → Holding s settled old (when b p (mark_taken s leader number block d n p)).process × OpenIn leader number xs (when b p (mark_taken s leader number block d n p)).process.as_row.copies × ((when b p (mark_taken s leader number block d n p)).process.name ≡ p.name)
       by false = (holding, if-weaker (IsOpen (d ∷ xs)) (IsOpen xs) (λ c free_all. free_all.1) (copy_in p.as_row.copies leader number) all, refl)
       by true = (
         mark-holds s settled old q leader number d n (subst (Inside s) (sym same_name) inside) below q_applied free q_holds,
@@ -237,7 +245,8 @@ module _ (s : Dimensions) where
           let count : length (up_to n (replica_of begun d)) ≡ n - (replica_of begun d).applied = length-take-le (n - (replica_of begun d).applied) (replica_of begun d).log (omega (arith, a_is, log_is, above, issued)) in
           omega (arith, is, a_is, above, count)
 
-      begun_free : (b : Bool) → IfSome (copy_in p.as_row.copies leader number) (λ c. at None c.marks d ≡ None) → IfSome (copy_in (copy_begun b s leader number block p).as_row.copies leader number) (λ c. at None c.marks d ≡ None)
+      begun_free : (b : Bool) → IfSome (copy_in p.as_row.copies leader number) (λ c. at None c.marks d ≡ None)
+          → IfSome (copy_in (copy_begun b s leader number block p).as_row.copies leader number) (λ c. at None c.marks d ≡ None)
       begun_free true unmarked = unmarked
       begun_free false unmarked = found-behind (is_copy leader number) (λ c. at None c.marks d ≡ None) p.as_row.copies (new_copy s leader number block p.space) unmarked (at-replicate None s.k d)
 
@@ -255,7 +264,9 @@ module _ (s : Dimensions) where
       q : Process
       q = apply_to s d n (begin_copy s leader number block p)
 
-      by : (b : Bool) → (b ≡ true → MarkIsNew p leader number d n) → (replica_of (when b p (mark_taken s leader number block d n p)).process d).applied ≤ length (settled d) → Holding s settled old (when b p (mark_taken s leader number block d n p)).process
+      by : (b : Bool) → (b ≡ true → MarkIsNew p leader number d n)
+          → (replica_of (when b p (mark_taken s leader number block d n p)).process d).applied ≤ length (settled d)
+          → Holding s settled old (when b p (mark_taken s leader number block d n p)).process
       by false _ _ = holding
       by true is_new final =
           let last : (replica_of q d).applied ≤ length (settled d) = subst (λ (rs : List Replica). (at empty_replica rs d).applied ≤ length (settled d)) (marked-same d n (copy_in q.as_row.copies leader number) q).0 final in

@@ -28,7 +28,8 @@ session-cases t l n = by (same_session t l n) refl where
   by false is = inr is
 
 -- the tokens of a row, or of the own block, that a number of bits stand for
-pub bits-pass : (a' k' a k m z : Bool) → (a' ≡ true → a ≡ true) → (k' ≡ true → k ≡ true) → (z ≡ true → (a' ≡ false) × ((a ≡ true) ⊎ (m ≡ true))) → one_if a' + one_if k' + one_if z ≤ one_if a + one_if k + one_if m
+pub bits-pass : (a' k' a k m z : Bool) → (a' ≡ true → a ≡ true) → (k' ≡ true → k ≡ true) → (z ≡ true → (a' ≡ false) × ((a ≡ true) ⊎ (m ≡ true)))
+    → one_if a' + one_if k' + one_if z ≤ one_if a + one_if k + one_if m
 bits-pass a' k' a k m false la lk lz = let x = bit-le a' a la in let y = bit-le k' k lk in omega (arith, x, y)
 bits-pass a' k' a k m true la lk lz =
     let none : one_if a' ≡ 0 = ap one_if (lz refl).0 in
@@ -68,7 +69,8 @@ module _ (s : Dimensions) where
         same : P (open_session (gathered_when true s g state) n) ≡ P (find (λ x. x.number == n) (without_session g.number state.sessions))
         same = ap (λ (gs : List Gathering). P (find (λ x. x.number == n) gs)) (decoded-same g g.lost (record state { sessions = without_session g.number state.sessions })).0
 
-        by : (b : Bool) → find (λ x. x.number == n) (without_session g.number state.sessions) ≡ (if b then open_session state n else None) → (P (open_session state n) ≡ true) ⊎ ((n ≡ number) × (P (Some g) ≡ true))
+        by : (b : Bool) → find (λ x. x.number == n) (without_session g.number state.sessions) ≡ (if b then open_session state n else None)
+            → (P (open_session state n) ≡ true) ⊎ ((n ≡ number) × (P (Some g) ≡ true))
         by true found = inl (ap P (sym found) ∙ sym same ∙ kept)
         by false found = absurd (cc (sym kept ∙ same ∙ ap P found ∙ none))
   gathered-opens false g h state n number opens is P none kept = by (cases_eq n number) where
@@ -115,11 +117,14 @@ module _ (s : Dimensions) where
       turn (inr same) = inr (ap Row same)
     after Own g is = inl is
 
-    by : (o : Option Gathering) → open_session state number ≡ o → is_kept_in w d (open_session (row_gathered s i bytes o state) n) ≡ true → (is_kept_in w d (open_session state n) ≡ true) ⊎ ((n ≡ number) × (w ≡ Row i))
+    by : (o : Option Gathering) → open_session state number ≡ o → is_kept_in w d (open_session (row_gathered s i bytes o state) n) ≡ true
+        → (is_kept_in w d (open_session state n) ≡ true) ⊎ ((n ≡ number) × (w ≡ Row i))
     by None opens is = inl is
-    by (Some g) opens is = turn (gathered-opens (is_complete s (record g { rows_in = put None g.rows_in i (Some bytes) })) (record g { rows_in = put None g.rows_in i (Some bytes) }) g state n number opens
+    by (Some g) opens is =
+        turn (gathered-opens (is_complete s (record g { rows_in = put None g.rows_in i (Some bytes) })) (record g { rows_in = put None g.rows_in i (Some bytes) }) g state n number opens
         (number-is g number (found-passes (λ x. x.number == number) state.sessions g opens)) (is_kept_in w d) (kept-none w d) is) where
-          turn : (is_kept_in w d (open_session state n) ≡ true) ⊎ ((n ≡ number) × (is_kept_in w d (Some (record g { rows_in = put None g.rows_in i (Some bytes) })) ≡ true)) → (is_kept_in w d (open_session state n) ≡ true) ⊎ ((n ≡ number) × (w ≡ Row i))
+          turn : (is_kept_in w d (open_session state n) ≡ true) ⊎ ((n ≡ number) × (is_kept_in w d (Some (record g { rows_in = put None g.rows_in i (Some bytes) })) ≡ true))
+              → (is_kept_in w d (open_session state n) ≡ true) ⊎ ((n ≡ number) × (w ≡ Row i))
           turn (inl was) = inl was
           turn (inr both) = deeper (after w g both.1) where
             deeper : (is_kept_in w d (Some g) ≡ true) ⊎ (w ≡ Row i) → (is_kept_in w d (open_session state n) ≡ true) ⊎ ((n ≡ number) × (w ≡ Row i))
@@ -136,11 +141,14 @@ module _ (s : Dimensions) where
       turn (inl was) = inl was
       turn (inr same) = inr (refl, same)
 
-    by : (o : Option Gathering) → open_session state number ≡ o → is_kept_in w d (open_session (block_gathered s e bytes o state) n) ≡ true → (is_kept_in w d (open_session state n) ≡ true) ⊎ ((n ≡ number) × (w ≡ Own) × (d ≡ e))
+    by : (o : Option Gathering) → open_session state number ≡ o → is_kept_in w d (open_session (block_gathered s e bytes o state) n) ≡ true
+        → (is_kept_in w d (open_session state n) ≡ true) ⊎ ((n ≡ number) × (w ≡ Own) × (d ≡ e))
     by None opens is = inl is
-    by (Some g) opens is = turn (gathered-opens (is_complete s (record g { blocks_in = put None g.blocks_in e (Some bytes) })) (record g { blocks_in = put None g.blocks_in e (Some bytes) }) g state n number opens
+    by (Some g) opens is =
+        turn (gathered-opens (is_complete s (record g { blocks_in = put None g.blocks_in e (Some bytes) })) (record g { blocks_in = put None g.blocks_in e (Some bytes) }) g state n number opens
         (number-is g number (found-passes (λ x. x.number == number) state.sessions g opens)) (is_kept_in w d) (kept-none w d) is) where
-          turn : (is_kept_in w d (open_session state n) ≡ true) ⊎ ((n ≡ number) × (is_kept_in w d (Some (record g { blocks_in = put None g.blocks_in e (Some bytes) })) ≡ true)) → (is_kept_in w d (open_session state n) ≡ true) ⊎ ((n ≡ number) × (w ≡ Own) × (d ≡ e))
+          turn : (is_kept_in w d (open_session state n) ≡ true) ⊎ ((n ≡ number) × (is_kept_in w d (Some (record g { blocks_in = put None g.blocks_in e (Some bytes) })) ≡ true))
+              → (is_kept_in w d (open_session state n) ≡ true) ⊎ ((n ≡ number) × (w ≡ Own) × (d ≡ e))
           turn (inl was) = inl was
           turn (inr both) = deeper (after w g both.1) where
             deeper : (is_kept_in w d (Some g) ≡ true) ⊎ ((w ≡ Own) × (d ≡ e)) → (is_kept_in w d (open_session state n) ≡ true) ⊎ ((n ≡ number) × (w ≡ Own) × (d ≡ e))

@@ -67,7 +67,8 @@ module _ (s : Dimensions) (l n : ℕ) where
   read-none : (d block : ℕ) (rows : List ℕ) (x : ProcessId) (session : Session) → OfSession l n session → IsNone d x (DataNode d) (tells.ReadBlock session block rows) → ⊥
   read-none d block rows x session of_it none = none Own (and-join _ _ (named-so d Own session of_it) (same-refl (DataNode d)))
 
-  mark-none : (r block d i number : ℕ) (x : ProcessId) (session : Session) → OfSession l n session → IsNone d x (ParityNode i) (tells.Mark session (record { 0 = r }) block (record { 0 = d }) number) → ⊥
+  mark-none : (r block d i number : ℕ) (x : ProcessId) (session : Session) → OfSession l n session
+      → IsNone d x (ParityNode i) (tells.Mark session (record { 0 = r }) block (record { 0 = d }) number) → ⊥
   mark-none r block d i number x session of_it none = none (Row i) (and-join _ _ (named-so d (Row i) session of_it) (and-join _ _ (eq-eqb d d refl) (same-refl (ParityNode i))))
 
   block-none : (d number : ℕ) (bytes : List ℕ) (q : ProcessId) (session : Session) → OfSession l n session → IsNone d (DataNode d) q (tells.Block session bytes number) → ⊥
@@ -79,17 +80,20 @@ module _ (s : Dimensions) (l n : ℕ) where
   -- a plan with another number of a partition
   module _ (settled : ℕ → List Update) (d : ℕ) (plan other : Plan) (block : other.block ≡ plan.block) (rows : other.rows ≡ plan.rows) (same : (e : ℕ) → e ≢ d → other.numbers e ≡ plan.numbers e) where
     value-other : (e : ℕ) (bytes : List ℕ) → e ≢ d → IsBlock s plan.block (value (planned settled plan e)) bytes → IsBlock s other.block (value (planned settled other e)) bytes
-    value-other e bytes apart is = subst (λ (b : ℕ). IsBlock s b (value (planned settled other e)) bytes) (sym block) (subst (λ (k : ℕ). IsBlock s plan.block (value (take k (settled e))) bytes) (sym (same e apart)) is)
+    value-other e bytes apart is =
+        subst (λ (b : ℕ). IsBlock s b (value (planned settled other e)) bytes) (sym block) (subst (λ (k : ℕ). IsBlock s plan.block (value (take k (settled e))) bytes) (sym (same e apart)) is)
 
     message-other : (v : State) (x q : ProcessId) (m : Message) → MayStand s v x q m → IsNone d x q m → Follows s settled l n plan x q m → Follows s settled l n other x q m
     message-other v x q (tells.ReadBlock session b rs) may none follows = λ of_it. let is = follows of_it in (is.0 ∙ sym block, is.1 ∙ sym rows)
     message-other v x (DataNode e) (tells.Mark session r b c number) may none follows = elim may.2 [ ]
     message-other v x (ParityNode i) (tells.Mark session r b c number) may none follows = λ of_it. by of_it (follows of_it) (cases_eq c.0 d) where
-      by : OfSession l n session → (b ≡ plan.block) × (number ≡ plan.numbers c.0) × Contains plan.rows i → (c.0 ≡ d) ⊎ (c.0 ≢ d) → (b ≡ other.block) × (number ≡ other.numbers c.0) × Contains other.rows i
+      by : OfSession l n session → (b ≡ plan.block) × (number ≡ plan.numbers c.0) × Contains plan.rows i → (c.0 ≡ d) ⊎ (c.0 ≢ d)
+          → (b ≡ other.block) × (number ≡ other.numbers c.0) × Contains other.rows i
       by of_it is (inr apart) = (is.0 ∙ sym block, is.1 ∙ sym (same c.0 apart), subst (λ (rs : List ℕ). Contains rs i) (sym rows) is.2)
       by of_it is (inl here) = absurd (mark-none r.0 b c.0 i number x session of_it (subst (λ (e : ℕ). IsNone e x (ParityNode i) (tells.Mark session r b c number)) (sym here) none))
     message-other v (DataNode e) q (tells.Block session bytes number) may none follows = λ of_it. by of_it (follows of_it) (cases_eq e d) where
-      by : OfSession l n session → (number ≡ plan.numbers e) × IsBlock s plan.block (value (planned settled plan e)) bytes → (e ≡ d) ⊎ (e ≢ d) → (number ≡ other.numbers e) × IsBlock s other.block (value (planned settled other e)) bytes
+      by : OfSession l n session → (number ≡ plan.numbers e) × IsBlock s plan.block (value (planned settled plan e)) bytes → (e ≡ d) ⊎ (e ≢ d)
+          → (number ≡ other.numbers e) × IsBlock s other.block (value (planned settled other e)) bytes
       by of_it is (inr apart) = (is.0 ∙ sym (same e apart), value-other e bytes apart is.1)
       by of_it is (inl here) = absurd (block-none e number bytes q session of_it (subst (λ (c : ℕ). IsNone c (DataNode e) q (tells.Block session bytes number)) (sym here) none))
     message-other v (ParityNode i) q (tells.Block session bytes number) may none follows = λ of_it. tt
@@ -102,7 +106,8 @@ module _ (s : Dimensions) (l n : ℕ) where
     message-other v x q (tells.Cease upto) may none follows = tt
     message-other v x q (tells.Notice dead) may none follows = tt
 
-    process-other : (p : Process) → ((way : Way) → in_copy (token l n d way) way p ≡ true → ⊥) → ((way : Way) → in_session (token l n d way) p ≡ true → ⊥) → ProcessFollows s settled l n plan p → ProcessFollows s settled l n other p
+    process-other : (p : Process) → ((way : Way) → in_copy (token l n d way) way p ≡ true → ⊥) → ((way : Way) → in_session (token l n d way) p ≡ true → ⊥)
+        → ProcessFollows s settled l n plan p → ProcessFollows s settled l n other p
     process-other p no_copy no_session is = record { copy = copy; session = session } where
       copy : (r : ℕ) → p.name ≡ ParityNode r → IfSome (copy_in p.as_row.copies l n) (λ c. Contains other.rows r × CopyFollows s other c)
       copy r named = by (copy_in p.as_row.copies l n) refl (is.copy r named) where
@@ -125,12 +130,14 @@ module _ (s : Dimensions) (l n : ℕ) where
         unkept : (way : Way) → is_kept_in way d (open_session p.as_leader n) ≡ true → ⊥
         unkept way kept = no_session way (and-join _ _ (ap (λ (x : ProcessId). same_process x (ParityNode l)) named ∙ same-refl (ParityNode l)) kept)
 
-        turned : (g : Gathering) → open_session p.as_leader n ≡ Some g → (e : ℕ) (bytes : List ℕ) → at None g.blocks_in e ≡ Some bytes → (e < s.k) × IsBlock s plan.block (value (planned settled plan e)) bytes → (e ≡ d) ⊎ (e ≢ d)
+        turned : (g : Gathering) → open_session p.as_leader n ≡ Some g → (e : ℕ) (bytes : List ℕ) → at None g.blocks_in e ≡ Some bytes
+            → (e < s.k) × IsBlock s plan.block (value (planned settled plan e)) bytes → (e ≡ d) ⊎ (e ≢ d)
             → (e < s.k) × IsBlock s other.block (value (planned settled other e)) bytes
         turned g opens e bytes there follows (inr apart) = (follows.0, value-other e bytes apart follows.1)
         turned g opens e bytes there follows (inl here) = absurd (unkept Own (ap (is_kept_in Own d) opens ∙ ap (λ (k : ℕ). is_some (at None g.blocks_in k)) (sym here) ∙ ap is_some there))
 
-        by : (o : Option Gathering) → open_session p.as_leader n ≡ o → IfSome o (λ g. (n ≤ p.as_leader.last_session) × GatheringFollows s settled plan g) → IfSome o (λ g. (n ≤ p.as_leader.last_session) × GatheringFollows s settled other g)
+        by : (o : Option Gathering) → open_session p.as_leader n ≡ o → IfSome o (λ g. (n ≤ p.as_leader.last_session) × GatheringFollows s settled plan g)
+            → IfSome o (λ g. (n ≤ p.as_leader.last_session) × GatheringFollows s settled other g)
         by None opens follows = tt
         by (Some g) opens follows = (
           follows.0,
@@ -198,7 +205,8 @@ module _ (s : Dimensions) (v u : State) (l n : ℕ) (lin : l < s.m) (some : 0 < 
   message-any x (DataNode e) (tells.ReadBlock session block rows) xin qin allowed nowhere = λ of_it. absurd (read-none s l n e block rows x session of_it (nowhere e qin))
   message-any x (ParityNode i) (tells.ReadBlock session block rows) xin qin allowed nowhere = elim allowed.2 [ ]
   message-any x (DataNode e) (tells.Mark session r block d number) xin qin allowed nowhere = elim allowed.2 [ ]
-  message-any x (ParityNode i) (tells.Mark session r block d number) xin qin allowed nowhere = λ of_it. absurd (mark-none s l n r.0 block d.0 i number x session of_it (nowhere d.0 allowed.0.1.partition))
+  message-any x (ParityNode i) (tells.Mark session r block d number) xin qin allowed nowhere =
+      λ of_it. absurd (mark-none s l n r.0 block d.0 i number x session of_it (nowhere d.0 allowed.0.1.partition))
   message-any (DataNode e) q (tells.Block session bytes number) xin qin allowed nowhere = λ of_it. absurd (block-none s l n e number bytes q session of_it (nowhere e xin))
   message-any (ParityNode i) q (tells.Block session bytes number) xin qin allowed nowhere = λ of_it. tt
   message-any (DataNode e) q (tells.Row session bytes stamp) xin qin allowed nowhere = λ of_it. tt
@@ -229,7 +237,8 @@ module _ (s : Dimensions) (v u : State) (l n : ℕ) (lin : l < s.m) (some : 0 < 
       last : (u.process p).as_leader.last_session ≡ (u.process (ParityNode l)).as_leader.last_session
       last = ap (λ (x : ProcessId). (u.process x).as_leader.last_session) (sym (named p pin) ∙ is_named)
 
-      by : (o : Option Gathering) → IfSome o (λ g. (n ≤ (u.process p).as_leader.last_session) × GatheringFollows s u.settled plan g) → IfSome o (λ g. (n ≤ (u.process p).as_leader.last_session) × GatheringFollows s u.settled other g)
+      by : (o : Option Gathering) → IfSome o (λ g. (n ≤ (u.process p).as_leader.last_session) × GatheringFollows s u.settled plan g)
+          → IfSome o (λ g. (n ≤ (u.process p).as_leader.last_session) × GatheringFollows s u.settled other g)
       by None follows = tt
       by (Some g) follows = let low = follows.0 in absurd (omega (arith, low, last, unopened))
 

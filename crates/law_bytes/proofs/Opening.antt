@@ -40,7 +40,8 @@ opening_plan s block p = record { block = block; rows = rows_of s p; numbers = �
 first-passes : (f : ℕ → Bool) (i a c : ℕ) → a ≤ i → i < a + c → ((j : ℕ) → a ≤ j → j < i → f j ≡ false) → f i ≡ true → (xs : List ℕ) × (filter f (range_with_len a c) ≡ i ∷ xs)
 first-passes f i a zero low high none passes = absurd (omega (arith, low, high))
 first-passes f i a (suc c) low high none passes = by (cases_eq a i) (λ next. first-passes f i (a + 1) c next (omega (arith, high)) (λ j lower below. none j (omega (arith, lower)) below) passes) where
-  by : (a ≡ i) ⊎ (a ≢ i) → (a + 1 ≤ i → (xs : List ℕ) × (filter f (range_with_len (a + 1) c) ≡ i ∷ xs)) → (xs : List ℕ) × (cond (f a) (a ∷ filter f (range_with_len (a + 1) c)) (filter f (range_with_len (a + 1) c)) ≡ i ∷ xs)
+  by : (a ≡ i) ⊎ (a ≢ i) → (a + 1 ≤ i → (xs : List ℕ) × (filter f (range_with_len (a + 1) c) ≡ i ∷ xs))
+      → (xs : List ℕ) × (cond (f a) (a ∷ filter f (range_with_len (a + 1) c)) (filter f (range_with_len (a + 1) c)) ≡ i ∷ xs)
   by (inl same) later = (
     filter f (range_with_len (a + 1) c),
     ap (λ (b : Bool). cond b (a ∷ filter f (range_with_len (a + 1) c)) (filter f (range_with_len (a + 1) c))) (ap f same ∙ passes) ∙ ap (λ (j : ℕ). j ∷ filter f (range_with_len (a + 1) c)) same,
@@ -65,7 +66,8 @@ leads-rows s p i inside lower living e lost = among-contains (rows_of s p) i (by
 
 -- the other partitions of a session stay unmarked where one is marked
 module _ (s : Dimensions) (leader number d k : ℕ) (xs : List ℕ) (others : Each (λ x. x ≢ d) xs) where
-  open-kept : (whole : Bool) (c first : Copy) (q : Process) → copy_in q.as_row.copies c.leader c.number ≡ Some first → IsOpen xs c → OpenIn c.leader c.number xs (copy_kept whole s c q).process.as_row.copies
+  open-kept : (whole : Bool) (c first : Copy) (q : Process) → copy_in q.as_row.copies c.leader c.number ≡ Some first → IsOpen xs c
+      → OpenIn c.leader c.number xs (copy_kept whole s c q).process.as_row.copies
   open-kept true c first q is free =
       let ended : Process = with_copies (without_copy c.leader c.number q.as_row.copies) q in
       subst (OpenIn c.leader c.number xs) (sym (finished-same s (same_process q.name (ParityNode c.leader)) c ended).2)
@@ -74,7 +76,8 @@ module _ (s : Dimensions) (leader number d k : ℕ) (xs : List ℕ) (others : Ea
       let own : is_copy c.leader c.number c ≡ true = and-join (c.leader == c.leader) (c.number == c.number) (eq-eqb c.leader c.leader refl) (eq-eqb c.number c.number refl) in
       subst (λ (o : Option Copy). IfSome o (IsOpen xs)) (sym (found-exchanged (is_copy c.leader c.number) c first q.as_row.copies own is)) free
 
-  open-marked : (q : Process) (o : Option Copy) → copy_in q.as_row.copies leader number ≡ o → OpenIn leader number (d ∷ xs) q.as_row.copies → OpenIn leader number xs (copy_marked s d k o q).process.as_row.copies
+  open-marked : (q : Process) (o : Option Copy) → copy_in q.as_row.copies leader number ≡ o → OpenIn leader number (d ∷ xs) q.as_row.copies
+      → OpenIn leader number xs (copy_marked s d k o q).process.as_row.copies
   open-marked q None is free = subst (λ (o : Option Copy). IfSome o (IsOpen xs)) (sym is) tt
   open-marked q (Some c) is free =
       let parts = copy-parts leader number c (found-passes (is_copy leader number) q.as_row.copies c is) in

@@ -59,14 +59,17 @@ module _ (s : Dimensions) where
     heads = refl;
     blocks = λ d b bytes is. by d b bytes is (cases_eq d e);
   } where
-    by : (d b : ℕ) (bytes : List ℕ) → rebuilt_block p.as_leader d b ≡ Some bytes → (d ≡ e) ⊎ (d ≢ e) → at None (at [] (put [] p.as_leader.rebuilt e (rebuilt_after s e (up_to k (replica_of p e)) 0 (at [] p.as_leader.rebuilt e))) d) b ≡ Some bytes
+    by : (d b : ℕ) (bytes : List ℕ) → rebuilt_block p.as_leader d b ≡ Some bytes → (d ≡ e) ⊎ (d ≢ e)
+        → at None (at [] (put [] p.as_leader.rebuilt e (rebuilt_after s e (up_to k (replica_of p e)) 0 (at [] p.as_leader.rebuilt e))) d) b ≡ Some bytes
     by d b bytes is (inl same) =
         ap (λ (j : ℕ). at None (at [] (put [] p.as_leader.rebuilt e (rebuilt_after s e (up_to k (replica_of p e)) 0 (at [] p.as_leader.rebuilt e))) j) b) same
         ∙ ap (λ (bs : List (Option (List ℕ))). at None bs b) (at-put [] [] p.as_leader.rebuilt e (rebuilt_after s e (up_to k (replica_of p e)) 0 (at [] p.as_leader.rebuilt e)))
         ∙ at-rebuilt s e (up_to k (replica_of p e)) 0 (at [] p.as_leader.rebuilt e) b
         ∙ ap (option_map (block_after s (DataNode e) e (0 + b) (up_to k (replica_of p e)))) (ap (λ (j : ℕ). rebuilt_block p.as_leader j b) (sym same) ∙ is)
         ∙ ap (λ (us : List Update). Some (block_after s (DataNode e) e (0 + b) us bytes)) none
-    by d b bytes is (inr other) = ap (λ (bs : List (Option (List ℕ))). at None bs b) (at-put-other [] p.as_leader.rebuilt e d (rebuilt_after s e (up_to k (replica_of p e)) 0 (at [] p.as_leader.rebuilt e)) other) ∙ is
+    by d b bytes is (inr other) =
+        ap (λ (bs : List (Option (List ℕ))). at None bs b) (at-put-other [] p.as_leader.rebuilt e d (rebuilt_after s e (up_to k (replica_of p e)) 0 (at [] p.as_leader.rebuilt e)) other)
+        ∙ is
 
   later-row : (number i : ℕ) (bytes : List ℕ) (p : Process) → Later p (row_comes s number i bytes p)
   later-row number i bytes p = record {
@@ -81,7 +84,8 @@ module _ (s : Dimensions) where
 
   none-applied : (leader number block e : ℕ) (p : Process) → up_to (replica_of p e).applied (replica_of (begin_copy s leader number block p) e) ≡ []
   none-applied leader number block e p =
-      ap (λ (rs : List Replica). up_to (replica_of p e).applied (at empty_replica rs e)) (begun-replicas (is_some (copy_in p.as_row.copies leader number)) leader number block p) ∙ up_to-applied (replica_of p e)
+      ap (λ (rs : List Replica). up_to (replica_of p e).applied (at empty_replica rs e)) (begun-replicas (is_some (copy_in p.as_row.copies leader number)) leader number block p)
+      ∙ up_to-applied (replica_of p e)
 
   later-own : (leader number block e : ℕ) (p : Process) → Later p (own_mark s leader number block e p).process
   later-own leader number block e p = by (accepts_mark p leader number (at 0 p.ranks e) e) where
@@ -162,7 +166,8 @@ module _ (s : Dimensions) where
 
   later-owns : (leader number block : ℕ) (xs : List ℕ) (p : Process) → Later p (for_each xs (own_mark s leader number block) p).process
   later-owns leader number block [] p = later-self p
-  later-owns leader number block (x ∷ xs) p = later-then p (own_mark s leader number block x p).process (for_each xs (own_mark s leader number block) (own_mark s leader number block x p).process).process (later-own leader number block x p)
+  later-owns leader number block (x ∷ xs) p =
+      later-then p (own_mark s leader number block x p).process (for_each xs (own_mark s leader number block) (own_mark s leader number block x p).process).process (later-own leader number block x p)
       (later-owns leader number block xs (own_mark s leader number block x p).process)
 
   -- a leader's marks in its own row
@@ -187,17 +192,20 @@ module _ (s : Dimensions) where
       fit-own : i ≡ i → n ≡ n → (block ≡ plan.block) × ((replica_of z d).applied ≡ plan.numbers d) × AmongRows plan.rows z.name
       fit-own leads numbers = (fits.0, ap (λ (r : Replica). r.applied) same ∙ fits.1, subst (AmongRows plan.rows) (sym name) fits.2)
 
-      own-given : ProcessFollows s settled i n plan z → LostFollows i n plan z → IfSome (open_session z.as_leader n) (SoundFor s known) → (e b : ℕ) (bytes : List ℕ) → rebuilt_block z.as_leader e b ≡ None
+      own-given : ProcessFollows s settled i n plan z → LostFollows i n plan z → IfSome (open_session z.as_leader n) (SoundFor s known)
+          → (e b : ℕ) (bytes : List ℕ) → rebuilt_block z.as_leader e b ≡ None
           → rebuilt_block (own_mark s i n block d z).process.as_leader e b ≡ Some bytes → GivenAt s settled known (own_mark s i n block d z).process e b bytes
       own-given is lost sound = by (accepts_mark z i n (at 0 z.ranks d) d) where
-        by : (a : Bool) → (e b : ℕ) (bytes : List ℕ) → rebuilt_block z.as_leader e b ≡ None → rebuilt_block (when a z (mark_taken s i n block d (replica_of z d).applied z)).process.as_leader e b ≡ Some bytes
+        by : (a : Bool) → (e b : ℕ) (bytes : List ℕ) → rebuilt_block z.as_leader e b ≡ None
+            → rebuilt_block (when a z (mark_taken s i n block d (replica_of z d).applied z)).process.as_leader e b ≡ Some bytes
             → GivenAt s settled known (when a z (mark_taken s i n block d (replica_of z d).applied z)).process e b bytes
         by false = λ e b bytes before after. absurd (cc (before, after))
         by true = taken-given s shaped settled write i n plan known z name is lost sound i block d (replica_of z d).applied below fit-own
             (λ leads numbers c first. mark-holds s settled write old z i n block d (replica_of z d).applied concerns-own below (subst (GoesOn (settled d)) (sym same) (goes d below)) new-own last-own holding c first)
 
     pub owns-given : (xs : List ℕ) (z : Process) → z.name ≡ ParityNode i → Each (λ d. d < s.k) xs → Differ xs → OpenIn i n xs z.as_row.copies → Each (λ d. replica_of z d ≡ replica_of p d) xs
-        → Each (λ d. (block ≡ plan.block) × ((replica_of p d).applied ≡ plan.numbers d) × Contains plan.rows i) xs → Holding s settled old z → ProcessFollows s settled i n plan z → LostFollows i n plan z
+        → Each (λ d. (block ≡ plan.block) × ((replica_of p d).applied ≡ plan.numbers d) × Contains plan.rows i) xs → Holding s settled old z
+        → ProcessFollows s settled i n plan z → LostFollows i n plan z
         → IfSome (open_session z.as_leader n) (SoundFor s known) → (e b : ℕ) (bytes : List ℕ) → rebuilt_block z.as_leader e b ≡ None
         → rebuilt_block (for_each xs (own_mark s i n block) z).process.as_leader e b ≡ Some bytes → GivenAt s settled known (for_each xs (own_mark s i n block) z).process e b bytes
     owns-given [] z name below differ unmarked same fits holding is lost sound e b bytes before after = absurd (cc (before, after))

@@ -70,7 +70,9 @@ module _ (s : Dimensions) (settled : ℕ → List Update) (l n : ℕ) (plan : Pl
     numbers d b below = number d (at None c.marks d) b below refl (all-among (λ e. is_some (at None c.marks e)) (range_with_len 0 s.k) d whole (among-range d 0 s.k (omega arith) (omega (arith, below))))
 
     stamp : (d : ℕ) → d < s.k → at 0 (stamp_of s c) d ≡ plan.numbers d
-    stamp d below = at-map-range 0 (λ e. unwrap_or (at None c.marks e) 0) s.k 0 d below ∙ (let same : 0 + d ≡ d = omega arith in ap (λ (e : ℕ). unwrap_or (at None c.marks e) 0) same) ∙ numbers d 0 below
+    stamp d below =
+        at-map-range 0 (λ e. unwrap_or (at None c.marks e) 0) s.k 0 d below
+        ∙ (let same : 0 + d ≡ d = omega arith in ap (λ (e : ℕ). unwrap_or (at None c.marks e) 0) same) ∙ numbers d 0 below
 
     exact : IsBlock s plan.block (code s i (planned settled plan)) c.bytes
     exact = subst (λ (b : ℕ). IsBlock s b (code s i (planned settled plan)) c.bytes) follows.1.block
@@ -226,7 +228,8 @@ module _ (s : Dimensions) (settled : ℕ → List Update) (l n : ℕ) (plan : Pl
       session : q.name ≡ ParityNode l → IfSome (open_session q.as_leader n) (λ g. (n ≤ q.as_leader.last_session) × GatheringFollows s settled plan g)
       session named = session_q (is_some (copy_in p.as_row.copies leader number)) (is.session (sym name_q ∙ named))
 
-      found : (o : Option Copy) → copy_in q.as_row.copies leader number ≡ o → ProcessFollows s settled l n plan (copy_marked s d k o q).process × Sends s settled l n plan q.name (copy_marked s d k o q).sent
+      found : (o : Option Copy) → copy_in q.as_row.copies leader number ≡ o
+          → ProcessFollows s settled l n plan (copy_marked s d k o q).process × Sends s settled l n plan q.name (copy_marked s d k o q).sent
       found None there = (record { copy = λ r named. by r named (session-cases t leader number); session = session }, tt) where
         by : (r : ℕ) → q.name ≡ ParityNode r → ((leader ≡ l) × (number ≡ n)) ⊎ (same_session t leader number ≡ false) → IfSome (copy_in q.as_row.copies l n) (CopyAt r)
         by r named (inl same) = subst (λ o. IfSome o (CopyAt r)) (sym (ap₂ (λ (x y : ℕ). copy_in q.as_row.copies x y) (sym same.0) (sym same.1) ∙ there)) tt
@@ -242,4 +245,6 @@ module _ (s : Dimensions) (settled : ℕ → List Update) (l n : ℕ) (plan : Pl
         mine leaders numbers r named = mine_there c there (sym parts.0 ∙ leaders) (sym parts.1 ∙ numbers) r named
 
       pub taken-follows : ProcessFollows s settled l n plan (mark_taken s leader number block d k p).process × Sends s settled l n plan p.name (mark_taken s leader number block d k p).sent
-      taken-follows = let all = found (copy_in q.as_row.copies leader number) refl in (all.0, subst (λ (x : ProcessId). Sends s settled l n plan x (copy_marked s d k (copy_in q.as_row.copies leader number) q).sent) name_q all.1)
+      taken-follows =
+          let all = found (copy_in q.as_row.copies leader number) refl in
+          (all.0, subst (λ (x : ProcessId). Sends s settled l n plan x (copy_marked s d k (copy_in q.as_row.copies leader number) q).sent) name_q all.1)

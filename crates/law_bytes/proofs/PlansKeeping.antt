@@ -135,7 +135,8 @@ module _ (s : Dimensions) where
     name : (v.process p).name ≡ p
     name = backed.members.named p pin
 
-    passed : (l n : ℕ) (plan : Plan) → SessionFollows s (settling w.settled v) l n plan → Passes s w.settled l n plan (v.process p) step → LostFollows l n plan step.process → SessionFollows s w l n plan
+    passed : (l n : ℕ) (plan : Plan) → SessionFollows s (settling w.settled v) l n plan → Passes s w.settled l n plan (v.process p) step
+        → LostFollows l n plan step.process → SessionFollows s w l n plan
     passed l n plan is passes lost =
         let all = passes.follows (is.processes p pin lives) in
         acted-follows l n plan v w p step pin lives after acts is all.0 (subst (λ (x : ProcessId). Sends s w.settled l n plan x step.sent) name all.1) lost
@@ -188,7 +189,8 @@ module _ (s : Dimensions) where
 
         lost-begins : (block : ℕ) → step.process.name ≡ (v.process p).name → LostFollows l n (opening_plan s block (v.process p)) step.process
         lost-begins block same = turn (bears-treats s n (v.process p) (unopened-here leads) step treats) where
-          turn : Bears s n (v.process p) step.process ⊎ ((suc (v.process p).as_leader.last_session ≡ n) × BearsNew s n (v.process p) step.process) → LostFollows l n (opening_plan s block (v.process p)) step.process
+          turn : Bears s n (v.process p) step.process ⊎ ((suc (v.process p).as_leader.last_session ≡ n) × BearsNew s n (v.process p) step.process)
+              → LostFollows l n (opening_plan s block (v.process p)) step.process
           turn (inl bears) = lost-borne s l n (opening_plan s block (v.process p)) (v.process p) step.process same bears ((fresh block).lost p pin lives)
           turn (inr new) = lost-new s l n (opening_plan s block (v.process p)) (v.process p) step.process (λ e. refl) new.1
 
@@ -198,7 +200,8 @@ module _ (s : Dimensions) where
 
       treated : (plan : Plan) × SessionFollows s w l n plan
       treated = by (same-cases (v.process p).name (ParityNode l)) (cases_eq (suc (v.process p).as_leader.last_session) n) where
-        by : ((v.process p).name ≡ ParityNode l) ⊎ ((v.process p).name ≢ ParityNode l) → (suc (v.process p).as_leader.last_session ≡ n) ⊎ (suc (v.process p).as_leader.last_session ≢ n) → (plan : Plan) × SessionFollows s w l n plan
+        by : ((v.process p).name ≡ ParityNode l) ⊎ ((v.process p).name ≢ ParityNode l)
+            → (suc (v.process p).as_leader.last_session ≡ n) ⊎ (suc (v.process p).as_leader.last_session ≢ n) → (plan : Plan) × SessionFollows s w l n plan
         by (inl leads) (inl number) = begins leads number (claims (opening_plan s 0 (v.process p)))
         by (inl leads) (inr other) = goes-on (λ leads number. other number) (claims plan)
         by (inr other) _ = goes-on (λ leads number. other leads) (claims plan)
@@ -221,7 +224,8 @@ module _ (s : Dimensions) where
     led : IsLed m
     led = (subst (Each IsLed) pops.first (backed.led x p xin pin apart lives)).0
 
-    passed-coming : (l n : ℕ) (plan : Plan) → SessionFollows s (settling w.settled u) l n plan → Follows s w.settled l n plan x p m → ReadsAt s w.settled l n plan m (v.process p) → SessionFollows s w l n plan
+    passed-coming : (l n : ℕ) (plan : Plan) → SessionFollows s (settling w.settled u) l n plan → Follows s w.settled l n plan x p m
+        → ReadsAt s w.settled l n plan m (v.process p) → SessionFollows s w l n plan
     passed-coming l n plan is follows reads =
         let passes : Passes s w.settled l n plan (v.process p) (receive s x m (v.process p)) = receive-passes s w.settled l n plan right.write (rebuilt_at (v.process p)) v x p m (v.process p) name-coming xin may led reads follows
         (holding-from s w.settled (v.process p) here-coming) new right.applies in
@@ -280,7 +284,8 @@ module _ (s : Dimensions) where
             let less = popped-tokens s (token l n d way) v u x p m xin pin apart lives pops in
             let few = backed.tokens (token l n d way) below_d lin in
             let high = bit-high (nat_lt n (suc (v.process (ParityNode l)).as_leader.last_session)) in
-            let is_it : is_token (token l n d way) x p m ≡ true = ap (is_token (token l n d way) x p) asks ∙ and-join _ _ (named-so s l n d way session of_it) (ap (λ (y : ProcessId). same_process y (DataNode d)) data_here ∙ same-refl (DataNode d)) in
+            let is_it : is_token (token l n d way) x p m ≡ true = ap (is_token (token l n d way) x p) asks
+            ∙ and-join _ _ (named-so s l n d way session of_it) (ap (λ (y : ProcessId). same_process y (DataNode d)) data_here ∙ same-refl (DataNode d)) in
             let one : one_if (is_token (token l n d way) x p m) ≡ 1 = ap one_if is_it in
             omega (arith, less, few, high, one)
 

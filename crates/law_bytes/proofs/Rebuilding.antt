@@ -34,7 +34,8 @@ module _ (s : Dimensions) (g : Gathering) where
         let is : Some bytes ≡ Some (decoded_of s g l) = sym after ∙ here same ∙ ap (at None blocks) there ∙ at-put None None (at [] state.rebuilt l) g.block (Some (decoded_of s g l)) in
         (there, same, cc is)
 
-  decoded-new : (ls : List ℕ) (state : LeaderState) (d b : ℕ) (bytes : List ℕ) → rebuilt_block state d b ≡ None → rebuilt_block (with_decoded s g ls state) d b ≡ Some bytes → IsDecoded s g ls d b bytes
+  decoded-new : (ls : List ℕ) (state : LeaderState) (d b : ℕ) (bytes : List ℕ) → rebuilt_block state d b ≡ None
+      → rebuilt_block (with_decoded s g ls state) d b ≡ Some bytes → IsDecoded s g ls d b bytes
   decoded-new [] state d b bytes before after = absurd (cc (before, after))
   decoded-new (l ∷ ls) state d b bytes before after = by (rebuilt_block next d b) refl (λ none. decoded-new ls next d b bytes none after) where
     next : LeaderState
@@ -49,7 +50,8 @@ module _ (s : Dimensions) (g : Gathering) where
         record { block = new.0; lost = inl new.1; is = same ∙ new.2 ∙ ap (decoded_of s g) (sym new.1) }
 
   -- only a complete session gives blocks
-  gathered-new : (complete : Bool) (state : LeaderState) (d b : ℕ) (bytes : List ℕ) → rebuilt_block state d b ≡ None → rebuilt_block (gathered_when complete s g state) d b ≡ Some bytes → (complete ≡ true) × IsDecoded s g g.lost d b bytes
+  gathered-new : (complete : Bool) (state : LeaderState) (d b : ℕ) (bytes : List ℕ) → rebuilt_block state d b ≡ None
+      → rebuilt_block (gathered_when complete s g state) d b ≡ Some bytes → (complete ≡ true) × IsDecoded s g g.lost d b bytes
   gathered-new true state d b bytes before after = (refl, decoded-new g.lost (record state { sessions = without_session g.number state.sessions }) d b bytes before after)
   gathered-new false state d b bytes before after = absurd (cc (before, after))
 
@@ -72,11 +74,15 @@ pub row-gives : (s : Dimensions) (state : LeaderState) (number i : ℕ) (row : L
 row-gives s state number i row d b bytes before after = by (open_session state number) refl after where
   by : (o : Option Gathering) → open_session state number ≡ o → rebuilt_block (row_gathered s i row o state) d b ≡ Some bytes → GivesBlock s state number d b bytes (with_row i row)
   by None is now = absurd (cc (before, now))
-  by (Some g) is now = let gives = gathered-new s (with_row i row g) (is_complete s (with_row i row g)) state d b bytes before now in record { session = g; opens = is; complete = gives.0; decoded = gives.1 }
+  by (Some g) is now =
+      let gives = gathered-new s (with_row i row g) (is_complete s (with_row i row g)) state d b bytes before now in
+      record { session = g; opens = is; complete = gives.0; decoded = gives.1 }
 
 pub block-gives : (s : Dimensions) (state : LeaderState) (number e : ℕ) (block : List ℕ) (d b : ℕ) (bytes : List ℕ) → rebuilt_block state d b ≡ None
     → rebuilt_block (block_gathered s e block (open_session state number) state) d b ≡ Some bytes → GivesBlock s state number d b bytes (with_block e block)
 block-gives s state number e block d b bytes before after = by (open_session state number) refl after where
   by : (o : Option Gathering) → open_session state number ≡ o → rebuilt_block (block_gathered s e block o state) d b ≡ Some bytes → GivesBlock s state number d b bytes (with_block e block)
   by None is now = absurd (cc (before, now))
-  by (Some g) is now = let gives = gathered-new s (with_block e block g) (is_complete s (with_block e block g)) state d b bytes before now in record { session = g; opens = is; complete = gives.0; decoded = gives.1 }
+  by (Some g) is now =
+      let gives = gathered-new s (with_block e block g) (is_complete s (with_block e block g)) state d b bytes before now in
+      record { session = g; opens = is; complete = gives.0; decoded = gives.1 }

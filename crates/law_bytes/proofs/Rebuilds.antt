@@ -69,13 +69,15 @@ sound-for s known many g is = record {
 
 -- of the open session, from each
 pub open-sound : (s : Dimensions) (known : Membership) (n : ℕ) (sessions : List Gathering) → Each (SoundFor s known) sessions → IfSome (find (λ g. g.number == n) sessions) (SoundFor s known)
-open-sound s known n sessions all = found-if (λ g. g.number == n) (SoundFor s known) sessions (each-weaker (SoundFor s known) (λ g. (g.number == n) ≡ true → SoundFor s known g) (λ g sound passes. sound) sessions all)
+open-sound s known n sessions all =
+    found-if (λ g. g.number == n) (SoundFor s known) sessions (each-weaker (SoundFor s known) (λ g. (g.number == n) ≡ true → SoundFor s known g) (λ g sound passes. sound) sessions all)
 
 module _ (s : Dimensions) (shaped : IsShape s) (settled : ℕ → List Update) (write : SettledWrite s settled) where
   -- a message
   module _ (old : ℕ → ℕ → Bool) (v : State) (x y : ProcessId) (p : Process) (name : p.name ≡ y) (xin : IsProcess s x) (living : knows_dead p.known x ≡ false) (sound : Each (SoundFor s p.known) p.as_leader.sessions) (holding : Holding s settled old p) where
     receive-given : (m : Message) → MayStand s v x y m → IsLed m → MarksNew m p → AppliesSettled s settled p (receive s x m p)
-        → ((l n : ℕ) → y ≡ ParityNode l → (plan : Plan) × ProcessFollows s settled l n plan p × LostFollows l n plan p × Follows s settled l n plan x y m) → RebuildsGiven s settled p (receive s x m p).process
+        → ((l n : ℕ) → y ≡ ParityNode l → (plan : Plan) × ProcessFollows s settled l n plan p × LostFollows l n plan p × Follows s settled l n plan x y m)
+        → RebuildsGiven s settled p (receive s x m p).process
     receive-given (tells.Update r d u stable) may led new applies stand = none-given s settled p _ (none-when s (nat_le (at 0 p.ranks d.0) r.0) p _ (none-apply s d.0 stable p))
     receive-given (tells.Ack r d k) may led new applies stand = acked x where
       acked : (z : ProcessId) → RebuildsGiven s settled p (receive s z (tells.Ack r d k) p).process
@@ -88,7 +90,8 @@ module _ (s : Dimensions) (shaped : IsShape s) (settled : ℕ → List Update) (
       by (DataNode e) = none-given s settled p p (none-self s p)
       by (ParityNode i) = none-given s settled p p (none-self s p)
     receive-given (tells.Block session bytes k) may led new applies stand = by x xin living (λ l n is. stand l n is) where
-      by : (z : ProcessId) → IsProcess s z → knows_dead p.known z ≡ false → ((l n : ℕ) → y ≡ ParityNode l → (plan : Plan) × ProcessFollows s settled l n plan p × LostFollows l n plan p × Follows s settled l n plan z y (tells.Block session bytes k))
+      by : (z : ProcessId) → IsProcess s z → knows_dead p.known z ≡ false
+          → ((l n : ℕ) → y ≡ ParityNode l → (plan : Plan) × ProcessFollows s settled l n plan p × LostFollows l n plan p × Follows s settled l n plan z y (tells.Block session bytes k))
           → RebuildsGiven s settled p (receive s z (tells.Block session bytes k) p).process
       by (DataNode e) inside lives stands = λ d b more below before after.
           let leader = parity-of session.leader led in
@@ -98,7 +101,8 @@ module _ (s : Dimensions) (shaped : IsShape s) (settled : ℕ → List Update) (
           e bytes inside lives (all.3 (leader.1, refl)).1 d b more before after
       by (ParityNode i) inside lives stands = none-given s settled p p (none-self s p)
     receive-given (tells.Row session bytes stamp) may led new applies stand = by x (λ l n is. stand l n is) where
-      by : (z : ProcessId) → ((l n : ℕ) → y ≡ ParityNode l → (plan : Plan) × ProcessFollows s settled l n plan p × LostFollows l n plan p × Follows s settled l n plan z y (tells.Row session bytes stamp))
+      by : (z : ProcessId)
+          → ((l n : ℕ) → y ≡ ParityNode l → (plan : Plan) × ProcessFollows s settled l n plan p × LostFollows l n plan p × Follows s settled l n plan z y (tells.Row session bytes stamp))
           → RebuildsGiven s settled p (receive s z (tells.Row session bytes stamp) p).process
       by (ParityNode i) stands = λ d b more below before after.
           let leader = parity-of session.leader led in
@@ -147,7 +151,8 @@ module _ (s : Dimensions) (shaped : IsShape s) (settled : ℕ → List Update) (
 
 module _ (s : Dimensions) (shaped : IsShape s) where
   pub received : (v u w : State) (x p : ProcessId) (m : Message) → IsProcess s x → IsProcess s p → x ≢ p → IsUp s v → v.dead p ≡ false → Backed s v → Members s w → MarksNew m (v.process p)
-      → StepSettles s w.settled (v.process p) (receive s x m (v.process p)) → Popped s v u x p m → Acted s u w p (receive s x m (v.process p)) → SessionsStand s v → RebuildsGiven s w.settled (v.process p) (receive s x m (v.process p)).process
+      → StepSettles s w.settled (v.process p) (receive s x m (v.process p)) → Popped s v u x p m → Acted s u w p (receive s x m (v.process p))
+      → SessionsStand s v → RebuildsGiven s w.settled (v.process p) (receive s x m (v.process p)).process
   received v u w x p m xin pin apart up lives backed after new right pops acts stands =
       receive-given s shaped w.settled right.write (rebuilt_at (v.process p)) v x p (v.process p) (backed.members.named p pin) xin
       (sender-lives x (v.dead x) (knows_dead (v.process p).known x) m (u.link x p) (subst (Stands x (v.dead x) (knows_dead (v.process p).known x)) pops.first (backed.members.stands x p xin pin apart lives)))

@@ -42,7 +42,9 @@ module _ (s : Dimensions) (settled : ℕ → List Update) (write : SettledWrite 
   log-holds d r p same holding = holding-same s settled old p (with_replica d r p) (record { stand = record { name = refl; applied = λ e. applied e (cases_eq e d) }; space = refl; rebuilt = λ e b. refl }) holding.copies holding where
     applied : (e : ℕ) → (e ≡ d) ⊎ (e ≢ d) → (at empty_replica (put empty_replica p.replicas d r) e).applied ≡ (replica_of p e).applied
     applied e (inr other) = ap (λ (x : Replica). x.applied) (at-put-other empty_replica p.replicas d e r other)
-    applied e (inl here) = ap (λ (j : ℕ). (at empty_replica (put empty_replica p.replicas d r) j).applied) here ∙ ap (λ (x : Replica). x.applied) (at-put empty_replica empty_replica p.replicas d r) ∙ same ∙ ap (λ (j : ℕ). (replica_of p j).applied) (sym here)
+    applied e (inl here) =
+        ap (λ (j : ℕ). (at empty_replica (put empty_replica p.replicas d r) j).applied) here
+        ∙ ap (λ (x : Replica). x.applied) (at-put empty_replica empty_replica p.replicas d r) ∙ same ∙ ap (λ (j : ℕ). (replica_of p j).applied) (sym here)
 
   log-applied : (d : ℕ) (r : Replica) (p : Process) → (replica_of (with_replica d r p) d).applied ≡ r.applied
   log-applied d r p = ap (λ (x : Replica). x.applied) (at-put empty_replica empty_replica p.replicas d r)
@@ -54,7 +56,8 @@ module _ (s : Dimensions) (settled : ℕ → List Update) (write : SettledWrite 
       log-holds d r (apply_to s d n p) same (apply-keeps s settled write old p d n concerns below (subst (λ (k : ℕ). k ≤ length (settled d)) (log-applied d r (apply_to s d n p) ∙ same) within) goes holding)
 
   -- an acknowledgement is put, and judged
-  acknowledged-holds : (p : Process) (i r d n : ℕ) (o : Option Head) → head_at p d ≡ o → d < s.k → Ready s settled p → ((e : ℕ) → e < s.k → (replica_of (acknowledge s i r d n o p).process e).applied ≤ length (settled e))
+  acknowledged-holds : (p : Process) (i r d n : ℕ) (o : Option Head) → head_at p d ≡ o → d < s.k → Ready s settled p
+      → ((e : ℕ) → e < s.k → (replica_of (acknowledge s i r d n o p).process e).applied ≤ length (settled e))
       → Holding s settled old p → Holding s settled old (acknowledge s i r d n o p).process
   acknowledged-holds p i r d n None heads below ready final holding = holding
   acknowledged-holds p i r d n (Some h) heads below ready final holding = by (r == h.rank) final where
@@ -109,12 +112,14 @@ module _ (s : Dimensions) (settled : ℕ → List Update) (write : SettledWrite 
   received-holds (DataNode e) (tells.Ack r d n) p to ready marks applies holding = holding
   received-holds (ParityNode i) (tells.Ack r d n) p to ready marks applies holding = acknowledged-holds p i r.0 d.0 n (head_at p d.0) refl to ready applies.within holding
   received-holds x (tells.ReadBlock session block rows) p to ready marks applies holding = subst (Holding s settled old) (sym (read-same session block rows p p.name)) holding
-  received-holds (DataNode e) (tells.Block session bytes n) p to ready marks applies holding = holding-leader s settled old p _ (stays-block s e bytes (open_session p.as_leader session.number) p.as_leader) holding
+  received-holds (DataNode e) (tells.Block session bytes n) p to ready marks applies holding =
+      holding-leader s settled old p _ (stays-block s e bytes (open_session p.as_leader session.number) p.as_leader) holding
   received-holds (ParityNode i) (tells.Block session bytes n) p to ready marks applies holding = holding
   received-holds x (tells.Mark session r block d n) p to ready marks applies holding =
       mark-received s settled old write p (parity_number session.leader) session.number r.0 block d.0 n to.0 to.1 (ready.goes d.0 to.1) marks (applies.within d.0 to.1) holding
   received-holds (DataNode e) (tells.Row session bytes stamp) p to ready marks applies holding = holding
-  received-holds (ParityNode i) (tells.Row session bytes stamp) p to ready marks applies holding = holding-leader s settled old p _ (stays-row s i bytes (open_session p.as_leader session.number) p.as_leader) holding
+  received-holds (ParityNode i) (tells.Row session bytes stamp) p to ready marks applies holding =
+      holding-leader s settled old p _ (stays-row s i bytes (open_session p.as_leader session.number) p.as_leader) holding
   received-holds (DataNode e) (tells.Cease upto) p to ready marks applies holding = holding
   received-holds (ParityNode i) (tells.Cease upto) p to ready marks applies holding =
       holding-same s settled old p (copies_ceased i upto p) (record { stand = record { name = refl; applied = λ e. refl }; space = refl; rebuilt = λ e b. refl })

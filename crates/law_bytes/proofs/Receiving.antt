@@ -41,7 +41,8 @@ use Rattle.law_bytes.proofs.PlanMarking.{taken-follows}
 -- what a copy of a process holds once it is marked at the number that is applied there
 pub mark-holds : (s : Dimensions) (settled : ℕ → List Update) (write : SettledWrite s settled) (old : ℕ → ℕ → Bool) (p : Process) (leader number block d k : ℕ) → Concerns s p.name d → d < s.k
     → GoesOn (settled d) (replica_of p d) → MarkIsNew p leader number d k → (replica_of (apply_to s d k (begin_copy s leader number block p)) d).applied ≤ length (settled d) → Holding s settled old p
-    → (c : Copy) → copy_in (apply_to s d k (begin_copy s leader number block p)).as_row.copies leader number ≡ Some c → CopyHolds s settled (apply_to s d k (begin_copy s leader number block p)) (marked d k c)
+    → (c : Copy) → copy_in (apply_to s d k (begin_copy s leader number block p)).as_row.copies leader number ≡ Some c
+    → CopyHolds s settled (apply_to s d k (begin_copy s leader number block p)) (marked d k c)
 mark-holds s settled write old p leader number block d k concerns below goes new last holding c is =
     let q : Process = apply_to s d k (begin_copy s leader number block p) in
     let there : AtMark s settled old p leader number block d k = at-mark s settled old write p leader number block d k concerns below goes new last holding in
@@ -56,33 +57,38 @@ module _ (s : Dimensions) (settled : ℕ → List Update) (l n : ℕ) (plan : Pl
   ReadsAt _ p = Unit {0}
 
   read-passes : (session : Session) (block : ℕ) (rows : List ℕ) (p : Process) (e : ℕ) → p.name ≡ DataNode e → (OfSession l n session → plan.numbers e ≡ (replica_of p e).applied)
-      → (OfSession l n session → (block ≡ plan.block) × (rows ≡ plan.rows)) → IsArea 0 (space_of s) (held s p.name (stand settled p)) p.space → Passes s settled l n plan p (read_comes s session block rows p (DataNode e))
-  read-passes session block rows p e name reads follows space = record { name = refl; follows = λ is. (is, subst (λ (x : ProcessId). Sends s settled l n plan x (read_comes s session block rows p (DataNode e)).sent) (sym name) (gives, marks)) } where
-    number : ℕ
-    number = (replica_of p e).applied
+      → (OfSession l n session → (block ≡ plan.block) × (rows ≡ plan.rows)) → IsArea 0 (space_of s) (held s p.name (stand settled p)) p.space
+      → Passes s settled l n plan p (read_comes s session block rows p (DataNode e))
+  read-passes session block rows p e name reads follows space =
+      record { name = refl; follows = λ is. (is, subst (λ (x : ProcessId). Sends s settled l n plan x (read_comes s session block rows p (DataNode e)).sent) (sym name) (gives, marks)) } where
+        number : ℕ
+        number = (replica_of p e).applied
 
-    gives : OfSession l n session → ((replica_of p e).applied ≡ plan.numbers e) × IsBlock s plan.block (value (planned settled plan e)) (block_in s block p.space)
-    gives of_it = (
-      sym (reads of_it),
-      subst (λ (b : ℕ). IsBlock s b (value (planned settled plan e)) (block_in s block p.space)) (follows of_it).0
-          (subst (λ (k : ℕ). IsBlock s block (value (take k (settled e))) (block_in s block p.space)) (sym (reads of_it))
-          (block-of-space s settled block (value (stand settled p e)) p.space (subst (λ (x : ProcessId). IsArea 0 (space_of s) (held s x (stand settled p)) p.space) name space))),
-    )
+        gives : OfSession l n session → ((replica_of p e).applied ≡ plan.numbers e) × IsBlock s plan.block (value (planned settled plan e)) (block_in s block p.space)
+        gives of_it = (
+          sym (reads of_it),
+          subst (λ (b : ℕ). IsBlock s b (value (planned settled plan e)) (block_in s block p.space)) (follows of_it).0
+              (subst (λ (k : ℕ). IsBlock s block (value (take k (settled e))) (block_in s block p.space)) (sym (reads of_it))
+              (block-of-space s settled block (value (stand settled p e)) p.space (subst (λ (x : ProcessId). IsArea 0 (space_of s) (held s x (stand settled p)) p.space) name space))),
+        )
 
-    marks : Each (λ z. Follows s settled l n plan (DataNode e) z.to z.message) (data_marks session block e (replica_of p e).applied rows)
-    marks = each-map (λ z. Follows s settled l n plan (DataNode e) z.to z.message) (λ i. record { to = ParityNode i; message = tells.Mark session (rank 0) block (partition e) (replica_of p e).applied }) rows
-        (among-each (λ i. OfSession l n session → (block ≡ plan.block) × ((replica_of p e).applied ≡ plan.numbers e) × Contains plan.rows i) rows
-        (λ i among of_it. ((follows of_it).0, sym (reads of_it), subst (λ (is : List ℕ). Contains is i) (follows of_it).1 (among-contains rows i among))))
+        marks : Each (λ z. Follows s settled l n plan (DataNode e) z.to z.message) (data_marks session block e (replica_of p e).applied rows)
+        marks = each-map (λ z. Follows s settled l n plan (DataNode e) z.to z.message) (λ i. record { to = ParityNode i; message = tells.Mark session (rank 0) block (partition e) (replica_of p e).applied }) rows
+            (among-each (λ i. OfSession l n session → (block ≡ plan.block) × ((replica_of p e).applied ≡ plan.numbers e) × Contains plan.rows i) rows
+            (λ i among of_it. ((follows of_it).0, sym (reads of_it), subst (λ (is : List ℕ). Contains is i) (follows of_it).1 (among-contains rows i among))))
 
   pub mark-passes : (write : SettledWrite s settled) (old : ℕ → ℕ → Bool) (p : Process) (leader number r block d k : ℕ) → Concerns s p.name d → d < s.k
       → (leader ≡ l → number ≡ n → (block ≡ plan.block) × (k ≡ plan.numbers d) × AmongRows plan.rows p.name)
-      → GoesOn (settled d) (replica_of p d) → (accepts_mark p leader number r d ≡ true → MarkIsNew p leader number d k) → (replica_of (mark_comes s leader number r block d k p).process d).applied ≤ length (settled d)
+      → GoesOn (settled d) (replica_of p d) → (accepts_mark p leader number r d ≡ true → MarkIsNew p leader number d k)
+      → (replica_of (mark_comes s leader number r block d k p).process d).applied ≤ length (settled d)
       → Holding s settled old p → Passes s settled l n plan p (mark_comes s leader number r block d k p)
   mark-passes write old p leader number r block d k concerns below fits goes new within holding = by (accepts_mark p leader number r d) new within where
     q : Process
     q = apply_to s d k (begin_copy s leader number block p)
 
-    by : (b : Bool) → (b ≡ true → MarkIsNew p leader number d k) → (replica_of (when b p (mark_taken s leader number block d k p)).process d).applied ≤ length (settled d) → Passes s settled l n plan p (when b p (mark_taken s leader number block d k p))
+    by : (b : Bool) → (b ≡ true → MarkIsNew p leader number d k)
+        → (replica_of (when b p (mark_taken s leader number block d k p)).process d).applied ≤ length (settled d)
+        → Passes s settled l n plan p (when b p (mark_taken s leader number block d k p))
     by false _ _ = passes-self s settled l n plan p
     by true is_new final =
         let there : AtMark s settled old p leader number block d k = at-mark s settled old write p leader number block d k concerns below goes (is_new refl) last holding in
@@ -95,9 +101,11 @@ module _ (s : Dimensions) (settled : ℕ → List Update) (l n : ℕ) (plan : Pl
         last = subst (λ (rs : List Replica). (at empty_replica rs d).applied ≤ length (settled d))
             (marked-same s d k (copy_in (apply_to s d k (begin_copy s leader number block p)).as_row.copies leader number) (apply_to s d k (begin_copy s leader number block p))).0 final
 
-  pub receive-passes : (write : SettledWrite s settled) (old : ℕ → ℕ → Bool) (v : State) (y x : ProcessId) (m : Message) (p : Process) → p.name ≡ x → IsProcess s y → MayStand s v y x m → IsLed m → ReadsAt m p
+  pub receive-passes : (write : SettledWrite s settled) (old : ℕ → ℕ → Bool) (v : State) (y x : ProcessId) (m : Message) (p : Process) → p.name ≡ x
+      → IsProcess s y → MayStand s v y x m → IsLed m → ReadsAt m p
       → Follows s settled l n plan y x m → Holding s settled old p → MarksNew m p → AppliesSettled s settled p (receive s y m p) → Passes s settled l n plan p (receive s y m p)
-  receive-passes write old v y x (tells.Update r d u stable) p name inside may led reads follows holding new applies = passes-when s settled l n plan (nat_le (at 0 p.ranks d.0) r.0) p (ack_to y r.0 d.0 u.number (update_taken s d.0 u stable p)) (λ is.
+  receive-passes write old v y x (tells.Update r d u stable) p name inside may led reads follows holding new applies =
+      passes-when s settled l n plan (nat_le (at 0 p.ranks d.0) r.0) p (ack_to y r.0 d.0 u.number (update_taken s d.0 u stable p)) (λ is.
       let q : Process = apply_to s d.0 stable p in
       still-passes s settled l n plan p (ack_to y r.0 d.0 u.number (update_taken s d.0 u stable p))
       (still-then s settled l n plan p q _ (still-apply s settled l n plan d.0 stable p) (still-same s settled l n plan q (with_replica d.0 (with_update u (replica_of q d.0)) q) refl refl refl)) (tt, tt))
@@ -105,7 +113,8 @@ module _ (s : Dimensions) (settled : ℕ → List Update) (l n : ℕ) (plan : Pl
   receive-passes write old v (ParityNode i) x (tells.Ack r d k) p name inside may led reads follows holding new applies = passes-acked s settled l n plan p i r.0 d.0 k (head_at p d.0)
   receive-passes write old v y x (tells.Stable r d k) p name inside may led reads follows holding new applies =
       passes-when s settled l n plan (nat_le (at 0 p.ranks d.0) r.0) p (quiet (apply_to s d.0 k p)) (λ is. still-passes s settled l n plan p (quiet (apply_to s d.0 k p)) (still-apply s settled l n plan d.0 k p) tt)
-  receive-passes write old v y x (tells.Adopt r d base list) p name inside may led reads follows holding new applies = passes-when s settled l n plan (nat_le (at 0 p.ranks d.0) r.0) p (ack_to y r.0 d.0 (base + length list) (log_adopted s r.0 d.0 base list p)) (λ is.
+  receive-passes write old v y x (tells.Adopt r d base list) p name inside may led reads follows holding new applies =
+      passes-when s settled l n plan (nat_le (at 0 p.ranks d.0) r.0) p (ack_to y r.0 d.0 (base + length list) (log_adopted s r.0 d.0 base list p)) (λ is.
       let ranked : Process = with_rank d.0 r.0 p in
       let q : Process = apply_to s d.0 base ranked in
       still-passes s settled l n plan p (ack_to y r.0 d.0 (base + length list) (log_adopted s r.0 d.0 base list p))
@@ -131,5 +140,6 @@ module _ (s : Dimensions) (settled : ℕ → List Update) (l n : ℕ) (plan : Pl
       still-passes s settled l n plan p (receive s (ParityNode i) (tells.Row session bytes stamp) p)
       (still-row s settled l n plan session.number i bytes p (λ leads number. let row = follows (may.0 ∙ sym name ∙ leads, sym number) in (row.0, row.1))) tt
   receive-passes write old v (DataNode e) x (tells.Cease upto) p name inside may led reads follows holding new applies = passes-self s settled l n plan p
-  receive-passes write old v (ParityNode i) x (tells.Cease upto) p name inside may led reads follows holding new applies = still-passes s settled l n plan p (quiet _) (still-ceased s settled l n plan i upto p) tt
+  receive-passes write old v (ParityNode i) x (tells.Cease upto) p name inside may led reads follows holding new applies =
+      still-passes s settled l n plan p (quiet _) (still-ceased s settled l n plan i upto p) tt
   receive-passes write old v y x (tells.Notice dead) p name inside may led reads follows holding new applies = passes-notice s settled l n plan dead p

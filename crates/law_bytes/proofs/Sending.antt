@@ -151,7 +151,9 @@ module _ (s : Dimensions) (settled : ℕ → List Update) where
     kept true c is q_name holds = finished (same_process q.name (ParityNode c.leader)) true c (with_copies (without_copy c.leader c.number q.as_row.copies) q) is (row-exact q c i q_name is holds)
     kept false c is q_name holds = tt
 
-    by : (b : Bool) → (b ≡ true → MarkIsNew p leader number d n) → (replica_of (when b p (mark_taken s leader number block d n p)).process d).applied ≤ length (settled d) → SendsExact (ParityNode i) (when b p (mark_taken s leader number block d n p))
+    by : (b : Bool) → (b ≡ true → MarkIsNew p leader number d n)
+        → (replica_of (when b p (mark_taken s leader number block d n p)).process d).applied ≤ length (settled d)
+        → SendsExact (ParityNode i) (when b p (mark_taken s leader number block d n p))
     by false _ _ = tt
     by true is_new final = found (copy_in q.as_row.copies leader number) refl where
       last : (replica_of q d).applied ≤ length (settled d)
@@ -169,7 +171,8 @@ module _ (s : Dimensions) (settled : ℕ → List Update) where
           (if-some (λ (x : Copy). at None x.marks d ≡ None) (copy_in q.as_row.copies leader number) c is there.free) first.1)
 
   -- a data process that is asked
-  read-sends : (session : Session) (block : ℕ) (rows : List ℕ) (p : Process) (e : ℕ) → p.name ≡ DataNode e → e < s.k → Holds s settled p → SendsExact (DataNode e) (read_comes s session block rows p (DataNode e))
+  read-sends : (session : Session) (block : ℕ) (rows : List ℕ) (p : Process) (e : ℕ) → p.name ≡ DataNode e → e < s.k → Holds s settled p
+      → SendsExact (DataNode e) (read_comes s session block rows p (DataNode e))
   read-sends session block rows p e name below holds = (
     (holds.within e below, (block, block-of-space s settled block (value (stand settled p e)) p.space (subst (λ (x : ProcessId). IsArea 0 (space_of s) (held s x (stand settled p)) p.space) name holds.space))),
     each-map (λ z. Exact s settled (DataNode e) z.message) (λ i. record { to = ParityNode i; message = tells.Mark session (rank 0) block (partition e) (replica_of p e).applied }) rows (each-all (λ i. (replica_of p e).applied ≤ length (settled e)) (λ i. holds.within e below) rows),
@@ -182,27 +185,29 @@ module _ (s : Dimensions) (settled : ℕ → List Update) where
 
   own-sends : (x : ProcessId) (l number block e : ℕ) (p : Process) → p.name ≡ x → OwnRow x l → SendsExact x (own_mark s l number block e p)
   unfolding OwnRow
-  own-sends x l number block e p name own = when-sends x (accepts_mark p l number (at 0 p.ranks e) e) p (mark_taken s l number block e (replica_of p e).applied p) (found (copy_in q.as_row.copies l number) refl) where
-    q : Process
-    q = apply_to s e (replica_of p e).applied (begin_copy s l number block p)
+  own-sends x l number block e p name own =
+      when-sends x (accepts_mark p l number (at 0 p.ranks e) e) p (mark_taken s l number block e (replica_of p e).applied p) (found (copy_in q.as_row.copies l number) refl) where
+        q : Process
+        q = apply_to s e (replica_of p e).applied (begin_copy s l number block p)
 
-    q_name : q.name ≡ x
-    q_name = (begun-same s (is_some (copy_in p.as_row.copies l number)) l number block p).1 ∙ name
+        q_name : q.name ≡ x
+        q_name = (begun-same s (is_some (copy_in p.as_row.copies l number)) l number block p).1 ∙ name
 
-    finished : (y : ProcessId) → q.name ≡ y → OwnRow y l → (c : Copy) → c.leader ≡ l → (z : Process) → SendsExact y (row_finished (same_process q.name (ParityNode c.leader)) s c z)
-    finished (ParityNode i) is mine c leads z = subst (λ (b : Bool). SendsExact (ParityNode i) (row_finished b s c z)) (sym (ap₂ same_process is (ap ParityNode (leads ∙ mine)) ∙ same-refl (ParityNode i))) tt
-    finished (DataNode d) is mine c leads z = by (same_process q.name (ParityNode c.leader)) where
-      by : (b : Bool) → SendsExact (DataNode d) (row_finished b s c z)
-      by true = tt
-      by false = (tt, tt)
+        finished : (y : ProcessId) → q.name ≡ y → OwnRow y l → (c : Copy) → c.leader ≡ l → (z : Process) → SendsExact y (row_finished (same_process q.name (ParityNode c.leader)) s c z)
+        finished (ParityNode i) is mine c leads z =
+            subst (λ (b : Bool). SendsExact (ParityNode i) (row_finished b s c z)) (sym (ap₂ same_process is (ap ParityNode (leads ∙ mine)) ∙ same-refl (ParityNode i))) tt
+        finished (DataNode d) is mine c leads z = by (same_process q.name (ParityNode c.leader)) where
+          by : (b : Bool) → SendsExact (DataNode d) (row_finished b s c z)
+          by true = tt
+          by false = (tt, tt)
 
-    kept : (whole : Bool) (c : Copy) → c.leader ≡ l → SendsExact x (copy_kept whole s c q)
-    kept true c leads = finished x q_name own c leads (with_copies (without_copy c.leader c.number q.as_row.copies) q)
-    kept false c leads = tt
+        kept : (whole : Bool) (c : Copy) → c.leader ≡ l → SendsExact x (copy_kept whole s c q)
+        kept true c leads = finished x q_name own c leads (with_copies (without_copy c.leader c.number q.as_row.copies) q)
+        kept false c leads = tt
 
-    found : (o : Option Copy) → copy_in q.as_row.copies l number ≡ o → SendsExact x (copy_marked s e (replica_of p e).applied o q)
-    found None is = tt
-    found (Some c) is = kept (is_marked s (marked e (replica_of p e).applied c)) (marked e (replica_of p e).applied c) (copy-parts l number c (found-passes (is_copy l number) q.as_row.copies c is)).0
+        found : (o : Option Copy) → copy_in q.as_row.copies l number ≡ o → SendsExact x (copy_marked s e (replica_of p e).applied o q)
+        found None is = tt
+        found (Some c) is = kept (is_marked s (marked e (replica_of p e).applied c)) (marked e (replica_of p e).applied c) (copy-parts l number c (found-passes (is_copy l number) q.as_row.copies c is)).0
 
   own-name : (l number block e : ℕ) (p : Process) → (own_mark s l number block e p).process.name ≡ p.name
   own-name l number block e p = by (accepts_mark p l number (at 0 p.ranks e) e) where
@@ -300,11 +305,13 @@ module _ (s : Dimensions) (settled : ℕ → List Update) where
 
   pub receive-sends : (write : SettledWrite s settled) (old : ℕ → ℕ → Bool) (y x : ProcessId) (m : Message) (p : Process) → p.name ≡ x → IsProcess s x → Addresses s m x → ComesTo y m x
       → Holds s settled p → Holding s settled old p → MarksNew m p → AppliesSettled s settled p (receive s y m p) → SendsExact x (receive s y m p)
-  receive-sends write old y x (tells.Update r d u stable) p name inside to comes holds holding new applies = when-sends x (nat_le (at 0 p.ranks d.0) r.0) p (ack_to y r.0 d.0 u.number (update_taken s d.0 u stable p)) (tt, tt)
+  receive-sends write old y x (tells.Update r d u stable) p name inside to comes holds holding new applies =
+      when-sends x (nat_le (at 0 p.ranks d.0) r.0) p (ack_to y r.0 d.0 u.number (update_taken s d.0 u stable p)) (tt, tt)
   receive-sends write old (DataNode e) x (tells.Ack r d n) p name inside to comes holds holding new applies = tt
   receive-sends write old (ParityNode i) x (tells.Ack r d n) p name inside to comes holds holding new applies = ack-sends x p i r.0 d.0 n (head_at p d.0)
   receive-sends write old y x (tells.Stable r d n) p name inside to comes holds holding new applies = when-sends x (nat_le (at 0 p.ranks d.0) r.0) p (quiet (apply_to s d.0 n p)) tt
-  receive-sends write old y x (tells.Adopt r d base list) p name inside to comes holds holding new applies = when-sends x (nat_le (at 0 p.ranks d.0) r.0) p (ack_to y r.0 d.0 (base + length list) (log_adopted s r.0 d.0 base list p)) (tt, tt)
+  receive-sends write old y x (tells.Adopt r d base list) p name inside to comes holds holding new applies =
+      when-sends x (nat_le (at 0 p.ranks d.0) r.0) p (ack_to y r.0 d.0 (base + length list) (log_adopted s r.0 d.0 base list p)) (tt, tt)
   receive-sends write old y (DataNode e) (tells.ReadBlock session block rows) p name inside to comes holds holding new applies =
       subst (λ (z : ProcessId). SendsExact (DataNode e) (read_comes s session block rows p z)) (sym name) (read-sends session block rows p e name inside holds)
   receive-sends write old y (ParityNode i) (tells.ReadBlock session block rows) p name inside to comes holds holding new applies = elim comes.1 [ ]

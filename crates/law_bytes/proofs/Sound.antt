@@ -63,18 +63,20 @@ filter-two f a (suc n) m = by (f a) (filter-two f (a + 1) n m) where
       head false whole moved rest = omega (arith, whole, moved, rest)
 
 -- who passes one test passes the other, some places on
-filter-less : (test f : ℕ → Bool) (c a b n : ℕ) → b ≡ c + a → ((x : ℕ) → a ≤ x → x < a + n → test x ≡ true → f (c + x) ≡ true) → length (filter test (range_with_len a n)) ≤ length (filter f (range_with_len b n))
+filter-less : (test f : ℕ → Bool) (c a b n : ℕ) → b ≡ c + a → ((x : ℕ) → a ≤ x → x < a + n → test x ≡ true → f (c + x) ≡ true)
+    → length (filter test (range_with_len a n)) ≤ length (filter f (range_with_len b n))
 filter-less test f c a b zero place turns = omega arith
-filter-less test f c a b (suc n) place turns = by (test a) (f b) refl refl (filter-less test f c (a + 1) (b + 1) n (omega (arith, place)) (λ x low high. turns x (omega (arith, low)) (omega (arith, high)))) where
-  here : test a ≡ true → f b ≡ true
-  here passes = ap f place ∙ turns a (omega arith) (omega arith) passes
+filter-less test f c a b (suc n) place turns =
+    by (test a) (f b) refl refl (filter-less test f c (a + 1) (b + 1) n (omega (arith, place)) (λ x low high. turns x (omega (arith, low)) (omega (arith, high)))) where
+      here : test a ≡ true → f b ≡ true
+      here passes = ap f place ∙ turns a (omega arith) (omega arith) passes
 
-  by : (d e : Bool) → test a ≡ d → f b ≡ e → length (filter test (range_with_len (a + 1) n)) ≤ length (filter f (range_with_len (b + 1) n))
-      → length (cond d (a ∷ filter test (range_with_len (a + 1) n)) (filter test (range_with_len (a + 1) n))) ≤ length (cond e (b ∷ filter f (range_with_len (b + 1) n)) (filter f (range_with_len (b + 1) n)))
-  by true true is it rest = omega (arith, rest)
-  by true false is it rest = absurd (cc (it, here is))
-  by false true is it rest = omega (arith, rest)
-  by false false is it rest = rest
+      by : (d e : Bool) → test a ≡ d → f b ≡ e → length (filter test (range_with_len (a + 1) n)) ≤ length (filter f (range_with_len (b + 1) n))
+          → length (cond d (a ∷ filter test (range_with_len (a + 1) n)) (filter test (range_with_len (a + 1) n))) ≤ length (cond e (b ∷ filter f (range_with_len (b + 1) n)) (filter f (range_with_len (b + 1) n)))
+      by true true is it rest = omega (arith, rest)
+      by true false is it rest = absurd (cc (it, here is))
+      by false true is it rest = omega (arith, rest)
+      by false false is it rest = rest
 
 module _ (s : Dimensions) (v : State) (held : Members s v) (up : IsUp s v) (p : ProcessId) (pin : IsProcess s p) (lives : v.dead p ≡ false) where
   known : Membership

@@ -127,7 +127,8 @@ marks-none t x session r block e n (i ∷ is) other =
 
 module _ (s : Dimensions) (t : Token) where
   -- a block comes to the leader of its session
-  pub block-gains : (l n e : ℕ) (bytes : List ℕ) (p : Process) → p.name ≡ ParityNode l → Gains t p (quiet (block_comes s n e bytes p)) (one_if (same_session t l n && block_way t.way t.partition (DataNode e)))
+  pub block-gains : (l n e : ℕ) (bytes : List ℕ) (p : Process) → p.name ≡ ParityNode l
+      → Gains t p (quiet (block_comes s n e bytes p)) (one_if (same_session t l n && block_way t.way t.partition (DataNode e)))
   block-gains l n e bytes p name = record {
     name = refl;
     last = let same = block-last s e bytes (open_session p.as_leader n) p.as_leader in omega (arith, same);
@@ -139,7 +140,8 @@ module _ (s : Dimensions) (t : Token) where
 
     new : in_session t (block_comes s n e bytes p) ≡ true → (in_session t p ≡ true) ⊎ (z ≡ true)
     new is = turn (and-split (same_process p.name (ParityNode t.leader)) (is_kept_in t.way t.partition (open_session (block_gathered s e bytes (open_session p.as_leader n) p.as_leader) t.number)) is) where
-      turn : (same_process p.name (ParityNode t.leader) ≡ true) × (is_kept_in t.way t.partition (open_session (block_gathered s e bytes (open_session p.as_leader n) p.as_leader) t.number) ≡ true) → (in_session t p ≡ true) ⊎ (z ≡ true)
+      turn : (same_process p.name (ParityNode t.leader) ≡ true) × (is_kept_in t.way t.partition (open_session (block_gathered s e bytes (open_session p.as_leader n) p.as_leader) t.number) ≡ true)
+          → (in_session t p ≡ true) ⊎ (z ≡ true)
       turn both = deeper (block-kept s t.way t.partition t.number n e bytes p.as_leader both.1) where
         deeper : (is_kept_in t.way t.partition (open_session p.as_leader t.number) ≡ true) ⊎ ((t.number ≡ n) × (t.way ≡ Own) × (t.partition ≡ e)) → (in_session t p ≡ true) ⊎ (z ≡ true)
         deeper (inl was) = inl (and-join _ _ both.0 was)
@@ -191,7 +193,8 @@ module _ (s : Dimensions) (t : Token) where
   total c [] = 0
   total c (x ∷ xs) = c x + total c xs
 
-  pub gains-list : (xs : List ℕ) (f : ℕ → Process → ProcessStep) (c : ℕ → ℕ) (name : ProcessId) (p : Process) → p.name ≡ name → ((x : ℕ) (q : Process) → q.name ≡ name → Gains t q (f x q) (c x)) → Gains t p (for_each xs f p) (total c xs)
+  pub gains-list : (xs : List ℕ) (f : ℕ → Process → ProcessStep) (c : ℕ → ℕ) (name : ProcessId) (p : Process) → p.name ≡ name
+      → ((x : ℕ) (q : Process) → q.name ≡ name → Gains t q (f x q) (c x)) → Gains t p (for_each xs f p) (total c xs)
   gains-list [] f c name p is all = gains-fewer t p (quiet p) (fewer-self t p) tt
   gains-list (x ∷ xs) f c name p is all =
       let first = all x p is in
@@ -286,7 +289,8 @@ module _ (s : Dimensions) (t : Token) where
         once : count r others ≤ 1
         once = count-once r others (differ-filter (λ i. not (i == l)) rows rows-differ)
 
-        cases : (b : Bool) → one_if (same_session t l number && (b && l == r)) ≤ one_if (b && l == r) → (l ≡ r) ⊎ (l ≢ r) → (if b then count r others else 0) + one_if (same_session t l number && (b && l == r)) ≤ one_if b
+        cases : (b : Bool) → one_if (same_session t l number && (b && l == r)) ≤ one_if (b && l == r) → (l ≡ r) ⊎ (l ≢ r)
+            → (if b then count r others else 0) + one_if (same_session t l number && (b && l == r)) ≤ one_if b
         cases false less either = omega (arith, less)
         cases true less (inl same) =
             let none = count-none r others (each-weaker (λ x. x ≢ l) (λ x. x ≢ r) (λ x other is. other (is ∙ sym same)) others (left-out l rows)) in
@@ -310,7 +314,8 @@ module _ (s : Dimensions) (t : Token) where
         all_marks [] = tt
         all_marks (e ∷ ls) = each-append (λ z. Fact z.message) (leader_marks s l number block p e) (flat_map (leader_marks s l number block p) ls) (marks-fact e) (all_marks ls)
 
-    own-gains : t.partition < s.k → (e : ℕ) (q : Process) → q.name ≡ ParityNode l → Gains t q (own_mark s l number block e q) (one_if (same_session t l number && marks_way t.way t.partition e (ParityNode l)))
+    own-gains : t.partition < s.k → (e : ℕ) (q : Process) → q.name ≡ ParityNode l
+        → Gains t q (own_mark s l number block e q) (one_if (same_session t l number && marks_way t.way t.partition e (ParityNode l)))
     own-gains below e q is = subst (λ (x : ProcessId). Gains t q (own_mark s l number block e q) (one_if (same_session t l number && marks_way t.way t.partition e x))) is
         (mark-gains s t l number (at 0 q.ranks e) block e (replica_of q e).applied q below)
 

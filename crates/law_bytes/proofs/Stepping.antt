@@ -139,7 +139,8 @@ module _ (s : Dimensions) (settled : ℕ → List Update) (write : SettledWrite 
   -- a notice
   tame-death : (dead : ProcessId) (p : Process) → Tame p (death_known dead p)
   tame-death (DataNode e) p = record { name = refl; replicas = refl; space = refl; heads = refl; rebuilt = λ d b. refl; copies = λ P all. all }
-  tame-death (ParityNode l) p = record { name = refl; replicas = refl; space = refl; heads = refl; rebuilt = λ d b. refl; copies = λ P all. each-filter P (λ c. not (c.leader == l)) p.as_row.copies all }
+  tame-death (ParityNode l) p =
+      record { name = refl; replicas = refl; space = refl; heads = refl; rebuilt = λ d b. refl; copies = λ P all. each-filter P (λ c. not (c.leader == l)) p.as_row.copies all }
 
   tame-close : (gs : List Gathering) (p : Process) → Tame p (close_sessions s gs p).process
   tame-close [] p = tame-self p

@@ -71,7 +71,8 @@ range-within s x a (suc n) low high = by (cases_eq x a) (λ above. range-within 
   by (inr other) later = inr (later (omega (arith, low, other)))
 
 pub within-everyone : (s : Dimensions) (p : ProcessId) → IsProcess s p → Within p (everyone s)
-within-everyone s p inside = subst (λ (q : ProcessId). Within q (everyone s)) (process_at-index s p inside) (range-within s (index_of s p) 0 (s.k + s.m) (omega arith) (let low = index-below s p inside in omega (arith, low)))
+within-everyone s p inside =
+    subst (λ (q : ProcessId). Within q (everyone s)) (process_at-index s p inside) (range-within s (index_of s p) 0 (s.k + s.m) (omega arith) (let low = index-below s p inside in omega (arith, low)))
 
 within-range : (s : Dimensions) (p : ProcessId) (a n : ℕ) → Within p (map (process_at s) (range_with_len a n)) → (a ≤ index_of s p) × (index_of s p < a + n) × (p ≡ process_at s (index_of s p))
 within-range s p a zero there = absurd there

@@ -141,7 +141,8 @@ module _ (s : Dimensions) (ps : List ProcessId) (space : ProcessId → List ℕ)
     either : (d : ℕ) → d < s.k → (b : Bool) → list_any (λ q. same_process q (DataNode d)) ps ≡ b
         → Among d (filter (λ e. not (list_any (λ q. same_process q (DataNode e)) ps)) (range_with_len 0 s.k)) ⊎ Among d (filter (λ e. list_any (λ q. same_process q (DataNode e)) ps) (range_with_len 0 s.k))
     either d below true is = inr (filter-among (λ e. list_any (λ q. same_process q (DataNode e)) ps) d (range_with_len 0 s.k) (among-range d 0 s.k (omega arith) (omega (arith, below))) is)
-    either d below false is = inl (filter-among (λ e. not (list_any (λ q. same_process q (DataNode e)) ps)) d (range_with_len 0 s.k) (among-range d 0 s.k (omega arith) (omega (arith, below))) (ap not is))
+    either d below false is =
+        inl (filter-among (λ e. not (list_any (λ q. same_process q (DataNode e)) ps)) d (range_with_len 0 s.k) (among-range d 0 s.k (omega arith) (omega (arith, below))) (ap not is))
 
   agrees : (cs : List (List ℕ)) → AreSpaces s cs → Each (λ p. SpaceIs s cs p (space p)) ps → Agree s.k s.m (space_of s) rows known cs
   unfolding known rows data_in parity_in
@@ -157,7 +158,8 @@ module _ (s : Dimensions) (ps : List ProcessId) (space : ProcessId → List ℕ)
   }
 
   pub determined : (cs others : List (List ℕ)) → AreSpaces s cs → AreSpaces s others → Each (λ p. SpaceIs s cs p (space p)) ps → Each (λ p. SpaceIs s others p (space p)) ps → others ≡ cs
-  determined cs others are others_are fit others_fit = only_one_agrees s.k s.m (space_of s) lost rows known cs others can are.bytes others_are.bytes (agrees cs are fit) (agrees others others_are others_fit)
+  determined cs others are others_are fit others_fit =
+      only_one_agrees s.k s.m (space_of s) lost rows known cs others can are.bytes others_are.bytes (agrees cs are fit) (agrees others others_are others_fit)
 
 pub spaces_determine : SpacesDetermine
 spaces_determine s ps space cs others shaped many distinct inside are others_are fit others_fit = determined s ps space shaped many distinct inside cs others are others_are fit others_fit

@@ -35,16 +35,17 @@ module _ (s : Dimensions) (t : Token) where
   -- a copy that is begun has no mark
   fewer-begun : (b : Bool) (l n block : ℕ) (p : Process) → Fewer t p (copy_begun b s l n block p)
   fewer-begun true l n block p = fewer-self t p
-  fewer-begun false l n block p = record { name = refl; marked = λ is. by is (found-behind (is_copy t.leader t.number) p.as_row.copies (new_copy s l n block p.space)); kept = λ is. is; last = omega arith } where
-    none : is_marked_in t.partition (Some (new_copy s l n block p.space)) ≡ false
-    none = ap is_some (at-replicate None s.k t.partition)
+  fewer-begun false l n block p =
+      record { name = refl; marked = λ is. by is (found-behind (is_copy t.leader t.number) p.as_row.copies (new_copy s l n block p.space)); kept = λ is. is; last = omega arith } where
+        none : is_marked_in t.partition (Some (new_copy s l n block p.space)) ≡ false
+        none = ap is_some (at-replicate None s.k t.partition)
 
-    by : is_marked_in t.partition (copy_in (p.as_row.copies ++ new_copy s l n block p.space ∷ []) t.leader t.number) ≡ true
-        → (copy_in (p.as_row.copies ++ new_copy s l n block p.space ∷ []) t.leader t.number ≡ copy_in p.as_row.copies t.leader t.number)
-        ⊎ ((copy_in p.as_row.copies t.leader t.number ≡ None) × (copy_in (p.as_row.copies ++ new_copy s l n block p.space ∷ []) t.leader t.number ≡ Some (new_copy s l n block p.space)))
-        → is_marked_in t.partition (copy_in p.as_row.copies t.leader t.number) ≡ true
-    by is (inl same) = ap (is_marked_in t.partition) (sym same) ∙ is
-    by is (inr both) = absurd (cc (sym is ∙ ap (is_marked_in t.partition) both.1 ∙ none))
+        by : is_marked_in t.partition (copy_in (p.as_row.copies ++ new_copy s l n block p.space ∷ []) t.leader t.number) ≡ true
+            → (copy_in (p.as_row.copies ++ new_copy s l n block p.space ∷ []) t.leader t.number ≡ copy_in p.as_row.copies t.leader t.number)
+            ⊎ ((copy_in p.as_row.copies t.leader t.number ≡ None) × (copy_in (p.as_row.copies ++ new_copy s l n block p.space ∷ []) t.leader t.number ≡ Some (new_copy s l n block p.space)))
+            → is_marked_in t.partition (copy_in p.as_row.copies t.leader t.number) ≡ true
+        by is (inl same) = ap (is_marked_in t.partition) (sym same) ∙ is
+        by is (inr both) = absurd (cc (sym is ∙ ap (is_marked_in t.partition) both.1 ∙ none))
 
   -- a partition e is marked at n in the copy c, the first of its session
   module _ (q : Process) (c : Copy) (e n : ℕ) (below : t.partition < s.k) (first : copy_in q.as_row.copies c.leader c.number ≡ Some c) where
@@ -65,12 +66,16 @@ module _ (s : Dimensions) (t : Token) where
       own : is_copy c.leader c.number (marked e n c) ≡ true
       own = and-join (c.leader == c.leader) (c.number == c.number) (eq-eqb c.leader c.leader refl) (eq-eqb c.number c.number refl)
 
-      by : ((c.leader ≡ t.leader) × (c.number ≡ t.number)) ⊎ (same_session t c.leader c.number ≡ false) → (is_marked_in t.partition (copy_in q.as_row.copies t.leader t.number) ≡ true) ⊎ ((same_session t c.leader c.number ≡ true) × (e ≡ t.partition))
+      by : ((c.leader ≡ t.leader) × (c.number ≡ t.number)) ⊎ (same_session t c.leader c.number ≡ false)
+          → (is_marked_in t.partition (copy_in q.as_row.copies t.leader t.number) ≡ true) ⊎ ((same_session t c.leader c.number ≡ true) × (e ≡ t.partition))
       by (inl same) = turn (mark-there c.marks e t.partition n (ap (is_marked_in t.partition) (sym found) ∙ is)) where
         found : copy_in (with_copy (marked e n c) q.as_row.copies) t.leader t.number ≡ Some (marked e n c)
-        found = ap₂ (λ (a b : ℕ). copy_in (with_copy (marked e n c) q.as_row.copies) a b) (sym same.0) (sym same.1) ∙ found-exchanged (is_copy c.leader c.number) (marked e n c) c q.as_row.copies own first
+        found =
+            ap₂ (λ (a b : ℕ). copy_in (with_copy (marked e n c) q.as_row.copies) a b) (sym same.0) (sym same.1)
+            ∙ found-exchanged (is_copy c.leader c.number) (marked e n c) c q.as_row.copies own first
 
-        turn : (is_some (at None c.marks t.partition) ≡ true) ⊎ (e ≡ t.partition) → (is_marked_in t.partition (copy_in q.as_row.copies t.leader t.number) ≡ true) ⊎ ((same_session t c.leader c.number ≡ true) × (e ≡ t.partition))
+        turn : (is_some (at None c.marks t.partition) ≡ true) ⊎ (e ≡ t.partition)
+            → (is_marked_in t.partition (copy_in q.as_row.copies t.leader t.number) ≡ true) ⊎ ((same_session t c.leader c.number ≡ true) × (e ≡ t.partition))
         turn (inl was) = inl (ap (is_marked_in t.partition) (ap₂ (λ (a b : ℕ). copy_in q.as_row.copies a b) (sym same.0) (sym same.1) ∙ first) ∙ was)
         turn (inr here) = inr (session-is t c.leader c.number same.0 same.1, here)
       by (inr other) = inl (ap (is_marked_in t.partition) (sym (found-apart (is_copy t.leader t.number) (is_copy c.leader c.number) (marked e n c) q.as_row.copies other
@@ -83,7 +88,8 @@ module _ (s : Dimensions) (t : Token) where
         let both = and-split (same_process q.name (ParityNode r)) (is_marked_in t.partition (copy_in (with_copy (marked e n c) q.as_row.copies) t.leader t.number)) is in
         turn both.0 (waiting_marked both.1)
       where
-        turn : same_process q.name (ParityNode r) ≡ true → (is_marked_in t.partition (copy_in q.as_row.copies t.leader t.number) ≡ true) ⊎ ((same_session t c.leader c.number ≡ true) × (e ≡ t.partition))
+        turn : same_process q.name (ParityNode r) ≡ true
+            → (is_marked_in t.partition (copy_in q.as_row.copies t.leader t.number) ≡ true) ⊎ ((same_session t c.leader c.number ≡ true) × (e ≡ t.partition))
             → ((same_process q.name (ParityNode r) && is_marked_in t.partition (copy_in q.as_row.copies t.leader t.number)) ≡ true) ⊎ ((same_session t c.leader c.number && (e == t.partition && same_process q.name (ParityNode r))) ≡ true)
         turn name (inl was) = inl (and-join _ _ name was)
         turn name (inr here) = inr (and-join _ _ here.0 (and-join _ _ (eq-eqb e t.partition here.1) name))
@@ -108,7 +114,8 @@ module _ (s : Dimensions) (t : Token) where
     ended_fewer : Fewer t q ended
     unfolding ended
     ended_fewer = record { name = refl; marked = λ is. by is (not (same_session t c.leader c.number)) ended_found; kept = λ is. is; last = omega arith } where
-      by : is_marked_in t.partition (copy_in (without_copy c.leader c.number q.as_row.copies) t.leader t.number) ≡ true → (b : Bool) → copy_in (without_copy c.leader c.number q.as_row.copies) t.leader t.number ≡ (if b then copy_in q.as_row.copies t.leader t.number else None)
+      by : is_marked_in t.partition (copy_in (without_copy c.leader c.number q.as_row.copies) t.leader t.number) ≡ true → (b : Bool)
+          → copy_in (without_copy c.leader c.number q.as_row.copies) t.leader t.number ≡ (if b then copy_in q.as_row.copies t.leader t.number else None)
           → is_marked_in t.partition (copy_in q.as_row.copies t.leader t.number) ≡ true
       by is true found = ap (is_marked_in t.partition) (sym found) ∙ is
       by is false found = absurd (cc (sym is ∙ ap (is_marked_in t.partition) found))
@@ -119,7 +126,8 @@ module _ (s : Dimensions) (t : Token) where
     gone Own is = refl
     gone (Row r) is = true-false (in_copy t (Row r) ended) (λ there.
         let session : same_session t c.leader c.number ≡ true = (and-split (same_session t c.leader c.number) (row_way (Row r) q.name) is).0 in
-        let found : copy_in (without_copy c.leader c.number q.as_row.copies) t.leader t.number ≡ None = ended_found ∙ ap (λ (b : Bool). if not b then copy_in q.as_row.copies t.leader t.number else None) session in
+        let found : copy_in (without_copy c.leader c.number q.as_row.copies) t.leader t.number ≡ None = ended_found
+        ∙ ap (λ (b : Bool). if not b then copy_in q.as_row.copies t.leader t.number else None) session in
         let marks = (and-split (same_process q.name (ParityNode r)) (is_marked_in t.partition (copy_in (without_copy c.leader c.number q.as_row.copies) t.leader t.number)) there).1 in
         cc (sym marks ∙ ap (is_marked_in t.partition) found))
 
@@ -162,7 +170,8 @@ module _ (s : Dimensions) (t : Token) where
         turn : (same_process q.name (ParityNode t.leader) ≡ true) × (is_kept_in t.way t.partition (open_session (row_gathered s c.leader c.bytes (open_session q.as_leader c.number) q.as_leader) t.number) ≡ true)
             → (in_session t q ≡ true) ⊎ ((in_copy t t.way ended ≡ false) × ((in_copy t t.way q ≡ true) ⊎ (comes t.way ≡ true)))
         turn both = deeper (row-kept s t.way t.partition t.number c.number c.leader c.bytes q.as_leader both.1) where
-          deeper : (is_kept_in t.way t.partition (open_session q.as_leader t.number) ≡ true) ⊎ ((t.number ≡ c.number) × (t.way ≡ Row c.leader)) → (in_session t q ≡ true) ⊎ ((in_copy t t.way ended ≡ false) × ((in_copy t t.way q ≡ true) ⊎ (comes t.way ≡ true)))
+          deeper : (is_kept_in t.way t.partition (open_session q.as_leader t.number) ≡ true) ⊎ ((t.number ≡ c.number) × (t.way ≡ Row c.leader))
+              → (in_session t q ≡ true) ⊎ ((in_copy t t.way ended ≡ false) × ((in_copy t t.way q ≡ true) ⊎ (comes t.way ≡ true)))
           deeper (inl was) = inl (and-join _ _ both.0 was)
           deeper (inr new) =
               let names : ParityNode c.leader ≡ ParityNode t.leader = sym (same-eq q.name (ParityNode c.leader) isown) ∙ same-eq q.name (ParityNode t.leader) both.0 in
@@ -186,27 +195,28 @@ module _ (s : Dimensions) (t : Token) where
 
   -- a row takes a mark
   pub mark-gains : (l n r block e k : ℕ) (p : Process) → t.partition < s.k → Gains t p (mark_comes s l n r block e k p) (one_if (same_session t l n && marks_way t.way t.partition e p.name))
-  mark-gains l n r block e k p below = gains-when t (accepts_mark p l n r e) p (mark_taken s l n block e k p) (one_if (same_session t l n && marks_way t.way t.partition e p.name)) (λ accepts. taken) where
-    begun : Process
-    begun = begin_copy s l n block p
+  mark-gains l n r block e k p below =
+      gains-when t (accepts_mark p l n r e) p (mark_taken s l n block e k p) (one_if (same_session t l n && marks_way t.way t.partition e p.name)) (λ accepts. taken) where
+        begun : Process
+        begun = begin_copy s l n block p
 
-    q : Process
-    q = apply_to s e k begun
+        q : Process
+        q = apply_to s e k begun
 
-    fewer : Fewer t p q
-    fewer = fewer-trans t p begun q (fewer-begun (is_some (copy_in p.as_row.copies l n)) l n block p) (fewer-apply t s e k begun)
+        fewer : Fewer t p q
+        fewer = fewer-trans t p begun q (fewer-begun (is_some (copy_in p.as_row.copies l n)) l n block p) (fewer-apply t s e k begun)
 
-    by : (o : Option Copy) → copy_in q.as_row.copies l n ≡ o → Gains t q (copy_marked s e k o q) (one_if (same_session t l n && marks_way t.way t.partition e q.name))
-    by None is = gains-more t q (quiet q) 0 _ (omega arith) (gains-fewer t q (quiet q) (fewer-self t q) tt)
-    by (Some c) is =
-        let parts = copy-parts l n c (found-passes (is_copy l n) q.as_row.copies c is) in
-        let first : copy_in q.as_row.copies c.leader c.number ≡ Some c = ap₂ (λ (a b : ℕ). copy_in q.as_row.copies a b) parts.0 parts.1 ∙ is in
-        subst (λ (b : Bool). Gains t q (copy_marked s e k (Some c) q) (one_if (b && marks_way t.way t.partition e q.name))) (ap₂ (λ (a b : ℕ). same_session t a b) parts.0 parts.1)
-        (marked_gains q c e k below first)
+        by : (o : Option Copy) → copy_in q.as_row.copies l n ≡ o → Gains t q (copy_marked s e k o q) (one_if (same_session t l n && marks_way t.way t.partition e q.name))
+        by None is = gains-more t q (quiet q) 0 _ (omega arith) (gains-fewer t q (quiet q) (fewer-self t q) tt)
+        by (Some c) is =
+            let parts = copy-parts l n c (found-passes (is_copy l n) q.as_row.copies c is) in
+            let first : copy_in q.as_row.copies c.leader c.number ≡ Some c = ap₂ (λ (a b : ℕ). copy_in q.as_row.copies a b) parts.0 parts.1 ∙ is in
+            subst (λ (b : Bool). Gains t q (copy_marked s e k (Some c) q) (one_if (b && marks_way t.way t.partition e q.name))) (ap₂ (λ (a b : ℕ). same_session t a b) parts.0 parts.1)
+            (marked_gains q c e k below first)
 
-    taken : Gains t p (mark_taken s l n block e k p) (one_if (same_session t l n && marks_way t.way t.partition e p.name))
-    taken = gains-from t p q (mark_taken s l n block e k p) _ fewer
-        (subst (λ (name : ProcessId). Gains t q (copy_marked s e k (copy_in q.as_row.copies l n) q) (one_if (same_session t l n && marks_way t.way t.partition e name))) fewer.name (by (copy_in q.as_row.copies l n) refl))
+        taken : Gains t p (mark_taken s l n block e k p) (one_if (same_session t l n && marks_way t.way t.partition e p.name))
+        taken = gains-from t p q (mark_taken s l n block e k p) _ fewer
+            (subst (λ (name : ProcessId). Gains t q (copy_marked s e k (copy_in q.as_row.copies l n) q) (one_if (same_session t l n && marks_way t.way t.partition e name))) fewer.name (by (copy_in q.as_row.copies l n) refl))
 
   -- a row, or a block, comes to the leader of its session
   pub row-gains : (l n i : ℕ) (bytes : List ℕ) (p : Process) → p.name ≡ ParityNode l → Gains t p (quiet (row_comes s n i bytes p)) (one_if (same_session t l n && row_way t.way (ParityNode i)))
@@ -221,7 +231,8 @@ module _ (s : Dimensions) (t : Token) where
 
     new : in_session t (row_comes s n i bytes p) ≡ true → (in_session t p ≡ true) ⊎ (z ≡ true)
     new is = turn (and-split (same_process p.name (ParityNode t.leader)) (is_kept_in t.way t.partition (open_session (row_gathered s i bytes (open_session p.as_leader n) p.as_leader) t.number)) is) where
-      turn : (same_process p.name (ParityNode t.leader) ≡ true) × (is_kept_in t.way t.partition (open_session (row_gathered s i bytes (open_session p.as_leader n) p.as_leader) t.number) ≡ true) → (in_session t p ≡ true) ⊎ (z ≡ true)
+      turn : (same_process p.name (ParityNode t.leader) ≡ true) × (is_kept_in t.way t.partition (open_session (row_gathered s i bytes (open_session p.as_leader n) p.as_leader) t.number) ≡ true)
+          → (in_session t p ≡ true) ⊎ (z ≡ true)
       turn both = deeper (row-kept s t.way t.partition t.number n i bytes p.as_leader both.1) where
         deeper : (is_kept_in t.way t.partition (open_session p.as_leader t.number) ≡ true) ⊎ ((t.number ≡ n) × (t.way ≡ Row i)) → (in_session t p ≡ true) ⊎ (z ≡ true)
         deeper (inl was) = inl (and-join _ _ both.0 was)

@@ -70,14 +70,16 @@ module _ (s : Dimensions) (t : Token) (below : t.partition < s.k) where
   from-none x p m step gains = gains-more t p step 0 (one_if (is_token t x p.name m)) (omega arith) gains
 
   pub receive-gains : (x : ProcessId) (m : Message) (p : Process) → Fact m → ComesTo x m p.name → Gains t p (receive s x m p) (one_if (is_token t x p.name m))
-  receive-gains x (tells.Update r d u stable) p fact comes = from-none x p (tells.Update r d u stable) _ (gains-when t (nat_le (at 0 p.ranks d.0) r.0) p (ack_to x r.0 d.0 u.number (update_taken s d.0 u stable p)) 0 (λ is.
+  receive-gains x (tells.Update r d u stable) p fact comes =
+      from-none x p (tells.Update r d u stable) _ (gains-when t (nat_le (at 0 p.ranks d.0) r.0) p (ack_to x r.0 d.0 u.number (update_taken s d.0 u stable p)) 0 (λ is.
       let q : Process = apply_to s d.0 stable p in
       gains-fewer t p (ack_to x r.0 d.0 u.number (update_taken s d.0 u stable p))
       (fewer-trans t p q (with_replica d.0 (with_update u (replica_of q d.0)) q) (fewer-apply t s d.0 stable p) (same-tokens q (with_replica d.0 (with_update u (replica_of q d.0)) q) refl refl refl)) (tt, tt)))
   receive-gains (DataNode e) (tells.Ack r d n) p fact comes = gains-fewer t p (quiet p) (fewer-self t p) tt
   receive-gains (ParityNode i) (tells.Ack r d n) p fact comes = acked-gains p i r.0 d.0 n (head_at p d.0)
   receive-gains x (tells.Stable r d n) p fact comes = from-none x p (tells.Stable r d n) _ (gains-when t (nat_le (at 0 p.ranks d.0) r.0) p (quiet (apply_to s d.0 n p)) 0 (λ is. gains-fewer t p (quiet (apply_to s d.0 n p)) (fewer-apply t s d.0 n p) tt))
-  receive-gains x (tells.Adopt r d base list) p fact comes = from-none x p (tells.Adopt r d base list) _ (gains-when t (nat_le (at 0 p.ranks d.0) r.0) p (ack_to x r.0 d.0 (base + length list) (log_adopted s r.0 d.0 base list p)) 0 (λ is.
+  receive-gains x (tells.Adopt r d base list) p fact comes =
+      from-none x p (tells.Adopt r d base list) _ (gains-when t (nat_le (at 0 p.ranks d.0) r.0) p (ack_to x r.0 d.0 (base + length list) (log_adopted s r.0 d.0 base list p)) 0 (λ is.
       let ranked : Process = with_rank d.0 r.0 p in
       let q : Process = apply_to s d.0 base ranked in
       gains-fewer t p (ack_to x r.0 d.0 (base + length list) (log_adopted s r.0 d.0 base list p))
@@ -126,16 +128,19 @@ module _ (s : Dimensions) (t : Token) (below : t.partition < s.k) where
     by (inr other) = inl (start-other s t block l p name other below)
 
   module _ (p : Process) (x : ProcessId) (name : p.name ≡ x) (inside : IsProcess s x) (living : knows_dead p.known x ≡ false) where
-    session-claims : (block : ℕ) → SentWell Owes s.k (start_session s block p).process (start_session s block p).sent → (start_session s block p).process.name ≡ p.name → Claims p (start_session s block p)
+    session-claims : (block : ℕ) → SentWell Owes s.k (start_session s block p).process (start_session s block p).sent
+        → (start_session s block p).process.name ≡ p.name → Claims p (start_session s block p)
     session-claims block well same = by x name inside living where
       by : (y : ProcessId) → p.name ≡ y → IsProcess s y → knows_dead p.known y ≡ false → Claims p (start_session s block p)
       by (ParityNode l) is within lives = start-claims block l p is
       by (DataNode e) is within lives = absurd (never-asks s e block p is within lives well same)
 
-    retry-claims : (block : ℕ) (o : Option Oldest) → SentWell Owes s.k (retry_block s block o p).step.process (retry_block s block o p).step.sent → (retry_block s block o p).step.process.name ≡ p.name → Claims p (retry_block s block o p).step
+    retry-claims : (block : ℕ) (o : Option Oldest) → SentWell Owes s.k (retry_block s block o p).step.process (retry_block s block o p).step.sent
+        → (retry_block s block o p).step.process.name ≡ p.name → Claims p (retry_block s block o p).step
     retry-claims block (Some o) well same = inl (gains-fewer t p (quiet p) (fewer-self t p) tt)
     retry-claims block None well same = by (not (list_any (λ g. g.block == block) p.as_leader.sessions)) well same where
-      by : (b : Bool) → SentWell Owes s.k (when b p (start_session s block p)).process (when b p (start_session s block p)).sent → (when b p (start_session s block p)).process.name ≡ p.name → Claims p (when b p (start_session s block p))
+      by : (b : Bool) → SentWell Owes s.k (when b p (start_session s block p)).process (when b p (start_session s block p)).sent
+          → (when b p (start_session s block p)).process.name ≡ p.name → Claims p (when b p (start_session s block p))
       by true sent is = session-claims block sent is
       by false sent is = inl (gains-fewer t p (quiet p) (fewer-self t p) tt)
 

@@ -107,53 +107,59 @@ module _ (s : Dimensions) where
         omega (arith, moved, weighs)
 
   -- a call
-  treated : (v w : State) (p : ProcessId) (step : ProcessStep) → IsShape s → IsProcess s p → v.dead p ≡ false → Treats s (v.process p) step → Carried s v → Members s w → Acted s v w p step → Carried s w
-  treated v w p step shaped pin lives treats carried after acts = record { members = after; facts = facts_after; tokens = λ t below inside. by t below inside (claims t below); strangers = λ t below outside. out t below outside (claims t below) } where
-    some : 0 < s.k
-    some = let first = shaped.k in omega (arith, first)
+  treated : (v w : State) (p : ProcessId) (step : ProcessStep) → IsShape s → IsProcess s p → v.dead p ≡ false → Treats s (v.process p) step → Carried s v
+      → Members s w → Acted s v w p step → Carried s w
+  treated v w p step shaped pin lives treats carried after acts =
+      record { members = after; facts = facts_after; tokens = λ t below inside. by t below inside (claims t below); strangers = λ t below outside. out t below outside (claims t below) } where
+        some : 0 < s.k
+        some = let first = shaped.k in omega (arith, first)
 
-    claims : (t : Token) (below : t.partition < s.k) → Claims s t below (v.process p) step
-    claims t below = treats-claims s t below (v.process p) p (carried.members.named p pin) pin (carried.members.not_self p pin lives) step treats (record { name = carried.members.named p pin; some = some; sits = λ d low. carried.members.sits p d pin lives low })
+        claims : (t : Token) (below : t.partition < s.k) → Claims s t below (v.process p) step
+        claims t below = treats-claims s t below (v.process p) p (carried.members.named p pin) pin (carried.members.not_self p pin lives) step treats (record { name = carried.members.named p pin; some = some; sits = λ d low. carried.members.sits p d pin lives low })
 
-    any : Token
-    any = record { leader = 0; number = 0; partition = 0; way = Own }
+        any : Token
+        any = record { leader = 0; number = 0; partition = 0; way = Own }
 
-    facts_after : LinkFacts s w
-    facts_after = facts-acted v w p step pin lives after acts carried.facts (sent_facts (claims any some)) where
-      sent_facts : Claims s any some (v.process p) step → Each (λ z. Fact z.message) step.sent
-      sent_facts (inl gains) = gains.facts
-      sent_facts (inr opens) = opens.gains.facts
+        facts_after : LinkFacts s w
+        facts_after = facts-acted v w p step pin lives after acts carried.facts (sent_facts (claims any some)) where
+          sent_facts : Claims s any some (v.process p) step → Each (λ z. Fact z.message) step.sent
+          sent_facts (inl gains) = gains.facts
+          sent_facts (inr opens) = opens.gains.facts
 
-    by : (t : Token) (below : t.partition < s.k) → t.leader < s.m → Claims s t below (v.process p) step → tokens s w t ≤ one_if (nat_lt t.number (suc (w.process (ParityNode t.leader)).as_leader.last_session))
-    by t below inside (inl gains) =
-        let less = acted-gains v w p step pin lives after acts t 0 (carried.members.named p pin) gains in
-        let before = carried.tokens t below inside in
-        let rises = last-same v w p step pin lives after acts t inside gains.last in
-        let more = below-more t.number (suc (last_of v t)) (suc (last_of w t)) (omega (arith, rises)) in
-        omega (arith, less, before, more)
-    by t below inside (inr opens) =
-        let less = acted-gains v w p step pin lives after acts t 1 (carried.members.named p pin) opens.gains in
-        let leads : ParityNode t.leader ≡ p = sym opens.leader ∙ carried.members.named p pin in
-        let before = carried.tokens t below inside in
-        let last_before : (v.process (ParityNode t.leader)).as_leader.last_session ≡ (v.process p).as_leader.last_session = ap (λ (y : ProcessId). (v.process y).as_leader.last_session) leads in
-        let last_after : (w.process (ParityNode t.leader)).as_leader.last_session ≡ step.process.as_leader.last_session = ap (λ (y : ProcessId). (w.process y).as_leader.last_session) leads ∙ ap (λ (y : Process). y.as_leader.last_session) acts.process in
-        let none : one_if (nat_lt t.number (suc (v.process (ParityNode t.leader)).as_leader.last_session)) ≡ 0 = ap (λ (k : ℕ). one_if (nat_lt t.number (suc k))) last_before ∙ ap (λ (k : ℕ). one_if (nat_lt t.number k)) (sym opens.number) ∙ nothing-below t.number in
-        let number = opens.number in
-        let last = opens.last in
-        let one = one-below t.number (suc (w.process (ParityNode t.leader)).as_leader.last_session) (omega (arith, number, last, last_after)) in
-        omega (arith, less, before, none, one)
+        by : (t : Token) (below : t.partition < s.k) → t.leader < s.m → Claims s t below (v.process p) step
+            → tokens s w t ≤ one_if (nat_lt t.number (suc (w.process (ParityNode t.leader)).as_leader.last_session))
+        by t below inside (inl gains) =
+            let less = acted-gains v w p step pin lives after acts t 0 (carried.members.named p pin) gains in
+            let before = carried.tokens t below inside in
+            let rises = last-same v w p step pin lives after acts t inside gains.last in
+            let more = below-more t.number (suc (last_of v t)) (suc (last_of w t)) (omega (arith, rises)) in
+            omega (arith, less, before, more)
+        by t below inside (inr opens) =
+            let less = acted-gains v w p step pin lives after acts t 1 (carried.members.named p pin) opens.gains in
+            let leads : ParityNode t.leader ≡ p = sym opens.leader ∙ carried.members.named p pin in
+            let before = carried.tokens t below inside in
+            let last_before : (v.process (ParityNode t.leader)).as_leader.last_session ≡ (v.process p).as_leader.last_session = ap (λ (y : ProcessId). (v.process y).as_leader.last_session) leads in
+            let last_after : (w.process (ParityNode t.leader)).as_leader.last_session ≡ step.process.as_leader.last_session = ap (λ (y : ProcessId). (w.process y).as_leader.last_session) leads
+            ∙ ap (λ (y : Process). y.as_leader.last_session) acts.process in
+            let none : one_if (nat_lt t.number (suc (v.process (ParityNode t.leader)).as_leader.last_session)) ≡ 0 = ap (λ (k : ℕ). one_if (nat_lt t.number (suc k))) last_before
+            ∙ ap (λ (k : ℕ). one_if (nat_lt t.number k)) (sym opens.number) ∙ nothing-below t.number in
+            let number = opens.number in
+            let last = opens.last in
+            let one = one-below t.number (suc (w.process (ParityNode t.leader)).as_leader.last_session) (omega (arith, number, last, last_after)) in
+            omega (arith, less, before, none, one)
 
-    out : (t : Token) (below : t.partition < s.k) → s.m ≤ t.leader → Claims s t below (v.process p) step → tokens s w t ≤ 0
-    out t below outside (inl gains) =
-        let less = acted-gains v w p step pin lives after acts t 0 (carried.members.named p pin) gains in
-        let before = carried.strangers t below outside in
-        omega (arith, less, before)
-    out t below outside (inr opens) =
-        let inside : t.leader < s.m = subst (IsProcess s) (sym (carried.members.named p pin) ∙ opens.leader) pin in
-        absurd (omega (arith, inside, outside))
+        out : (t : Token) (below : t.partition < s.k) → s.m ≤ t.leader → Claims s t below (v.process p) step → tokens s w t ≤ 0
+        out t below outside (inl gains) =
+            let less = acted-gains v w p step pin lives after acts t 0 (carried.members.named p pin) gains in
+            let before = carried.strangers t below outside in
+            omega (arith, less, before)
+        out t below outside (inr opens) =
+            let inside : t.leader < s.m = subst (IsProcess s) (sym (carried.members.named p pin) ∙ opens.leader) pin in
+            absurd (omega (arith, inside, outside))
 
   -- a message
-  received : (v u w : State) (x p : ProcessId) (m : Message) → IsShape s → IsProcess s x → IsProcess s p → x ≢ p → v.dead p ≡ false → Carried s v → Members s w → Popped s v u x p m → Acted s u w p (receive s x m (v.process p)) → Carried s w
+  received : (v u w : State) (x p : ProcessId) (m : Message) → IsShape s → IsProcess s x → IsProcess s p → x ≢ p → v.dead p ≡ false → Carried s v → Members s w
+      → Popped s v u x p m → Acted s u w p (receive s x m (v.process p)) → Carried s w
   received v u w x p m shaped xin pin apart lives carried after pops acts = record { members = after; facts = facts_after; tokens = λ t below inside. by t below inside; strangers = out } where
     step : ProcessStep
     step = receive s x m (v.process p)

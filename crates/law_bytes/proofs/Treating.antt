@@ -63,7 +63,8 @@ differ-filter s settled old test (x ∷ xs) differ = by (test x) (differ-filter 
 module _ (s : Dimensions) (settled : ℕ → List Update) (write : SettledWrite s settled) (old : ℕ → ℕ → Bool) where
   -- what is handed out, or held, leaves the bytes
   held-holds : (d : ℕ) (hs : List Held) (p : Process) → Holding s settled old p → Holding s settled old (with_held d hs p)
-  held-holds d hs p holding = holding-same s settled old p (with_held d hs p) (record { stand = record { name = refl; applied = λ e. refl }; space = refl; rebuilt = λ e b. refl }) holding.copies holding
+  held-holds d hs p holding =
+      holding-same s settled old p (with_held d hs p) (record { stand = record { name = refl; applied = λ e. refl }; space = refl; rebuilt = λ e b. refl }) holding.copies holding
 
   ticketed-holds : (b : Bool) (d : ℕ) (u : Update) (t : ProcessStep) → Holding s settled old t.process → Holding s settled old (ticketed b d u t).step.process
   ticketed-holds true d u t holds = holds
@@ -133,22 +134,26 @@ module _ (s : Dimensions) (settled : ℕ → List Update) (write : SettledWrite 
       opened = session_opened s number block p
 
   module _ (p : Process) (x : ProcessId) (name : p.name ≡ x) (in_group : IsProcess s x) (living : knows_dead p.known x ≡ false) (inside : Inside s p.name) (new : NextIsNew s p) (holding : Holding s settled old p) where
-    session-holds : (block : ℕ) → SentWell Owes s.k (start_session s block p).process (start_session s block p).sent → (start_session s block p).process.name ≡ p.name → Holding s settled old (start_session s block p).process
+    session-holds : (block : ℕ) → SentWell Owes s.k (start_session s block p).process (start_session s block p).sent
+        → (start_session s block p).process.name ≡ p.name → Holding s settled old (start_session s block p).process
     session-holds block well same = by x name in_group living where
       by : (y : ProcessId) → p.name ≡ y → IsProcess s y → knows_dead p.known y ≡ false → Holding s settled old (start_session s block p).process
       by (ParityNode l) is within lives = parity-holds block l p is inside new holding
       by (DataNode e) is within lives = absurd (never-asks s e block p is within lives well same)
 
-    retry-holds : (block : ℕ) (o : Option Oldest) → SentWell Owes s.k (retry_block s block o p).step.process (retry_block s block o p).step.sent → (retry_block s block o p).step.process.name ≡ p.name → Holding s settled old (retry_block s block o p).step.process
+    retry-holds : (block : ℕ) (o : Option Oldest) → SentWell Owes s.k (retry_block s block o p).step.process (retry_block s block o p).step.sent
+        → (retry_block s block o p).step.process.name ≡ p.name → Holding s settled old (retry_block s block o p).step.process
     retry-holds block (Some o) well same = holding
     retry-holds block None well same = by (not (list_any (λ g. g.block == block) p.as_leader.sessions)) well same where
-      by : (b : Bool) → SentWell Owes s.k (when b p (start_session s block p)).process (when b p (start_session s block p)).sent → (when b p (start_session s block p)).process.name ≡ p.name → Holding s settled old (when b p (start_session s block p)).process
+      by : (b : Bool) → SentWell Owes s.k (when b p (start_session s block p)).process (when b p (start_session s block p)).sent
+          → (when b p (start_session s block p)).process.name ≡ p.name → Holding s settled old (when b p (start_session s block p)).process
       by true sent is = session-holds block sent is
       by false sent is = holding
 
     act-holds : (call : CallName) (op : Asked) (d : ℕ) (h : Head) (decision : Decision) → head_at p d ≡ Some h → Concerns s p.name d → d < s.k
         → SentWell Owes s.k (act_on s call op d h p decision).step.process (act_on s call op d h p decision).step.sent → (act_on s call op d h p decision).step.process.name ≡ p.name
-        → AppliesSettled s settled p (act_on s call op d h p decision).step → SettlesNext s settled p (act_on s call op d h p decision).step → Holding s settled old (act_on s call op d h p decision).step.process
+        → AppliesSettled s settled p (act_on s call op d h p decision).step → SettlesNext s settled p (act_on s call op d h p decision).step
+        → Holding s settled old (act_on s call op d h p decision).step.process
     act-holds call op d h (decides.Answer r) heads concerns below well same applies next = holding
     act-holds call op d h (decides.Retry n) heads concerns below well same applies next = holding
     act-holds call op d h decides.NoSpace heads concerns below well same applies next = holding
@@ -182,7 +187,8 @@ module _ (s : Dimensions) (settled : ℕ → List Update) (write : SettledWrite 
     by (Some h) rest = handed-holds (nat_le h.number (replica_of p d).applied) d h p holding
 
   -- whatever a process treats
-  pub treats-hold : (p : Process) (x : ProcessId) (t : ProcessStep) → Seated s p x → IsProcess s x → knows_dead p.known x ≡ false → Treats s p t → Ready s settled p → Inside s p.name → NextIsNew s p → AppliesSettled s settled p t → SettlesNext s settled p t
+  pub treats-hold : (p : Process) (x : ProcessId) (t : ProcessStep) → Seated s p x → IsProcess s x → knows_dead p.known x ≡ false → Treats s p t
+      → Ready s settled p → Inside s p.name → NextIsNew s p → AppliesSettled s settled p t → SettlesNext s settled p t
       → Holding s settled old p → Holding s settled old t.process
   treats-hold p x _ seated in_group living (Asks call op bytes) ready inside new applies next holding =
       let well = step-treats s p x _ seated (Asks call op bytes) in

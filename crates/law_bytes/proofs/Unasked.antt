@@ -17,7 +17,8 @@ use Rattle.law_bytes.proofs.Rising.{among-range, each-among, filter-among}
 use Rattle.group_message.specs.declared.message.Message.TheVariants as tells
 
 -- a data process never opens one: it would ask itself
-pub never-asks : (s : Dimensions) (e block : ℕ) (p : Process) → p.name ≡ DataNode e → e < s.k → knows_dead p.known (DataNode e) ≡ false → SentWell Owes s.k (start_session s block p).process (start_session s block p).sent
+pub never-asks : (s : Dimensions) (e block : ℕ) (p : Process) → p.name ≡ DataNode e → e < s.k → knows_dead p.known (DataNode e) ≡ false
+    → SentWell Owes s.k (start_session s block p).process (start_session s block p).sent
     → (start_session s block p).process.name ≡ p.name → ⊥
 never-asks s e block p name inside living well same = subst IsParity (same ∙ name) (each-among (λ d. IsParity (start_session s block p).process.name) (left_of s p) e asked there) where
   l : ℕ

@@ -105,7 +105,8 @@ added-both f g h a b c sums first next = record {
 }
 
 module _ (s : Dimensions) (name : ProcessId) (d : ℕ) where
-  space-one : (body : Body) (space : List ℕ) → length space ≡ space_of s → (u : Update) → u.body ≡ body → WritesBytes s u → IsAdded (λ x. share s name d (change body x)) space (space_added s name d body space)
+  space-one : (body : Body) (space : List ℕ) → length space ≡ space_of s → (u : Update) → u.body ≡ body → WritesBytes s u
+      → IsAdded (λ x. share s name d (change body x)) space (space_added s name d body space)
   space-one (Put flags until run delta) space long u is writes = record {
     long = added-long run.at (coded_delta s name d delta) space within;
     bytes = λ x below. byte_added run.at (coded_delta s name d delta) space within x ∙ ap (bit_xor (get_or space x 0)) (shifted-share s name d run.at delta x);
@@ -118,7 +119,8 @@ module _ (s : Dimensions) (name : ProcessId) (d : ℕ) where
   space-one Remove space long u is writes = added-nothing (λ x. share s name d 0) space (λ x. share-zero s name d)
   space-one (Touch until) space long u is writes = added-nothing (λ x. share s name d 0) space (λ x. share-zero s name d)
 
-  shares : (u : Update) (us : List Update) (x : ℕ) → WritesBytes s u → Each (WritesBytes s) us → bit_xor (share s name d (change u.body x)) (share s name d (value us x)) ≡ share s name d (value (u ∷ us) x)
+  shares : (u : Update) (us : List Update) (x : ℕ) → WritesBytes s u → Each (WritesBytes s) us
+      → bit_xor (share s name d (change u.body x)) (share s name d (value us x)) ≡ share s name d (value (u ∷ us) x)
   shares u us x first rest = sym (share-sum s name d (change u.body x) (value us x) (change-byte u.body x first.bytes) (value-byte s us x rest))
 
   -- a space after updates of one partition
@@ -177,7 +179,8 @@ sum-changed n d f g y below here others =
 pub held-grows : (s : Dimensions) (name : ProcessId) (d : ℕ) (news : List Update) (us grown : ℕ → List Update) (x : ℕ) → Concerns s name d → Grows s d news us grown
     → held s name grown x ≡ bit_xor (held s name us x) (share s name d (value news x))
 held-grows s (DataNode e) d news us grown x concerns grows =
-    ap (λ (j : ℕ). value (grown j) x) (sym concerns.0) ∙ ap (λ (l : List Update). value l x) grows.here ∙ value-append (us d) news x ∙ ap (λ (j : ℕ). bit_xor (value (us j) x) (value news x)) concerns.0
+    ap (λ (j : ℕ). value (grown j) x) (sym concerns.0) ∙ ap (λ (l : List Update). value l x) grows.here ∙ value-append (us d) news x
+    ∙ ap (λ (j : ℕ). bit_xor (value (us j) x) (value news x)) concerns.0
 held-grows s (ParityNode i) d news us grown x concerns grows =
     sum-changed s.k d (λ e. product (coefficient s.m i e) (value (us e) x)) (λ e. product (coefficient s.m i e) (value (grown e) x)) (product (coefficient s.m i d) (value news x)) concerns
     (ap (λ (l : List Update). product (coefficient s.m i d) (value l x)) grows.here ∙ ap (product (coefficient s.m i d)) (value-append (us d) news x)
@@ -199,7 +202,8 @@ held-same s (DataNode e) us vs x inside same = ap (λ (l : List Update). value l
 held-same s (ParityNode i) us vs x inside same = sum_same s.k _ _ (λ e below. ap (λ (l : List Update). product (coefficient s.m i e) (value l x)) (same e below))
 
 -- an area to which what it grew by was added
-pub area-grown : (from len : ℕ) (f g h : ℕ → ℕ) (before after : List ℕ) → IsArea from len f before → IsAdded (λ x. g (from + x)) before after → ((x : ℕ) → h x ≡ bit_xor (f x) (g x)) → IsArea from len h after
+pub area-grown : (from len : ℕ) (f g h : ℕ → ℕ) (before after : List ℕ) → IsArea from len f before → IsAdded (λ x. g (from + x)) before after
+    → ((x : ℕ) → h x ≡ bit_xor (f x) (g x)) → IsArea from len h after
 area-grown from len f g h before after area added grows = record {
   long = added.long ∙ area.long;
   same = λ x below.

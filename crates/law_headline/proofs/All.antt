@@ -69,7 +69,8 @@ pub record All (s : Dimensions) (calls : List Call) (v : State) : Type 0 where
 
 -- what is newly rebuilt, told of the process before the step
 rebuilt-at : (s : Dimensions) (settled : ℕ → List Update) (p q : Process) (x : ProcessId) → p.name ≡ x → knows_dead p.known x ≡ false
-    → ((d : ℕ) (h : Head) → d < s.k → head_at p d ≡ Some h → IsKeeper d x) → ((d b : ℕ) (bytes : List ℕ) → d < s.k → rebuilt_block p.as_leader d b ≡ None → rebuilt_block q.as_leader d b ≡ Some bytes → knows_dead p.known (DataNode d) ≡ true → HeadsIt p d)
+    → ((d : ℕ) (h : Head) → d < s.k → head_at p d ≡ Some h → IsKeeper d x)
+    → ((d b : ℕ) (bytes : List ℕ) → d < s.k → rebuilt_block p.as_leader d b ≡ None → rebuilt_block q.as_leader d b ≡ Some bytes → knows_dead p.known (DataNode d) ≡ true → HeadsIt p d)
     → ((d : ℕ) → d < s.k → (h : Head) → head_at p d ≡ Some h → RebuildsStill d p q) → ((d : ℕ) → d < s.k → Since d p q) → RebuildsGiven s settled p q → RebuildsAt s settled p q
 rebuilt-at s settled p q x name self keeps leads still since gives d b bytes below none some = by (still d below head.0 head.1) where
   gave : GivenAt s settled p.known q d b bytes
@@ -121,8 +122,10 @@ module _ (s : Dimensions) (shaped : IsShape s) where
     keeps-own : (d : ℕ) (h : Head) → d < s.k → head_at (v.process p) d ≡ Some h → IsKeeper d p
     keeps-own d h below heads = head-keeps (v.process p) d h p (all.group.stands.carried.members.sits p d pin lives below) heads
 
-    given-at : (settled : ℕ → List Update) (q : Process) → ((d b : ℕ) (bytes : List ℕ) → d < s.k → rebuilt_block (v.process p).as_leader d b ≡ None → rebuilt_block q.as_leader d b ≡ Some bytes → knows_dead (v.process p).known (DataNode d) ≡ true → HeadsIt (v.process p) d)
-        → ((d : ℕ) → d < s.k → (h : Head) → head_at (v.process p) d ≡ Some h → RebuildsStill d (v.process p) q) → ((d : ℕ) → d < s.k → Since d (v.process p) q) → RebuildsGiven s settled (v.process p) q → RebuildsAt s settled (v.process p) q
+    given-at : (settled : ℕ → List Update) (q : Process)
+        → ((d b : ℕ) (bytes : List ℕ) → d < s.k → rebuilt_block (v.process p).as_leader d b ≡ None → rebuilt_block q.as_leader d b ≡ Some bytes → knows_dead (v.process p).known (DataNode d) ≡ true → HeadsIt (v.process p) d)
+        → ((d : ℕ) → d < s.k → (h : Head) → head_at (v.process p) d ≡ Some h → RebuildsStill d (v.process p) q) → ((d : ℕ) → d < s.k → Since d (v.process p) q)
+        → RebuildsGiven s settled (v.process p) q → RebuildsAt s settled (v.process p) q
     given-at settled q = rebuilt-at s settled (v.process p) q p (all.group.stands.carried.members.named p pin) (all.group.stands.carried.members.not_self p pin lives) keeps-own
 
     -- a process that treats something
@@ -148,7 +151,8 @@ module _ (s : Dimensions) (shaped : IsShape s) where
       pub treated-since : (d : ℕ) → d < s.k → Since d (v.process p) t.process
       treated-since d below = subst (Since d (v.process p)) acts.process (both d below).1
 
-  asked : (calls : List Call) (v w : State) (p : ProcessId) (c : Call) → IsProcess s p → IsUp s v → v.dead p ≡ false → IsNextCall calls c → All s calls v → Acted s v w p (ask_process s c.name c.op (v.process p)).step
+  asked : (calls : List Call) (v w : State) (p : ProcessId) (c : Call) → IsProcess s p → IsUp s v → v.dead p ≡ false → IsNextCall calls c → All s calls v
+      → Acted s v w p (ask_process s c.name c.op (v.process p)).step
       → All s (calls ++ call_if (is_issued (ask_process s c.name c.op (v.process p)).answer) c) w
   asked calls v w p c pin up lives next all acts = record {
     group = offs.asked s shaped calls v w p c pin up lives next all.group acts rebuilds;
@@ -177,11 +181,13 @@ module _ (s : Dimensions) (shaped : IsShape s) where
     known : step.process.known ≡ (v.process p).known
     known = (step-treats s (v.process p) p step (seated calls v all p pin lives) treats).same.known
 
-    leads-lost : (h : Head) → head_at (v.process p) (home_of (key_of c.op.act) s.k) ≡ Some h → (run : Run) (b : ℕ) → found_at s (home_of (key_of c.op.act) s.k) (v.process p) (v.process p).name run ≡ Missing b → LeadsLost s (v.process p)
+    leads-lost : (h : Head) → head_at (v.process p) (home_of (key_of c.op.act) s.k) ≡ Some h → (run : Run) (b : ℕ)
+        → found_at s (home_of (key_of c.op.act) s.k) (v.process p) (v.process p).name run ≡ Missing b → LeadsLost s (v.process p)
     leads-lost h heads run b missing = reaching.leads-lost s v all.group.stands.carried.members p pin lives (home_of (key_of c.op.act) s.k) h run b below heads p refl
         (ap (λ (y : ProcessId). found_at s (home_of (key_of c.op.act) s.k) (v.process p) y run) (sym (all.group.stands.carried.members.named p pin)) ∙ missing)
 
-    leads : (d b : ℕ) (bytes : List ℕ) → d < s.k → rebuilt_block (v.process p).as_leader d b ≡ None → rebuilt_block step.process.as_leader d b ≡ Some bytes → knows_dead (v.process p).known (DataNode d) ≡ true → HeadsIt (v.process p) d
+    leads : (d b : ℕ) (bytes : List ℕ) → d < s.k → rebuilt_block (v.process p).as_leader d b ≡ None → rebuilt_block step.process.as_leader d b ≡ Some bytes
+        → knows_dead (v.process p).known (DataNode d) ≡ true → HeadsIt (v.process p) d
     leads d b bytes low none some_bytes lost = by (ask-news s c.name c.op (home_of (key_of c.op.act) s.k) (v.process p) (head_at (v.process p) (home_of (key_of c.op.act) s.k)) leads-lost) where
       by : ((e : ℕ) → NoneNew e (v.process p) step.process) ⊎ LeadsLost s (v.process p) → HeadsIt (v.process p) d
       by (inl new) = absurd (cc (some_bytes, new d b none))
@@ -192,7 +198,8 @@ module _ (s : Dimensions) (shaped : IsShape s) where
         (λ d low h heads. ask-rebuilds s d c.name c.op (home_of (key_of c.op.act) s.k) (v.process p) (head_at (v.process p) (home_of (key_of c.op.act) s.k)))
         (treated-since calls v all p pin lives w step more grown up treats acts both) (treated-given calls v all p pin lives w step more grown up treats acts both)
 
-  collected : (calls : List Call) (v w : State) (p : ProcessId) (caller call : ℕ) → IsProcess s p → IsUp s v → v.dead p ≡ false → All s calls v → Acted s v w p (collect_from caller call (v.process p) (range_with_len 0 s.k)).step → All s calls w
+  collected : (calls : List Call) (v w : State) (p : ProcessId) (caller call : ℕ) → IsProcess s p → IsUp s v → v.dead p ≡ false → All s calls v
+      → Acted s v w p (collect_from caller call (v.process p) (range_with_len 0 s.k)).step → All s calls w
   collected calls v w p caller call pin up lives all acts = record {
     group = offs.collected s shaped calls v w p caller call pin up lives all.group acts;
     fits = treated-fits calls v all p pin lives w step calls (λ d a h fine. fine) up (Collects caller call) acts both;
@@ -218,7 +225,8 @@ module _ (s : Dimensions) (shaped : IsShape s) where
     both : LeavesEach s calls v w p
     both = reaching.flushes-both (FineIn s calls) (fine-laws s calls) s shaped v w p pin up lives all.group.stands.carried.members all.group.stands.reach acts
 
-  received : (calls : List Call) (v u w : State) (x p : ProcessId) (m : Message) → IsProcess s x → IsProcess s p → x ≢ p → IsUp s v → v.dead p ≡ false → All s calls v → Popped s v u x p m → Acted s u w p (receive s x m (v.process p)) → All s calls w
+  received : (calls : List Call) (v u w : State) (x p : ProcessId) (m : Message) → IsProcess s x → IsProcess s p → x ≢ p → IsUp s v → v.dead p ≡ false
+      → All s calls v → Popped s v u x p m → Acted s u w p (receive s x m (v.process p)) → All s calls w
   received calls v u w x p m xin pin apart up lives all pops acts = record {
     group = offs.received s shaped calls v u w x p m xin pin apart up lives all.group pops acts rebuilds;
     fits = ((fits-keeps s shaped).receives v u w x p m xin pin apart up lives (all.group.stands.carried.members, all.fits) pops acts).1;
@@ -246,7 +254,9 @@ module _ (s : Dimensions) (shaped : IsShape s) where
       applies = applies-after s shaped calls calls (λ d a h fine. fine) v w p (receive s x m (v.process p)) pin lives all.group.stands acts.process same dead after both;
     }
 
-    leads : (d b : ℕ) (bytes : List ℕ) → d < s.k → rebuilt_block (v.process p).as_leader d b ≡ None → rebuilt_block (receive s x m (v.process p)).process.as_leader d b ≡ Some bytes → knows_dead (v.process p).known (DataNode d) ≡ true → HeadsIt (v.process p) d
+    leads : (d b : ℕ) (bytes : List ℕ) → d < s.k → rebuilt_block (v.process p).as_leader d b ≡ None
+        → rebuilt_block (receive s x m (v.process p)).process.as_leader d b ≡ Some bytes → knows_dead (v.process p).known (DataNode d) ≡ true
+        → HeadsIt (v.process p) d
     leads d b bytes low none some_bytes lost = by (receive-news s x m (v.process p)) where
       of-open : (n : ℕ) (g : Gathering) → open_session (v.process p).as_leader n ≡ Some g → HeadsIt (v.process p) d
       of-open n g opens =

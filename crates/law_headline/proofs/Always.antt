@@ -34,7 +34,8 @@ sound-moved s shaped calls v w whole (Failed p keep pin dies) sound = sound-died
 module _ (s : Dimensions) (always : WholeAlways s) where
   pub sound-always : (es : List Event) → IsRun s es → LinksSound s (state_of (book_of s es).history)
   sound-always es run = book_always s (λ b. LinksSound s (state_of b.history)) (sound-began s run.0 (state_of (no_history s)) (runs_move s).opens) next es run where
-    next : (done : List Event) (e : Event) → IsRun s done → IsRun s (done ++ e ∷ []) → MayCome (after s done) e → LinksSound s (state_of (book_of s done).history) → LinksSound s (state_of (booked (book_of s done) e).history)
+    next : (done : List Event) (e : Event) → IsRun s done → IsRun s (done ++ e ∷ []) → MayCome (after s done) e
+        → LinksSound s (state_of (book_of s done).history) → LinksSound s (state_of (booked (book_of s done) e).history)
     next done e ran more may sound =
         sound-moved s ran.0 (book_of s done).issued (state_of (book_of s done).history) (state_of (prolonged (book_of s done).history e)) (always done ran)
         (subst (λ (h : History). Moves s (state_of h) (state_of (prolonged h e))) (sym (book-history (no_book s) done)) ((runs_move s).moves done e ran may)) sound

@@ -54,7 +54,8 @@ module _ (F : ℕ → ℕ → List Update → Type 0) (s : Dimensions) (v w : St
     (both : (d : ℕ) → d < s.k → PartitionReaches F s w d × Since d (v.process p) (w.process p) × GrewBy d (v.settled d) (w.settled d) (w.process p)
     × FollowsBy d (v.settled d) (replica_of (v.process p) d) (w.settled d) (w.process p) × (¬ (IsKeeper d p) → replica_of (w.process p) d ≡ replica_of (v.process p) d)) where
   empty-goes : (settled : List Update) (r : Replica) → r ≡ empty_replica → GoesOn settled r
-  empty-goes settled r empty = subst (GoesOn settled) (sym empty) (λ m short within. let none : m ≡ 0 = omega (arith, short) in ap (λ (k : ℕ). take k []) none ∙ sym (ap (λ (k : ℕ). take k (drop 0 settled)) none))
+  empty-goes settled r empty =
+      subst (GoesOn settled) (sym empty) (λ m short within. let none : m ≡ 0 = omega (arith, short) in ap (λ (k : ℕ). take k []) none ∙ sym (ap (λ (k : ℕ). take k (drop 0 settled)) none))
 
   log-goes : (d : ℕ) → d < s.k → IsKeeper d p → GoesOn (w.settled d) (replica_of (v.process p) d)
   log-goes d below keeps = by (both d below).2 where

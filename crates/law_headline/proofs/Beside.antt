@@ -90,7 +90,8 @@ module _ (s : Dimensions) (shaped : IsShape s) where
     sound-treated w p t pin up lives treats sound acts =
         (sound_kept s shaped).treats v w p t pin lives treats whole.carried.members ((members.keeps s shaped).treats v w p t pin up lives treats whole.carried.members acts) whole.bytes (needs-sound p pin lives) sound acts
 
-    pub sound-received : (u w : State) (x p : ProcessId) (m : Message) → IsProcess s x → IsProcess s p → x ≢ p → IsUp s v → v.dead p ≡ false → LinksSound s v → Popped s v u x p m → Acted s u w p (receive s x m (v.process p)) → LinksSound s w
+    pub sound-received : (u w : State) (x p : ProcessId) (m : Message) → IsProcess s x → IsProcess s p → x ≢ p → IsUp s v → v.dead p ≡ false → LinksSound s v
+        → Popped s v u x p m → Acted s u w p (receive s x m (v.process p)) → LinksSound s w
     sound-received u w x p m xin pin apart up lives sound pops acts =
         (sound_kept s shaped).receives v u w x p m xin pin apart lives whole.carried.members ((members.keeps s shaped).receives v u w x p m xin pin apart up lives whole.carried.members pops acts) whole.bytes sound pops acts
 
@@ -105,6 +106,7 @@ module _ (s : Dimensions) (shaped : IsShape s) where
   sound-died v w p keep pin sound dies = (sound_kept s shaped).dies v w p keep pin sound dies
 
 -- of a group, in its own words
-pub deliveries-fit : (h : History) (s : Dimensions) (calls : List Call) → GroupStands s calls (state_of h) → h.world.shape ≡ s → (from to : ProcessId) (m : Message) (rest : List Message) → IsProcess s from → IsProcess s to → from ≢ to → Lives h.world to
+pub deliveries-fit : (h : History) (s : Dimensions) (calls : List Call) → GroupStands s calls (state_of h) → h.world.shape ≡ s
+    → (from to : ProcessId) (m : Message) (rest : List Message) → IsProcess s from → IsProcess s to → from ≢ to → Lives h.world to
     → link h.world from to ≡ m ∷ rest → SameBlock m (process_of h.world to) → RowAsked from m (process_of h.world to) → Fits s from m (process_of h.world to)
 deliveries-fit h s calls stands shape from to m rest fin tin apart lives first same asked = messages_fit s calls (state_of h) stands from to m rest fin tin apart lives.1 first same asked

@@ -46,7 +46,8 @@ module _ (s : Dimensions) (d : ℕ) where
       (long-as d p told refl (ap last_of (at-put-other empty_replica p.replicas e d (with_update u (replica_of p e)) (λ same. other (sym same)))))
       (long-judge s d e told)
 
-  pub long-act : (name : CallName) (op : Asked) (e : ℕ) (h : Head) (p : Process) (decision : Decision) → ((body : Body) (outcome : Outcome) → decision ≡ decides.Issue body outcome → e ≢ d) → Long d p (act_on s name op e h p decision).step.process
+  pub long-act : (name : CallName) (op : Asked) (e : ℕ) (h : Head) (p : Process) (decision : Decision)
+      → ((body : Body) (outcome : Outcome) → decision ≡ decides.Issue body outcome → e ≢ d) → Long d p (act_on s name op e h p decision).step.process
   long-act name op e h p (decides.Answer r) other = long-refl d p
   long-act name op e h p (decides.Retry n) other = long-refl d p
   long-act name op e h p decides.NoSpace other = long-refl d p

@@ -68,7 +68,8 @@ module _ (s : Dimensions) (shaped : IsShape s) where
       (nothing-next s w.settled (v.process p) (collect_from caller call (v.process p) (range_with_len 0 s.k)).step (λ d. (still-collect s d caller call (v.process p) (range_with_len 0 s.k)).quiet))
       (λ d. long-collect s d caller call (v.process p))
 
-  pub flushed : (calls : List Call) (v w : State) (p : ProcessId) → IsProcess s p → IsUp s v → v.dead p ≡ false → Whole s calls v → Acted s v w p (flush_process s (v.process p)).step → HeadsOff s v → HeadsOff s w
+  pub flushed : (calls : List Call) (v w : State) (p : ProcessId) → IsProcess s p → IsUp s v → v.dead p ≡ false → Whole s calls v
+      → Acted s v w p (flush_process s (v.process p)).step → HeadsOff s v → HeadsOff s w
   flushed calls v w p pin up lives whole acts =
       treated-long calls v w p (flush_process s (v.process p)).step pin up lives Flushes whole acts
       (reaching.flushes-both (FineIn s calls) (fine-laws s calls) s shaped v w p pin up lives whole.carried.members whole.reach acts)
@@ -91,7 +92,8 @@ began s v starts i d iin living below h b heads unbuilt = absurd (cc (ap (λ (p 
   none = at-replicate None s.k d
 
 -- bytes of such a block at a number are those at the applied number
-pub block-stays : (s : Dimensions) (d : ℕ) (settled : List Update) (p : Process) → SameValues s d settled p → (h : Head) (b n : ℕ) (bytes : List ℕ) → head_at p d ≡ Some h → rebuilt_block p.as_leader d b ≡ None
+pub block-stays : (s : Dimensions) (d : ℕ) (settled : List Update) (p : Process) → SameValues s d settled p → (h : Head) (b n : ℕ) (bytes : List ℕ)
+    → head_at p d ≡ Some h → rebuilt_block p.as_leader d b ≡ None
     → h.inherited ≤ n → n ≤ (replica_of p d).applied → IsBlock s b (value (take n settled)) bytes → IsBlock s b (value (take (replica_of p d).applied settled)) bytes
 block-stays s d settled p same h b n bytes heads unbuilt from to block = record {
   long = block.long;

@@ -66,7 +66,8 @@ front-is settled r applied =
     take-append-le r.applied (take r.applied settled) r.log (omega (arith, long)) ∙ take_all r.applied (take r.applied settled) (omega (arith, long))
 
 -- a replica of a history
-pub replica-of-history : (F : ℕ → ℕ → List Update → Type 0) (d : ℕ) (settled : List Update) (r : Replica) (head : Option Head) → ReplicaFits F d settled r head → IsReplicaOf r.applied (history settled r) r
+pub replica-of-history : (F : ℕ → ℕ → List Update → Type 0) (d : ℕ) (settled : List Update) (r : Replica) (head : Option Head) → ReplicaFits F d settled r head
+    → IsReplicaOf r.applied (history settled r) r
 replica-of-history F d settled r head fits = record {
   applied = refl;
   within = let long = length-history settled r fits.applied in omega (arith, long);

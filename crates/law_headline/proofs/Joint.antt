@@ -143,7 +143,8 @@ module _ (s : Dimensions) (shaped : IsShape s) where
   ticketed-issued e true u t = accepted-from u.outcome
   ticketed-issued e false u t = refl
 
-  answer-issued : (name : CallName) (op : Asked) (e : ℕ) (h : Head) (p : Process) (body : Body) (outcome : Outcome) (decision : Decision) → decision ≡ decides.Issue body outcome → is_issued (act_on s name op e h p decision).answer ≡ true
+  answer-issued : (name : CallName) (op : Asked) (e : ℕ) (h : Head) (p : Process) (body : Body) (outcome : Outcome) (decision : Decision)
+      → decision ≡ decides.Issue body outcome → is_issued (act_on s name op e h p decision).answer ≡ true
   answer-issued name op e h p body outcome decision is =
       let u : Update = update_of name op e body outcome p in
       ap (λ (x : Decision). is_issued (act_on s name op e h p x).answer) is
@@ -191,10 +192,13 @@ module _ (s : Dimensions) (shaped : IsShape s) where
     pub asked-leaves : LeavesEach s more v w p
     asked-leaves = reaching.asks-both (FineIn s more) (fine-laws s more) s shaped v w p c.name c.op pin up lives next.bytes issues whole.carried.members (reach-weaker (FineIn s calls) (FineIn s more) more-fine s v whole.reach) acts
 
-    after_last : (d : ℕ) (body : Body) (outcome : Outcome) → (replica_of (v.process p) d).applied ≤ length (v.settled d) → (update_of c.name c.op d body outcome (v.process p)).number ≡ 1 + length (history (v.settled d) (replica_of (v.process p) d))
+    after_last : (d : ℕ) (body : Body) (outcome : Outcome) → (replica_of (v.process p) d).applied ≤ length (v.settled d)
+        → (update_of c.name c.op d body outcome (v.process p)).number ≡ 1 + length (history (v.settled d) (replica_of (v.process p) d))
     after_last d body outcome applied = let long = length-history (v.settled d) (replica_of (v.process p) d) applied in omega (arith, long)
 
-    settles : (o : Option Head) → head_at (v.process p) home ≡ o → ((d : ℕ) → d < s.k → w.settled d ≡ settled_with (ask_head s c.name c.op home (v.process p) o).step.settled d (v.settled d)) → SettlesNext s w.settled (v.process p) (ask_head s c.name c.op home (v.process p) o).step
+    settles : (o : Option Head) → head_at (v.process p) home ≡ o
+        → ((d : ℕ) → d < s.k → w.settled d ≡ settled_with (ask_head s c.name c.op home (v.process p) o).step.settled d (v.settled d))
+        → SettlesNext s w.settled (v.process p) (ask_head s c.name c.op home (v.process p) o).step
     settles None heads is = nothing-next s w.settled (v.process p) (ask_head s c.name c.op home (v.process p) None).step (λ d. refl)
     settles (Some h) heads is =
         let reached : ReplicaReaches (FineIn s calls) home (v.settled home) (v.process p) = asked-head h heads in
@@ -279,7 +283,8 @@ module _ (s : Dimensions) (shaped : IsShape s) where
     exact = (exact_kept s shaped).opens v starts;
   }
 
-  pub collected : (calls : List Call) (v w : State) (p : ProcessId) (caller call : ℕ) → IsProcess s p → IsUp s v → v.dead p ≡ false → Whole s calls v → Acted s v w p (collect_from caller call (v.process p) (range_with_len 0 s.k)).step
+  pub collected : (calls : List Call) (v w : State) (p : ProcessId) (caller call : ℕ) → IsProcess s p → IsUp s v → v.dead p ≡ false → Whole s calls v
+      → Acted s v w p (collect_from caller call (v.process p) (range_with_len 0 s.k)).step
       → RebuildsRight s w.settled (v.process p) (collect_from caller call (v.process p) (range_with_len 0 s.k)).step.process → Whole s calls w
   collected calls v w p caller call pin up lives whole acts rebuilds =
       treated calls calls (λ d a h fine. fine) v w p (collect_from caller call (v.process p) (range_with_len 0 s.k)).step pin up lives (Collects caller call) whole acts

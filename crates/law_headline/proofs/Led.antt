@@ -87,12 +87,14 @@ module _ (s : Dimensions) where
     handed true h = refl
     handed false h = refl
 
-    by : (o : Option Held) → (collect_from caller call p ds).step.process.as_leader.sessions ≡ p.as_leader.sessions → (collect_held d o p (collect_from caller call p ds)).step.process.as_leader.sessions ≡ p.as_leader.sessions
+    by : (o : Option Held) → (collect_from caller call p ds).step.process.as_leader.sessions ≡ p.as_leader.sessions
+        → (collect_held d o p (collect_from caller call p ds)).step.process.as_leader.sessions ≡ p.as_leader.sessions
     by None rest = rest
     by (Some h) rest = handed (nat_le h.number (replica_of p d).applied) h
 
   -- a call that is asked leaves the sessions, or its head leads all lost partitions
-  act-sessions : (name : CallName) (op : Asked) (d : ℕ) (h : Head) (p : Process) (decision : Decision) → RestsWell (replica_of p d) (LeadsLost s p) decision → ((act_on s name op d h p decision).step.process.as_leader.sessions ≡ p.as_leader.sessions) ⊎ LeadsLost s p
+  act-sessions : (name : CallName) (op : Asked) (d : ℕ) (h : Head) (p : Process) (decision : Decision) → RestsWell (replica_of p d) (LeadsLost s p) decision
+      → ((act_on s name op d h p decision).step.process.as_leader.sessions ≡ p.as_leader.sessions) ⊎ LeadsLost s p
   act-sessions name op d h p (decides.Answer r) well = inl refl
   act-sessions name op d h p (decides.Retry n) well = inl refl
   act-sessions name op d h p decides.NoSpace well = inl refl
@@ -109,14 +111,16 @@ module _ (s : Dimensions) where
       act-sessions name op d h p (decide (space_of s) h.inherited (replica_of p d) op (found_at s d p p.name))
       (decides-well (space_of s) (replica_of p d) op (found_at s d p p.name) (LeadsLost s p) (leads h refl) h.inherited)
 
-  acted-led : (v w : State) (p : ProcessId) (q : Process) → w.process p ≡ q → ((x : ProcessId) → IsProcess s x → x ≢ p → w.process x ≡ v.process x) → ((x : ProcessId) → IsProcess s x → w.dead x ≡ v.dead x) → ProcessLed s q → LostLed s v → LostLed s w
+  acted-led : (v w : State) (p : ProcessId) (q : Process) → w.process p ≡ q → ((x : ProcessId) → IsProcess s x → x ≢ p → w.process x ≡ v.process x)
+      → ((x : ProcessId) → IsProcess s x → w.dead x ≡ v.dead x) → ProcessLed s q → LostLed s v → LostLed s w
   acted-led v w p q is others dead own led x xin lives = by (same-cases x p) where
     by : (x ≡ p) ⊎ (x ≢ p) → ProcessLed s (w.process x)
     by (inl same) = subst (ProcessLed s) (sym (ap w.process same ∙ is)) own
     by (inr other) = subst (ProcessLed s) (sym (others x xin other)) (led x xin (sym (dead x xin) ∙ lives))
 
   module _ (v w : State) (members : Members s v) (p : ProcessId) (pin : IsProcess s p) (lives : v.dead p ≡ false) (led : LostLed s v) where
-    pub asked-led : (name : CallName) (op : Asked) → home_of (key_of op.act) s.k < s.k → Acted s v w p (ask_process s name op (v.process p)).step → (ask_process s name op (v.process p)).step.process.known ≡ (v.process p).known
+    pub asked-led : (name : CallName) (op : Asked) → home_of (key_of op.act) s.k < s.k → Acted s v w p (ask_process s name op (v.process p)).step
+        → (ask_process s name op (v.process p)).step.process.known ≡ (v.process p).known
         → SessionsFit s w → ((d : ℕ) → d < s.k → Since d (v.process p) (w.process p)) → LostLed s w
     asked-led name op below acts known fits since =
         acted-led v w p (ask_process s name op (v.process p)).step.process acts.process acts.others acts.dead
@@ -125,21 +129,26 @@ module _ (s : Dimensions) where
         own-since : (d : ℕ) → d < s.k → Since d (v.process p) (ask_process s name op (v.process p)).step.process
         own-since d low = subst (Since d (v.process p)) acts.process (since d low)
 
-        leads : (h : Head) → head_at (v.process p) (home_of (key_of op.act) s.k) ≡ Some h → (run : Run) (b : ℕ) → found_at s (home_of (key_of op.act) s.k) (v.process p) (v.process p).name run ≡ Missing b → LeadsLost s (v.process p)
+        leads : (h : Head) → head_at (v.process p) (home_of (key_of op.act) s.k) ≡ Some h → (run : Run) (b : ℕ)
+            → found_at s (home_of (key_of op.act) s.k) (v.process p) (v.process p).name run ≡ Missing b → LeadsLost s (v.process p)
         leads h heads run b missing = leads-lost s v members p pin lives (home_of (key_of op.act) s.k) h run b below heads p refl
             (ap (λ (y : ProcessId). found_at s (home_of (key_of op.act) s.k) (v.process p) y run) (sym (members.named p pin)) ∙ missing)
 
-        by : ((ask_process s name op (v.process p)).step.process.as_leader.sessions ≡ (v.process p).as_leader.sessions) ⊎ LeadsLost s (v.process p) → ProcessLed s (ask_process s name op (v.process p)).step.process
+        by : ((ask_process s name op (v.process p)).step.process.as_leader.sessions ≡ (v.process p).as_leader.sessions) ⊎ LeadsLost s (v.process p)
+            → ProcessLed s (ask_process s name op (v.process p)).step.process
         by (inl same) = same-led (v.process p) (ask_process s name op (v.process p)).step.process same own-since (led p pin lives)
         by (inr all) = leads-led (v.process p) (ask_process s name op (v.process p)).step.process all known
             (subst (λ (y : Process). Each (IsFor s y.known) y.as_leader.sessions) acts.process (fits p pin (acts.dead p pin ∙ lives))) own-since
 
-    pub same-sessions-led : (t : ProcessStep) → Acted s v w p t → t.process.as_leader.sessions ≡ (v.process p).as_leader.sessions → ((d : ℕ) → d < s.k → Since d (v.process p) (w.process p)) → LostLed s w
+    pub same-sessions-led : (t : ProcessStep) → Acted s v w p t → t.process.as_leader.sessions ≡ (v.process p).as_leader.sessions
+        → ((d : ℕ) → d < s.k → Since d (v.process p) (w.process p)) → LostLed s w
     same-sessions-led t acts same since = acted-led v w p t.process acts.process acts.others acts.dead
         (same-led (v.process p) t.process same (λ d low. subst (Since d (v.process p)) acts.process (since d low)) (led p pin lives)) led
 
-    pub received-led : (u : State) (x : ProcessId) (m : Message) → Popped s v u x p m → Acted s u w p (receive s x m (v.process p)) → ((d : ℕ) → d < s.k → Since d (v.process p) (w.process p)) → LostLed s w
-    received-led u x m pops acts since = acted-led v w p (receive s x m (v.process p)).process acts.process (λ q qin other. acts.others q qin other ∙ pops.processes q qin) (λ q qin. acts.dead q qin ∙ pops.dead q qin)
+    pub received-led : (u : State) (x : ProcessId) (m : Message) → Popped s v u x p m → Acted s u w p (receive s x m (v.process p))
+        → ((d : ℕ) → d < s.k → Since d (v.process p) (w.process p)) → LostLed s w
+    received-led u x m pops acts since =
+        acted-led v w p (receive s x m (v.process p)).process acts.process (λ q qin other. acts.others q qin other ∙ pops.processes q qin) (λ q qin. acts.dead q qin ∙ pops.dead q qin)
         (borne-led (v.process p) (receive s x m (v.process p)).process (λ n. bears-receive s n x m (v.process p)) (λ d low. subst (Since d (v.process p)) acts.process (since d low)) (led p pin lives)) led
 
   pub died-led : (v w : State) (p : ProcessId) (keep : ℕ) → Died s v w p keep → LostLed s v → LostLed s w

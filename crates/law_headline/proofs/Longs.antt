@@ -169,7 +169,8 @@ module _ (s : Dimensions) (d : ℕ) where
   Spares (tells.Adopt r e base list) p = e.0 ≡ d → nat_le (at 0 p.ranks e.0) r.0 ≡ true → ⊥
   Spares _ p = Unit {0}
 
-  unless-taken : (e r : ℕ) (p : Process) (t : ProcessStep) → (e ≡ d → nat_le (at 0 p.ranks e) r ≡ true → ⊥) → (e ≢ d → Long d p (unless_stale r e p t).process) → Long d p (unless_stale r e p t).process
+  unless-taken : (e r : ℕ) (p : Process) (t : ProcessStep) → (e ≡ d → nat_le (at 0 p.ranks e) r ≡ true → ⊥) → (e ≢ d → Long d p (unless_stale r e p t).process)
+      → Long d p (unless_stale r e p t).process
   unless-taken e r p t never long = by (cases_eq e d) where
     by : (e ≡ d) ⊎ (e ≢ d) → Long d p (unless_stale r e p t).process
     by (inr other) = long other
@@ -177,7 +178,8 @@ module _ (s : Dimensions) (d : ℕ) where
 
   pub long-receive : (x : ProcessId) (m : Message) (p : Process) → Spares m p → Long d p (receive s x m p).process
   long-receive x (tells.Update r e u stable) p spares = unless-taken e.0 r.0 p (ack_to x r.0 e.0 u.number (update_taken s e.0 u stable p)) spares (λ other. long-update x r.0 e.0 u stable p other)
-  long-receive x (tells.Adopt r e base list) p spares = unless-taken e.0 r.0 p (ack_to x r.0 e.0 (base + length list) (log_adopted s r.0 e.0 base list p)) spares (λ other. long-adopt x r.0 e.0 base list p other)
+  long-receive x (tells.Adopt r e base list) p spares =
+      unless-taken e.0 r.0 p (ack_to x r.0 e.0 (base + length list) (log_adopted s r.0 e.0 base list p)) spares (λ other. long-adopt x r.0 e.0 base list p other)
   long-receive x (tells.Stable r e n) p spares = long-when d (nat_le (at 0 p.ranks e.0) r.0) p (quiet (apply_to s e.0 n p)) (λ takes. long-apply e.0 n p)
   long-receive (DataNode z) (tells.Ack r e n) p spares = long-refl d p
   long-receive (ParityNode i) (tells.Ack r e n) p spares = long-acknowledge i r.0 e.0 n (head_at p e.0) p refl

@@ -76,7 +76,8 @@ module _ (s : Dimensions) (calls : List Call) (v : State) (stands : GroupStands 
 
   -- the sender isn't known to be dead
   unknown-first : (m : Message) (rest : List Message) → First m rest → knows_dead (v.process p).known x ≡ false
-  unknown-first m rest first = sender-lives x (v.dead x) (knows_dead (v.process p).known x) m rest (subst (Stands x (v.dead x) (knows_dead (v.process p).known x)) first (stands.members.stands x p xin pin apart lives))
+  unknown-first m rest first =
+      sender-lives x (v.dead x) (knows_dead (v.process p).known x) m rest (subst (Stands x (v.dead x) (knows_dead (v.process p).known x)) first (stands.members.stands x p xin pin apart lives))
 
   -- a block comes of a partition that isn't lost
   block-fits : (number : ℕ) (bytes : List ℕ) → IsData x → knows_dead (v.process p).known x ≡ false → length bytes ≡ s.block → BlockFits s x (v.process p) number bytes
@@ -91,7 +92,8 @@ module _ (s : Dimensions) (calls : List Call) (v : State) (stands : GroupStands 
           let known = (among-filter (λ e. knows_dead (v.process p).known (DataNode e)) d (range_with_len 0 s.k) (subst (Among d) fits.lost (contains-among g.lost d lost))).1 in
           cc (known, ap (knows_dead (v.process p).known) (sym is) ∙ unknown)
 
-  row-asked : (session : Session) (bytes stamp : List ℕ) (i : ℕ) → x ≡ ParityNode i → RowAsked x (tells.Row session bytes stamp) (v.process p) → IfSome (open_session (v.process p).as_leader session.number) (λ g. Contains g.rows i)
+  row-asked : (session : Session) (bytes stamp : List ℕ) (i : ℕ) → x ≡ ParityNode i → RowAsked x (tells.Row session bytes stamp) (v.process p)
+      → IfSome (open_session (v.process p).as_leader session.number) (λ g. Contains g.rows i)
   row-asked session bytes stamp i is asked = subst (λ (y : ProcessId). RowAsked y (tells.Row session bytes stamp) (v.process p)) is asked
 
   pub first-fits : (m : Message) (rest : List Message) → First m rest → SameBlock m (v.process p) → RowAsked x m (v.process p) → Fits s x m (v.process p)

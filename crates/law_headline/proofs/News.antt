@@ -92,7 +92,8 @@ module _ (s : Dimensions) where
 
   pub receive-news : (x : ProcessId) (m : Message) (p : Process) → NewsOpen p (receive s x m p).process
   receive-news x (tells.Update r e u stable) p = inl (λ d. none-when d (nat_le (at 0 p.ranks e.0) r.0) p (ack_to x r.0 e.0 u.number (update_taken s e.0 u stable p)) (none-apply s d e.0 stable p))
-  receive-news x (tells.Adopt r e base list) p = inl (λ d. none-when d (nat_le (at 0 p.ranks e.0) r.0) p (ack_to x r.0 e.0 (base + length list) (log_adopted s r.0 e.0 base list p)) (none-apply s d e.0 base (with_rank e.0 r.0 p)))
+  receive-news x (tells.Adopt r e base list) p =
+      inl (λ d. none-when d (nat_le (at 0 p.ranks e.0) r.0) p (ack_to x r.0 e.0 (base + length list) (log_adopted s r.0 e.0 base list p)) (none-apply s d e.0 base (with_rank e.0 r.0 p)))
   receive-news x (tells.Stable r e n) p = inl (λ d. none-when d (nat_le (at 0 p.ranks e.0) r.0) p (quiet (apply_to s e.0 n p)) (none-apply s d e.0 n p))
   receive-news (DataNode z) (tells.Ack r e n) p = inl (λ d. none-refl d p)
   receive-news (ParityNode i) (tells.Ack r e n) p = inl (λ d. none-acknowledge s d i r.0 e.0 n (head_at p e.0) p)
@@ -107,7 +108,8 @@ module _ (s : Dimensions) where
   receive-news x (tells.Notice dead) p = inl (λ d. none-notice s d dead p)
 
   -- a call that is asked rebuilds nothing, or its head leads all lost partitions
-  act-news : (name : CallName) (op : Asked) (e : ℕ) (h : Head) (p : Process) (decision : Decision) → RestsWell (replica_of p e) (LeadsLost s p) decision → ((d : ℕ) → NoneNew d p (act_on s name op e h p decision).step.process) ⊎ LeadsLost s p
+  act-news : (name : CallName) (op : Asked) (e : ℕ) (h : Head) (p : Process) (decision : Decision) → RestsWell (replica_of p e) (LeadsLost s p) decision
+      → ((d : ℕ) → NoneNew d p (act_on s name op e h p decision).step.process) ⊎ LeadsLost s p
   act-news name op e h p (decides.Answer r) well = inl (λ d. none-refl d p)
   act-news name op e h p (decides.Retry n) well = inl (λ d. none-refl d p)
   act-news name op e h p decides.NoSpace well = inl (λ d. none-refl d p)

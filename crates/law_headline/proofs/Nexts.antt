@@ -107,11 +107,13 @@ module _ (s : Dimensions) (d : ℕ) (h : Head) (u : Update) (p : Process) (heads
   least-within = subst (λ (x : Replica). least ≤ last_of x) replica_told (least-last h (last_of (replica_of told d)) (other_parities s.m p.name p.known))
 
   -- the settled updates after it go on from what was applied
-  pub issued-next : (settled more : List Update) → (replica_of p d).applied ≤ length settled → Prolongs settled (history settled (replica_of p d)) → NumberedFrom 1 (history settled (replica_of p d) ++ u ∷ [])
+  pub issued-next : (settled more : List Update) → (replica_of p d).applied ≤ length settled → Prolongs settled (history settled (replica_of p d))
+      → NumberedFrom 1 (history settled (replica_of p d) ++ u ∷ [])
       → more ≡ settled_with (issued s d h u p).settled d settled
       → take ((replica_of p d).applied + length (settled_in d (issued s d h u p).settled)) more ≡ take (replica_of p d).applied more ++ settled_in d (issued s d h u p).settled
   issued-next settled more applied prolongs numbers is =
-      let own : settled_in d (issued s d h u p).settled ≡ up_to least (with_update u (replica_of p d)) = ap (settled_in d) issued-settles ∙ settled-in-own d (up_to least (with_update u (replica_of p d))) in
+      let own : settled_in d (issued s d h u p).settled ≡ up_to least (with_update u (replica_of p d)) = ap (settled_in d) issued-settles
+      ∙ settled-in-own d (up_to least (with_update u (replica_of p d))) in
       let grown : history settled (with_update u (replica_of p d)) ≡ history settled (replica_of p d) ++ u ∷ [] = history-with_update settled (replica_of p d) applied u in
       let long : length (history settled (replica_of p d) ++ u ∷ []) ≡ length (history settled (replica_of p d)) + 1 = length-append (history settled (replica_of p d)) (u ∷ []) in
       let longer : Prolongs settled (history settled (with_update u (replica_of p d))) = subst (Prolongs settled) (sym grown) (record {
@@ -124,7 +126,8 @@ module _ (s : Dimensions) (d : ℕ) (h : Head) (u : Update) (p : Process) (heads
       let reach = longer.reaches in
       let most = least-within in
       let last = length-history settled (with_update u (replica_of p d)) applied in
-      let count : length more ≡ max (length settled) least = ap length is_front ∙ length-take-le (max (length settled) least) (history settled (with_update u (replica_of p d))) (omega (arith, reach, most, last)) in
+      let count : length more ≡ max (length settled) least = ap length is_front
+      ∙ length-take-le (max (length settled) least) (history settled (with_update u (replica_of p d))) (omega (arith, reach, most, last)) in
       let taken = length-take (least - (replica_of p d).applied) ((replica_of p d).log ++ u ∷ []) in
       let within : (replica_of p d).applied + length (up_to least (with_update u (replica_of p d))) ≤ length more = omega (arith, count, taken, applied) in
       let goes : GoesOn more (with_update u (replica_of p d)) =
@@ -146,17 +149,20 @@ module _ (s : Dimensions) (p : Process) (settled more : ℕ → List Update) (na
   act-next h (decides.Answer r) heads numbers is = nothing-next s more p (act_on s name op e h p (decides.Answer r)).step (λ d. refl)
   act-next h (decides.Retry n) heads numbers is = nothing-next s more p (act_on s name op e h p (decides.Retry n)).step (λ d. refl)
   act-next h decides.NoSpace heads numbers is = nothing-next s more p (act_on s name op e h p decides.NoSpace).step (λ d. refl)
-  act-next h (decides.NeedBlock b) heads numbers is = nothing-next s more p (act_on s name op e h p (decides.NeedBlock b)).step (λ d. ap (settled_in d) (retry-none s b (oldest_inherited p (range_with_len 0 s.k)) p))
+  act-next h (decides.NeedBlock b) heads numbers is =
+      nothing-next s more p (act_on s name op e h p (decides.NeedBlock b)).step (λ d. ap (settled_in d) (retry-none s b (oldest_inherited p (range_with_len 0 s.k)) p))
   act-next h (decides.Issue body outcome) heads numbers is = λ d below. by d below (cases_eq e d) where
     same : (act_on s name op e h p (decides.Issue body outcome)).step.settled ≡ (issued s e h (update_of name op e body outcome p) p).settled
     same = ticketed-settled (nat_le (suc (last_of (replica_of p e))) (replica_of (issued s e h (update_of name op e body outcome p) p).process e).applied) e (update_of name op e body outcome p) (issued s e h (update_of name op e body outcome p) p)
 
-    by : (d : ℕ) → d < s.k → (e ≡ d) ⊎ (e ≢ d) → take ((replica_of p d).applied + length (settled_in d (act_on s name op e h p (decides.Issue body outcome)).step.settled)) (more d) ≡ take (replica_of p d).applied (more d) ++ settled_in d (act_on s name op e h p (decides.Issue body outcome)).step.settled
+    by : (d : ℕ) → d < s.k → (e ≡ d) ⊎ (e ≢ d)
+        → take ((replica_of p d).applied + length (settled_in d (act_on s name op e h p (decides.Issue body outcome)).step.settled)) (more d) ≡ take (replica_of p d).applied (more d) ++ settled_in d (act_on s name op e h p (decides.Issue body outcome)).step.settled
     by d below (inl here) = subst (λ (j : ℕ). take ((replica_of p j).applied + length (settled_in j (act_on s name op e h p (decides.Issue body outcome)).step.settled)) (more j) ≡ take (replica_of p j).applied (more j) ++ settled_in j (act_on s name op e h p (decides.Issue body outcome)).step.settled) here
         (subst (λ (ss : List Settlement). take ((replica_of p e).applied + length (settled_in e ss)) (more e) ≡ take (replica_of p e).applied (more e) ++ settled_in e ss) (sym same)
         (issued-next s e h (update_of name op e body outcome p) p heads (settled e) (more e) applied prolongs (numbers body outcome refl) (is e inside ∙ ap (λ (ss : List Settlement). settled_with ss e (settled e)) same)))
     by d below (inr other) =
-        let none : settled_in d (act_on s name op e h p (decides.Issue body outcome)).step.settled ≡ [] = ap (settled_in d) (same ∙ issued-settles s e h (update_of name op e body outcome p) p heads) ∙ settled-in-other d e (up_to (least s e h (update_of name op e body outcome p) p heads) (with_update (update_of name op e body outcome p) (replica_of p e))) other in
+        let none : settled_in d (act_on s name op e h p (decides.Issue body outcome)).step.settled ≡ [] = ap (settled_in d) (same ∙ issued-settles s e h (update_of name op e body outcome p) p heads)
+        ∙ settled-in-other d e (up_to (least s e h (update_of name op e body outcome p) p heads) (with_update (update_of name op e body outcome p) (replica_of p e))) other in
         ap (λ (us : List Update). take ((replica_of p d).applied + length us) (more d)) none
         ∙ ap (λ (n : ℕ). take n (more d)) (omega arith)
         ∙ sym (append-nil (take (replica_of p d).applied (more d)))

@@ -43,10 +43,12 @@ rise-behind (g ∷ gs) h rises above = (each-behind (λ y. g.number < y) gs h ri
 -- a session in the place of the one of its number
 pub same-numbers : (h : Gathering) (gs : List Gathering) → numbers_of (map (λ x. if x.number == h.number then h else x) gs) ≡ numbers_of gs
 same-numbers h [] = refl
-same-numbers h (g ∷ gs) = ap (λ (n : ℕ). n ∷ numbers_of (map (λ x. if x.number == h.number then h else x) gs)) (by (g.number == h.number) refl) ∙ ap (λ (ns : List ℕ). g.number ∷ ns) (same-numbers h gs) where
-  by : (b : Bool) → (g.number == h.number) ≡ b → (if b then h else g).number ≡ g.number
-  by true is = grind (arith, common_steps)
-  by false is = refl
+same-numbers h (g ∷ gs) =
+    ap (λ (n : ℕ). n ∷ numbers_of (map (λ x. if x.number == h.number then h else x) gs)) (by (g.number == h.number) refl)
+    ∙ ap (λ (ns : List ℕ). g.number ∷ ns) (same-numbers h gs) where
+      by : (b : Bool) → (g.number == h.number) ≡ b → (if b then h else g).number ≡ g.number
+      by true is = grind (arith, common_steps)
+      by false is = refl
 
 -- a session in the list is found by its number
 contained-above : (n : ℕ) (gs : List Gathering) (h : Gathering) → Each (λ y. n < y) (numbers_of gs) → Contains gs h → n < h.number

@@ -27,26 +27,30 @@ pub record WholeOff (s : Dimensions) (calls : List Call) (v : State) : Type 0 wh
   pub off : HeadsOff s v
 
 module _ (s : Dimensions) (shaped : IsShape s) where
-  pub asked : (calls : List Call) (v w : State) (p : ProcessId) (c : Call) → IsProcess s p → IsUp s v → v.dead p ≡ false → IsNextCall calls c → WholeOff s calls v → Acted s v w p (ask_process s c.name c.op (v.process p)).step
+  pub asked : (calls : List Call) (v w : State) (p : ProcessId) (c : Call) → IsProcess s p → IsUp s v → v.dead p ≡ false → IsNextCall calls c
+      → WholeOff s calls v → Acted s v w p (ask_process s c.name c.op (v.process p)).step
       → RebuildsAt s w.settled (v.process p) (ask_process s c.name c.op (v.process p)).step.process → WholeOff s (calls ++ call_if (is_issued (ask_process s c.name c.op (v.process p)).answer) c) w
   asked calls v w p c pin up lives next all acts rebuilds = record {
     stands = whole.asked s shaped calls v w p c pin up lives next all.stands acts (asked-right s shaped calls v w p pin lives all.stands all.off c.name c.op acts rebuilds);
     off = asks.asked s shaped calls v w p c pin up lives next all.stands acts all.off;
   }
 
-  pub collected : (calls : List Call) (v w : State) (p : ProcessId) (caller call : ℕ) → IsProcess s p → IsUp s v → v.dead p ≡ false → WholeOff s calls v → Acted s v w p (collect_from caller call (v.process p) (range_with_len 0 s.k)).step → WholeOff s calls w
+  pub collected : (calls : List Call) (v w : State) (p : ProcessId) (caller call : ℕ) → IsProcess s p → IsUp s v → v.dead p ≡ false → WholeOff s calls v
+      → Acted s v w p (collect_from caller call (v.process p) (range_with_len 0 s.k)).step → WholeOff s calls w
   collected calls v w p caller call pin up lives all acts = record {
     stands = whole.collected s shaped calls v w p caller call pin up lives all.stands acts (collected-right s w.settled (v.process p) caller call);
     off = events.collected s shaped calls v w p caller call pin up lives all.stands acts all.off;
   }
 
-  pub flushed : (calls : List Call) (v w : State) (p : ProcessId) → IsProcess s p → IsUp s v → v.dead p ≡ false → WholeOff s calls v → Acted s v w p (flush_process s (v.process p)).step → WholeOff s calls w
+  pub flushed : (calls : List Call) (v w : State) (p : ProcessId) → IsProcess s p → IsUp s v → v.dead p ≡ false → WholeOff s calls v
+      → Acted s v w p (flush_process s (v.process p)).step → WholeOff s calls w
   flushed calls v w p pin up lives all acts = record {
     stands = whole.flushed s shaped calls v w p pin up lives all.stands acts (flushed-right s w.settled (v.process p));
     off = events.flushed s shaped calls v w p pin up lives all.stands acts all.off;
   }
 
-  pub received : (calls : List Call) (v u w : State) (x p : ProcessId) (m : Message) → IsProcess s x → IsProcess s p → x ≢ p → IsUp s v → v.dead p ≡ false → WholeOff s calls v → Popped s v u x p m → Acted s u w p (receive s x m (v.process p))
+  pub received : (calls : List Call) (v u w : State) (x p : ProcessId) (m : Message) → IsProcess s x → IsProcess s p → x ≢ p → IsUp s v → v.dead p ≡ false
+      → WholeOff s calls v → Popped s v u x p m → Acted s u w p (receive s x m (v.process p))
       → RebuildsAt s w.settled (v.process p) (receive s x m (v.process p)).process → WholeOff s calls w
   received calls v u w x p m xin pin apart up lives all pops acts rebuilds = record {
     stands = whole.received s shaped calls v u w x p m xin pin apart up lives all.stands pops acts (received-right s shaped calls v u w x p m xin pin apart up lives all.stands pops acts all.off rebuilds);

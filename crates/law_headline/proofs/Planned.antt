@@ -23,7 +23,8 @@ use Rattle.law_headline.proofs.Meets.{messages_fit}
 
 module _ (s : Dimensions) (calls : List Call) (v : State) (stands : GroupStands s calls v) (plans : SessionsStand s v) (x : ProcessId) (xin : IsProcess s x) where
   -- the first message follows the plan
-  follows-first : (l n : ℕ) (inside : l < s.m) (p : ProcessId) (m : Message) (rest : List Message) → IsProcess s p → x ≢ p → v.dead p ≡ false → v.link x p ≡ m ∷ rest → Follows s v.settled l n (plans l n inside).0 x p m
+  follows-first : (l n : ℕ) (inside : l < s.m) (p : ProcessId) (m : Message) (rest : List Message) → IsProcess s p → x ≢ p → v.dead p ≡ false
+      → v.link x p ≡ m ∷ rest → Follows s v.settled l n (plans l n inside).0 x p m
   follows-first l n inside p m rest pin apart lives first = (subst (Each (Follows s v.settled l n (plans l n inside).0 x p)) first ((plans l n inside).1.links x p xin pin apart lives)).0
 
   same-block : (p : ProcessId) (m : Message) (rest : List Message) → IsProcess s p → x ≢ p → v.dead p ≡ false → v.link x p ≡ m ∷ rest → MayStand s v x p m → Sound s x m → SameBlock m (v.process p)
@@ -46,7 +47,8 @@ module _ (s : Dimensions) (calls : List Call) (v : State) (stands : GroupStands 
   same-block p (tells.Notice dead) rest pin apart lives first may carries = tt
 
 -- a data process has no open session
-no-session : (s : Dimensions) (number : ℕ) (e : ℕ) (gs : List Gathering) (P : Gathering → Type 0) (o : Option Gathering) → Each (SessionSound s (DataNode e)) gs → find (λ (y : Gathering). y.number == number) gs ≡ o → IfSome o P
+no-session : (s : Dimensions) (number : ℕ) (e : ℕ) (gs : List Gathering) (P : Gathering → Type 0) (o : Option Gathering) → Each (SessionSound s (DataNode e)) gs
+    → find (λ (y : Gathering). y.number == number) gs ≡ o → IfSome o P
 no-session s number e gs P None all found = tt
 no-session s number e gs P (Some g) all found = absurd (found-each (λ y. y.number == number) (SessionSound s (DataNode e)) gs g found all).1.leader
 

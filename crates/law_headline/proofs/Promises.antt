@@ -74,16 +74,22 @@ stands s calls v shaped whole held = record {
     reached : ReplicaReaches (FineIn s calls) d (v.settled d) (v.process p)
     reached = fits s shaped calls v whole.carried.members whole.reach write whole.bytes p pin lives d below h heads
 
-    short : (replica_of (v.process p) d).applied < h.inherited → ((replica_of (v.process p) d).applied ≡ length (v.settled d)) ⊎ (((replica_of (v.process p) d).applied < h.inherited) × (length (v.settled d) ≤ h.inherited)) → length (v.settled d) ≤ h.inherited
+    short : (replica_of (v.process p) d).applied < h.inherited
+        → ((replica_of (v.process p) d).applied ≡ length (v.settled d)) ⊎ (((replica_of (v.process p) d).applied < h.inherited) × (length (v.settled d) ≤ h.inherited))
+        → length (v.settled d) ≤ h.inherited
     short waits (inl same) = omega (arith, waits, same)
     short waits (inr both) = both.1
 
-    full : h.inherited ≤ (replica_of (v.process p) d).applied → ((replica_of (v.process p) d).applied ≡ length (v.settled d)) ⊎ (((replica_of (v.process p) d).applied < h.inherited) × (length (v.settled d) ≤ h.inherited)) → (replica_of (v.process p) d).applied ≡ length (v.settled d)
+    full : h.inherited ≤ (replica_of (v.process p) d).applied
+        → ((replica_of (v.process p) d).applied ≡ length (v.settled d)) ⊎ (((replica_of (v.process p) d).applied < h.inherited) × (length (v.settled d) ≤ h.inherited))
+        → (replica_of (v.process p) d).applied ≡ length (v.settled d)
     full all (inl same) = same
     full all (inr both) = let less = both.0 in absurd (omega (arith, all, less))
 
 -- the values of partitions, one after the other
-spaces-are : (s : Dimensions) (w : World) (us : ℕ → List Update) (stamp : List ℕ) (a : ℕ) → ((j n : ℕ) → slice_get stamp j ≡ Some n → values s (a + j) (us (a + j)) ≡ values_after w (a + j) n) → map (λ d. values s d (us d)) (range_with_len a (length stamp)) ≡ spaces_at w a stamp
+spaces-are : (s : Dimensions) (w : World) (us : ℕ → List Update) (stamp : List ℕ) (a : ℕ)
+    → ((j n : ℕ) → slice_get stamp j ≡ Some n → values s (a + j) (us (a + j)) ≡ values_after w (a + j) n)
+    → map (λ d. values s d (us d)) (range_with_len a (length stamp)) ≡ spaces_at w a stamp
 spaces-are s w us [] a each = refl
 spaces-are s w us (n ∷ ns) a each =
     let here : values s a (us a) ≡ values_after w a n = subst (λ (x : ℕ). values s x (us x) ≡ values_after w x n) (omega arith) (each 0 n refl) in
@@ -149,7 +155,9 @@ module _ (h : History) (calls : List Call) (shaped : IsShape h.world.shape) (who
       column-at h.world.shape (stand (λ e. at [] h.settled e) (process_of h.world (DataNode d))) d (process_of h.world (DataNode d)).space lives.0 (space-of (DataNode d) lives)
       ∙ values-are d (replica_of (process_of h.world (DataNode d)) d).applied lives.0
 
-  pub stamp-columns : (us : ℕ → List Update) (stamp : List ℕ) → length stamp ≡ h.world.shape.k → ((d n : ℕ) → d < h.world.shape.k → slice_get stamp d ≡ Some n → us d ≡ take n (at [] h.settled d)) → columns h.world.shape us ≡ spaces_at h.world 0 stamp
+  pub stamp-columns : (us : ℕ → List Update) (stamp : List ℕ) → length stamp ≡ h.world.shape.k
+      → ((d n : ℕ) → d < h.world.shape.k → slice_get stamp d ≡ Some n → us d ≡ take n (at [] h.settled d))
+      → columns h.world.shape us ≡ spaces_at h.world 0 stamp
   stamp-columns us stamp many each =
       ap (λ (n : ℕ). map (λ d. values h.world.shape d (us d)) (range_with_len 0 n)) (sym many)
       ∙ spaces-are h.world.shape h.world us stamp 0 (λ j n is.

@@ -112,18 +112,22 @@ module _ (s : Dimensions) (d : ℕ) (us : List Update) (write : Each (WritesByte
           in_range false is all = each-in-range (λ b. not (is_some (rebuilt_block l d b)) ≡ false) first (last - first + 1) ((run.at + i) / s.block) all (div-rises s.block run.at (run.at + i) some (omega arith)) (let high = div-rises s.block (run.at + i) (run.at + run.len - 1) some (omega (arith, below)) in omega (arith, high))
 
 -- a data process finds the values in its space, and a parity process in the blocks that it rebuilt
-pub reads : (s : Dimensions) (settled : ℕ → List Update) (d : ℕ) (p : Process) (name : ProcessId) → d < s.k → 0 < s.block → ((e : ℕ) → name ≡ DataNode e → (e ≡ d) × (p.space ≡ values s d (stand settled p d)))
+pub reads : (s : Dimensions) (settled : ℕ → List Update) (d : ℕ) (p : Process) (name : ProcessId) → d < s.k → 0 < s.block
+    → ((e : ℕ) → name ≡ DataNode e → (e ≡ d) × (p.space ≡ values s d (stand settled p d)))
     → Each (WritesBytes s) (stand settled p d) → Holds s settled p → ReadsFrom (store_after s d (stand settled p d)).space (found_at s d p name)
 reads s settled d p (DataNode e) below some own write holds run bytes within found =
     bytes-of found ∙ ap (bytes_at run.at run.len) ((own e refl).1 ∙ sym (store-values s d (stand settled p d))) where
       bytes-of : Bytes (bytes_at run.at run.len p.space) ≡ Bytes bytes → bytes ≡ bytes_at run.at run.len p.space
       bytes-of same = cc same
 reads s settled d p (ParityNode i) below some own write holds run bytes within found = by (missing_block s d run p.as_leader) refl found where
-  by : (o : Option ℕ) → missing_block s d run p.as_leader ≡ o → found_unless o (rebuilt_bytes s d run p.as_leader) ≡ Bytes bytes → bytes ≡ bytes_at run.at run.len (store_after s d (stand settled p d)).space
+  by : (o : Option ℕ) → missing_block s d run p.as_leader ≡ o → found_unless o (rebuilt_bytes s d run p.as_leader) ≡ Bytes bytes
+      → bytes ≡ bytes_at run.at run.len (store_after s d (stand settled p d)).space
   by (Some b) is same = absurd (cc same)
-  by None is same = is_bytes same ∙ rebuilt-reads s d (stand settled p d) write p.as_leader some (λ b found_bytes there. holds.rebuilt d b found_bytes below there) run is (omega (arith, within, long)) where
-    is_bytes : Bytes (rebuilt_bytes s d run p.as_leader) ≡ Bytes bytes → bytes ≡ rebuilt_bytes s d run p.as_leader
-    is_bytes same = cc same
+  by None is same =
+      is_bytes same
+      ∙ rebuilt-reads s d (stand settled p d) write p.as_leader some (λ b found_bytes there. holds.rebuilt d b found_bytes below there) run is (omega (arith, within, long)) where
+        is_bytes : Bytes (rebuilt_bytes s d run p.as_leader) ≡ Bytes bytes → bytes ≡ rebuilt_bytes s d run p.as_leader
+        is_bytes same = cc same
 
-    long : length (store_after s d (stand settled p d)).space ≡ space_of s
-    long = ap length (store-values s d (stand settled p d)) ∙ (values-area s d (stand settled p d) write).long
+        long : length (store_after s d (stand settled p d)).space ≡ space_of s
+        long = ap length (store-values s d (stand settled p d)) ∙ (values-area s d (stand settled p d) write).long

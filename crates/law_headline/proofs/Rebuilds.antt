@@ -124,7 +124,8 @@ module _ (s : Dimensions) (d : ℕ) where
 
   pub receive-rebuilds : (x : ProcessId) (m : Message) (p : Process) → Unmarks m p → RebuildsStill d p (receive s x m p).process
   receive-rebuilds x (tells.Update r e u stable) p unmarks = inl (none-when d (nat_le (at 0 p.ranks e.0) r.0) p (ack_to x r.0 e.0 u.number (update_taken s e.0 u stable p)) (none-apply e.0 stable p))
-  receive-rebuilds x (tells.Adopt r e base list) p unmarks = inl (none-when d (nat_le (at 0 p.ranks e.0) r.0) p (ack_to x r.0 e.0 (base + length list) (log_adopted s r.0 e.0 base list p)) (none-apply e.0 base (with_rank e.0 r.0 p)))
+  receive-rebuilds x (tells.Adopt r e base list) p unmarks =
+      inl (none-when d (nat_le (at 0 p.ranks e.0) r.0) p (ack_to x r.0 e.0 (base + length list) (log_adopted s r.0 e.0 base list p)) (none-apply e.0 base (with_rank e.0 r.0 p)))
   receive-rebuilds x (tells.Stable r e n) p unmarks = inl (none-when d (nat_le (at 0 p.ranks e.0) r.0) p (quiet (apply_to s e.0 n p)) (none-apply e.0 n p))
   receive-rebuilds (DataNode z) (tells.Ack r e n) p unmarks = inl (none-refl d p)
   receive-rebuilds (ParityNode i) (tells.Ack r e n) p unmarks = inl (none-acknowledge i r.0 e.0 n (head_at p e.0) p)

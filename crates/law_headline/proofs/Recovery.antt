@@ -49,7 +49,8 @@ module _ (h : History) (calls : List Call) (shaped : IsShape h.world.shape) (who
       value-block block d (replica_of (process_of h.world (ParityNode i)) d).applied bytes below ((whole.bytes (ParityNode i) lives.0 lives.1).rebuilt d block bytes below is)
 
   -- a block of the code at a stamp
-  pub code-block : (b i : ℕ) (us : ℕ → List Update) (stamp bytes : List ℕ) → length stamp ≡ h.world.shape.k → ((d n : ℕ) → d < h.world.shape.k → slice_get stamp d ≡ Some n → us d ≡ take n (at [] h.settled d))
+  pub code-block : (b i : ℕ) (us : ℕ → List Update) (stamp bytes : List ℕ) → length stamp ≡ h.world.shape.k
+      → ((d n : ℕ) → d < h.world.shape.k → slice_get stamp d ≡ Some n → us d ≡ take n (at [] h.settled d))
       → SettledWrite h.world.shape us → IsBlock h.world.shape b (code h.world.shape i us) bytes → bytes ≡ code_block h.world b i stamp
   code-block b i us stamp bytes many each writes block =
       area-one (b * h.world.shape.block) (block_size h.world.shape b) (code h.world.shape i us) bytes (code_block h.world b i stamp) block
@@ -68,7 +69,8 @@ module _ (h : History) (calls : List Call) (shaped : IsShape h.world.shape) (who
       (λ d below. each-take (WritesBytes h.world.shape) (marked_at copy.marks p d) (at [] h.settled d) (write h calls shaped whole shows keeps d below))
       (subst (λ (x : ProcessId). IsBlock h.world.shape copy.block (held h.world.shape x (marked_stand (λ d. at [] h.settled d) copy.marks p)) copy.bytes) (whole.carried.members.named (ParityNode i) lives.0) holds.bytes)
     where
-      stamp-at : (d n : ℕ) → d < h.world.shape.k → slice_get (copy_stamp h.world.shape (process_of h.world (ParityNode i)) copy) d ≡ Some n → marked_at copy.marks (process_of h.world (ParityNode i)) d ≡ n
+      stamp-at : (d n : ℕ) → d < h.world.shape.k → slice_get (copy_stamp h.world.shape (process_of h.world (ParityNode i)) copy) d ≡ Some n
+          → marked_at copy.marks (process_of h.world (ParityNode i)) d ≡ n
       stamp-at d n below is =
           sym (get_or-map-range_with_len (λ e. unwrap_or (at None copy.marks e) (replica_of (process_of h.world (ParityNode i)) e).applied) 0 h.world.shape.k d d 0 below (omega arith))
           ∙ get_or_from_slice_get (copy_stamp h.world.shape (process_of h.world (ParityNode i)) copy) d n 0 is

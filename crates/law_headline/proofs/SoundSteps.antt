@@ -97,7 +97,8 @@ module _ (s : Dimensions) where
       then-does p (sending _ q) (judge s d) (record { name = refl; process = same; sent = others-sound p _ tt }) (judge-does d q same))
 
   -- what comes in leaves the other sessions
-  gathered-sound : (complete : Bool) (name : ProcessId) (g : Gathering) (state : LeaderState) → SessionSound s name g → Each (SessionSound s name) state.sessions → Each (SessionSound s name) (gathered_when complete s g state).sessions
+  gathered-sound : (complete : Bool) (name : ProcessId) (g : Gathering) (state : LeaderState) → SessionSound s name g
+      → Each (SessionSound s name) state.sessions → Each (SessionSound s name) (gathered_when complete s g state).sessions
   gathered-sound true name g state mine all =
       subst (Each (SessionSound s name)) (sym (decoded-same s g g.lost (record state { sessions = without_session g.number state.sessions })).0) (each-filter (SessionSound s name) (λ x. not (x.number == g.number)) state.sessions all)
   gathered-sound false name g state mine all =
@@ -201,7 +202,9 @@ module _ (s : Dimensions) where
     q = apply_to s d (replica_of p d).applied b
 
     none : up_to (replica_of p d).applied (replica_of b d) ≡ []
-    none = ap (λ (rs : List Replica). up_to (replica_of p d).applied (at empty_replica rs d)) (begun-replicas (is_some (copy_in p.as_row.copies l number)) l number block p) ∙ up_to-applied (replica_of p d)
+    none =
+        ap (λ (rs : List Replica). up_to (replica_of p d).applied (at empty_replica rs d)) (begun-replicas (is_some (copy_in p.as_row.copies l number)) l number block p)
+        ∙ up_to-applied (replica_of p d)
 
     same : q.space ≡ p.space
     same = ap (λ (us : List Update). space_after s b.name d us b.space) none ∙ begun-space (is_some (copy_in p.as_row.copies l number)) l number block p
@@ -284,7 +287,8 @@ module _ (s : Dimensions) where
         let same : ProcessSound s told = same-sound p told refl refl refl sound in
         then-does p (sending _ told) (judge s d) (record { name = refl; process = same; sent = others-sound p _ tt }) (judge-does d told same)
 
-    act-does : (call : CallName) (op : Asked) (d : ℕ) (h : Head) (decision : Decision) → ((b : ℕ) → decision ≡ decides.NeedBlock b → IsParity p.name × (b < s.blocks)) → Does p (act_on s call op d h p decision).step
+    act-does : (call : CallName) (op : Asked) (d : ℕ) (h : Head) (decision : Decision)
+        → ((b : ℕ) → decision ≡ decides.NeedBlock b → IsParity p.name × (b < s.blocks)) → Does p (act_on s call op d h p decision).step
     act-does call op d h (decides.Answer r) needs = self-does p sound
     act-does call op d h (decides.Retry n) needs = self-does p sound
     act-does call op d h decides.NoSpace needs = self-does p sound
@@ -362,7 +366,8 @@ module _ (s : Dimensions) where
       when-does (r == h.rank) p (judge s d q) sound (record { name = judged.name; process = judged.process; sent = judged.sent })
 
   -- a question
-  read-does : (session : Session) (block : ℕ) (rows : List ℕ) (p : Process) (name : ProcessId) → AsksSound s session block rows → length p.space ≡ space_of s → ProcessSound s p → Does p (read_comes s session block rows p name)
+  read-does : (session : Session) (block : ℕ) (rows : List ℕ) (p : Process) (name : ProcessId) → AsksSound s session block rows → length p.space ≡ space_of s
+      → ProcessSound s p → Does p (read_comes s session block rows p name)
   read-does session block rows p (ParityNode i) asks long sound = self-does p sound
   read-does session block rows p (DataNode e) asks long sound = record {
     name = refl;
@@ -379,7 +384,8 @@ module _ (s : Dimensions) where
       (record { name = refl; process = same-sound (apply_to s d.0 stable p) _ refl refl refl (apply-sound d.0 stable p sound); sent = (taker, tt) })
   receive-does (DataNode e) (tells.Ack r d n) p carries taker long sound = self-does p sound
   receive-does (ParityNode i) (tells.Ack r d n) p carries taker long sound = ack-does i r.0 d.0 n (head_at p d.0) p sound
-  receive-does x (tells.Stable r d n) p carries taker long sound = when-does (nat_le (at 0 p.ranks d.0) r.0) p (quiet (apply_to s d.0 n p)) sound (record { name = refl; process = apply-sound d.0 n p sound; sent = tt })
+  receive-does x (tells.Stable r d n) p carries taker long sound =
+      when-does (nat_le (at 0 p.ranks d.0) r.0) p (quiet (apply_to s d.0 n p)) sound (record { name = refl; process = apply-sound d.0 n p sound; sent = tt })
   receive-does x (tells.Adopt r d base list) p carries taker long sound = when-does (nat_le (at 0 p.ranks d.0) r.0) p (ack_to x r.0 d.0 (base + length list) (log_adopted s r.0 d.0 base list p)) sound
       (record { name = refl; process = same-sound (apply_to s d.0 base (with_rank d.0 r.0 p)) _ refl refl refl (apply-sound d.0 base (with_rank d.0 r.0 p) (same-sound p _ refl refl refl sound)); sent = (taker, tt) })
   receive-does x (tells.ReadBlock session block rows) p carries taker long sound = read-does session block rows p p.name carries long sound

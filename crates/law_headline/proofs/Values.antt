@@ -27,7 +27,8 @@ use Rattle.law_headline.proofs.Unders.{PutsFound, none-missing}
 -- a value that a parity process puts where it found bytes stays off the blocks that it hasn't rebuilt
 pub found-off : (s : Dimensions) (d i : ℕ) (p : Process) (name : ProcessId) (b : ℕ) → 0 < s.block → name ≡ ParityNode i → rebuilt_block p.as_leader d b ≡ None
     → (body : Body) → PutsFound (found_at s d p name) body → Writes (space_of s) body → (x : ℕ) → x < s.block → change body (b * s.block + x) ≡ 0
-found-off s d i p name b some is unbuilt (Put flags until run delta) found writes x inside = run-apart s some d p.as_leader b unbuilt run delta x (none-missing s d p name i run found.0 is found.1) (sym writes.long) inside
+found-off s d i p name b some is unbuilt (Put flags until run delta) found writes x inside =
+    run-apart s some d p.as_leader b unbuilt run delta x (none-missing s d p name i run found.0 is found.1) (sym writes.long) inside
 found-off s d i p name b some is unbuilt Remove found writes x inside = refl
 found-off s d i p name b some is unbuilt (Touch until) found writes x inside = refl
 

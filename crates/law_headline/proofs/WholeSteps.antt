@@ -45,8 +45,10 @@ module _ (s : Dimensions) (settled : ℕ → List Update) (p : Process) (i : ℕ
   parity-inside = subst (Inside s) (sym named) tt
 
 -- what a process that treats something has rebuilt stays so
-pub treats-built : (s : Dimensions) → IsShape s → (v w : State) (p : ProcessId) (t : ProcessStep) (i : ℕ) → p ≡ ParityNode i → IsProcess s p → v.dead p ≡ false → Treats s (v.process p) t → Members s v → HoldsBytes s v
-    → NextIsNew s (v.process p) → SettledWrite s w.settled → AppliesSettled s w.settled (v.process p) t → SettlesNext s w.settled (v.process p) t → Acted s v w p t → (d : ℕ) → d < s.k → StaysBuilt d (v.process p) t.process
+pub treats-built : (s : Dimensions) → IsShape s → (v w : State) (p : ProcessId) (t : ProcessStep) (i : ℕ) → p ≡ ParityNode i → IsProcess s p → v.dead p ≡ false
+    → Treats s (v.process p) t → Members s v → HoldsBytes s v
+    → NextIsNew s (v.process p) → SettledWrite s w.settled → AppliesSettled s w.settled (v.process p) t → SettlesNext s w.settled (v.process p) t
+    → Acted s v w p t → (d : ℕ) → d < s.k → StaysBuilt d (v.process p) t.process
 treats-built s shaped v w p t i is pin lives treated members holds new write applies next acts d below b was = holding.there d b below was where
   named : (v.process p).name ≡ ParityNode i
   named = members.named p pin ∙ is
@@ -78,7 +80,8 @@ received-built s v u w x p m i is pin lives members holds may marks write applie
 module _ (s : Dimensions) (calls more : List Call) (v w : State) (p : ProcessId) (pin : IsProcess s p) (lives : v.dead p ≡ false) (reach : Reach (FineIn s calls) s v)
     (others : (q : ProcessId) → IsProcess s q → q ≢ p → w.process q ≡ v.process q) (dead : (q : ProcessId) → IsProcess s q → w.dead q ≡ v.dead q) (begins : (d : ℕ) → d < s.k → Begins (v.settled d) (w.settled d)) where
   -- another process's history is as it was
-  other-off : (i d : ℕ) → i < s.m → v.dead (ParityNode i) ≡ false → d < s.k → ParityNode i ≢ p → HeadOff s d (v.settled d) (v.process (ParityNode i)) → HeadOff s d (w.settled d) (w.process (ParityNode i))
+  other-off : (i d : ℕ) → i < s.m → v.dead (ParityNode i) ≡ false → d < s.k → ParityNode i ≢ p → HeadOff s d (v.settled d) (v.process (ParityNode i))
+      → HeadOff s d (w.settled d) (w.process (ParityNode i))
   other-off i d iin living below apart off = subst (HeadOff s d (w.settled d)) (sym (others (ParityNode i) iin apart)) (λ h b heads unbuilt.
       subst (λ (us : List Update). Each (StaysOff s b) (drop h.inherited us)) (sym same) (off h b heads unbuilt))
     where
@@ -106,6 +109,7 @@ module _ (s : Dimensions) (calls more : List Call) (v w : State) (p : ProcessId)
     is-reached = (both d below).0.replicas p pin (dead p pin ∙ lives) parity-keeps
 
     -- nothing was put behind its log
-    pub long-off : ((h : Head) → head_at (w.process p) d ≡ Some h → Long d (v.process p) (w.process p)) → StaysBuilt d (v.process p) (w.process p) → HeadOff s d (v.settled d) (v.process p) → HeadOff s d (w.settled d) (w.process p)
+    pub long-off : ((h : Head) → head_at (w.process p) d ≡ Some h → Long d (v.process p) (w.process p)) → StaysBuilt d (v.process p) (w.process p)
+        → HeadOff s d (v.settled d) (v.process p) → HeadOff s d (w.settled d) (w.process p)
     long-off long stays off =
         off-long s d (v.settled d) (w.settled d) (v.process p) (w.process p) was-reached.applied is-reached.applied stays long (λ h heads. (both d below).3 h heads) off

@@ -87,8 +87,10 @@ module _ (F : ℕ → ℕ → List Update → Type 0) (s : Dimensions) (v : Stat
     same_seen = λ i. record { rank = same.rank i; history = history settled (same.replica i); number = (same.replica i).applied }
 
   -- a message that changes nothing is taken off the link from x
-  pub act-pop : (proc : Process) (out inn left : ProcessId → List Message) (settled : List Update) (x : ProcessId) (m : Message) → inn x ≡ m ∷ left x → ((y : ProcessId) → IsProcess s y → y ≢ x → left y ≡ inn y)
-      → (IsProcess s x) → x ≢ p → ((i : ℕ) → p ≡ ParityNode i → next d (seen_at d settled proc) m ≡ seen_at d settled proc) → Around F s v d p proc out inn settled → Around F s v d p proc out left settled
+  pub act-pop : (proc : Process) (out inn left : ProcessId → List Message) (settled : List Update) (x : ProcessId) (m : Message) → inn x ≡ m ∷ left x
+      → ((y : ProcessId) → IsProcess s y → y ≢ x → left y ≡ inn y)
+      → (IsProcess s x) → x ≢ p → ((i : ℕ) → p ≡ ParityNode i → next d (seen_at d settled proc) m ≡ seen_at d settled proc)
+      → Around F s v d p proc out inn settled → Around F s v d p proc out left settled
   act-pop proc out inn left settled x m first rest xin xother stays around = record {
     own = around.own;
     sits = around.sits;
@@ -107,7 +109,8 @@ module _ (F : ℕ → ℕ → List Update → Type 0) (s : Dimensions) (v : Stat
     issued_there = around.issued_there;
     issued_else = around.issued_else;
   } where
-    issued_by : (i : ℕ) (h : Head) → i < s.m → ParityNode i ≢ p → head_at proc d ≡ Some h → (ParityNode i ≡ x) ⊎ (ParityNode i ≢ x) → Each (AckBelow d (last_of (replica_of proc d))) (left (ParityNode i))
+    issued_by : (i : ℕ) (h : Head) → i < s.m → ParityNode i ≢ p → head_at proc d ≡ Some h → (ParityNode i ≡ x) ⊎ (ParityNode i ≢ x)
+        → Each (AckBelow d (last_of (replica_of proc d))) (left (ParityNode i))
     issued_by i h iin other heads (inr apart) = subst (Each (AckBelow d (last_of (replica_of proc d)))) (sym (rest (ParityNode i) iin apart)) (around.issued_here i h iin other heads)
     issued_by i h iin other heads (inl same) = subst (λ (z : ProcessId). Each (AckBelow d (last_of (replica_of proc d))) (left z)) (sym same)
         (subst (Each (AckBelow d (last_of (replica_of proc d)))) first (subst (λ (z : ProcessId). Each (AckBelow d (last_of (replica_of proc d))) (inn z)) same (around.issued_here i h iin other heads))).1
@@ -133,19 +136,21 @@ module _ (F : ℕ → ℕ → List Update → Type 0) (s : Dimensions) (v : Stat
           (subst (Each (AckFits d p (seen_at d settled (v.process (ParityNode i))))) first (subst (λ (z : ProcessId). Each (AckFits d p (seen_at d settled (v.process (ParityNode i)))) (inn z)) same (lane.acks alive))).1;
     }
 
-    in_by : (y : ProcessId) (i : ℕ) → p ≡ ParityNode i → IsProcess s y → y ≢ p → (y ≡ x) ⊎ (y ≢ x) → LaneReaches F d settled y i (v.dead y) (head_at (v.process y) d) (replica_of (v.process y) d) (seen_at d settled proc) (left y) (out y)
+    in_by : (y : ProcessId) (i : ℕ) → p ≡ ParityNode i → IsProcess s y → y ≢ p → (y ≡ x) ⊎ (y ≢ x)
+        → LaneReaches F d settled y i (v.dead y) (head_at (v.process y) d) (replica_of (v.process y) d) (seen_at d settled proc) (left y) (out y)
     in_by y i is yin other (inr apart) = subst (λ (link : List Message). LaneReaches F d settled y i (v.dead y) (head_at (v.process y) d) (replica_of (v.process y) d) (seen_at d settled proc) link (out y)) (sym (rest y yin apart)) (around.inward y i is yin other)
-    in_by y i is yin other (inl same) = subst (λ (z : ProcessId). LaneReaches F d settled z i (v.dead z) (head_at (v.process z) d) (replica_of (v.process z) d) (seen_at d settled proc) (left z) (out z)) (sym same) tail where
-      lane : LaneReaches F d settled x i (v.dead x) (head_at (v.process x) d) (replica_of (v.process x) d) (seen_at d settled proc) (m ∷ left x) (out x)
-      lane = subst (λ (link : List Message). LaneReaches F d settled x i (v.dead x) (head_at (v.process x) d) (replica_of (v.process x) d) (seen_at d settled proc) link (out x)) first (around.inward x i is xin xother)
+    in_by y i is yin other (inl same) =
+        subst (λ (z : ProcessId). LaneReaches F d settled z i (v.dead z) (head_at (v.process z) d) (replica_of (v.process z) d) (seen_at d settled proc) (left z) (out z)) (sym same) tail where
+          lane : LaneReaches F d settled x i (v.dead x) (head_at (v.process x) d) (replica_of (v.process x) d) (seen_at d settled proc) (m ∷ left x) (out x)
+          lane = subst (λ (link : List Message). LaneReaches F d settled x i (v.dead x) (head_at (v.process x) d) (replica_of (v.process x) d) (seen_at d settled proc) link (out x)) first (around.inward x i is xin xother)
 
-      tail : LaneReaches F d settled x i (v.dead x) (head_at (v.process x) d) (replica_of (v.process x) d) (seen_at d settled proc) (left x) (out x)
-      tail = record {
-        goes = subst (λ (z : Seen). Along (next d) (Goes F d settled) z (left x)) (stays i is) lane.goes.1;
-        ends = λ alive h heads. subst (λ (z : Seen). EndsAt settled (replica_of (v.process x) d) h (run (next d) z (left x))) (stays i is) (lane.ends alive h heads);
-        kept = lane.kept;
-        acks = lane.acks;
-      }
+          tail : LaneReaches F d settled x i (v.dead x) (head_at (v.process x) d) (replica_of (v.process x) d) (seen_at d settled proc) (left x) (out x)
+          tail = record {
+            goes = subst (λ (z : Seen). Along (next d) (Goes F d settled) z (left x)) (stays i is) lane.goes.1;
+            ends = λ alive h heads. subst (λ (z : Seen). EndsAt settled (replica_of (v.process x) d) h (run (next d) z (left x))) (stays i is) (lane.ends alive h heads);
+            kept = lane.kept;
+            acks = lane.acks;
+          }
 
   -- what is told goes, and changes nothing that is seen
   module _ (proc : Process) (settled : List Update) (reaches : IsKeeper d p → ReplicaReaches F d settled proc) (sits : (h : Head) → head_at proc d ≡ Some h → HeadSits v d p proc h) where
@@ -172,7 +177,9 @@ module _ (F : ℕ → ℕ → List Update → Type 0) (s : Dimensions) (v : Stat
         number_settled = let most = (reaches (keeper-rank d h.rank p (sits h heads).name)).applied in let low = may.3 in omega (arith, most, low);
       }
 
-      mark-told : (seen : Seen) (r n : ℕ) → Ends seen → (g : Head) × (head_at proc d ≡ Some g) × (r ≡ g.rank) × (n ≤ (replica_of proc d).applied) × (max (replica_of proc d).applied g.inherited ≤ n) → MarkGoes settled seen r n
+      mark-told : (seen : Seen) (r n : ℕ) → Ends seen
+          → (g : Head) × (head_at proc d ≡ Some g) × (r ≡ g.rank) × (n ≤ (replica_of proc d).applied) × (max (replica_of proc d).applied g.inherited ≤ n)
+          → MarkGoes settled seen r n
       mark-told seen r n end may = record {
         rank = may.2 ∙ ap (λ (x : Head). x.rank) (is_head may.0 may.1) ∙ sym end.rank;
         number_settled = let most = (reaches (keeper-rank d h.rank p (sits h heads).name)).applied in let low = may.3 in omega (arith, most, low);
@@ -186,10 +193,12 @@ module _ (F : ℕ → ℕ → List Update → Type 0) (s : Dimensions) (v : Stat
       tells-goes to seen (tells.Update r e u stable) end may = off-ends seen (tells.Update r e u stable) end (λ here. absurd (may here))
       tells-goes to seen (tells.Adopt r e base list) end may = off-ends seen (tells.Adopt r e base list) end (λ here. absurd (may here))
       tells-goes to seen (tells.Ack r e n) end may = (tt, end)
-      tells-goes to seen (tells.Stable r e n) end may = ((λ live. number-told seen r.0 n end (may (live-parts d seen e.0 r.0 live).0)), raised-ends (is_live d seen e.0 r.0) n seen end (λ live. (may (live-parts d seen e.0 r.0 live).0).3))
+      tells-goes to seen (tells.Stable r e n) end may =
+          ((λ live. number-told seen r.0 n end (may (live-parts d seen e.0 r.0 live).0)), raised-ends (is_live d seen e.0 r.0) n seen end (λ live. (may (live-parts d seen e.0 r.0 live).0).3))
       tells-goes to seen (tells.ReadBlock session block rows) end may = (tt, end)
       tells-goes to seen (tells.Block session bytes n) end may = (tt, end)
-      tells-goes to seen (tells.Mark session r block e n) end may = ((λ live. mark-told seen r.0 n end (may (live-parts d seen e.0 r.0 live).0)), raised-ends (is_live d seen e.0 r.0) n seen end (λ live. (may (live-parts d seen e.0 r.0 live).0).3))
+      tells-goes to seen (tells.Mark session r block e n) end may =
+          ((λ live. mark-told seen r.0 n end (may (live-parts d seen e.0 r.0 live).0)), raised-ends (is_live d seen e.0 r.0) n seen end (λ live. (may (live-parts d seen e.0 r.0 live).0).3))
       tells-goes to seen (tells.Row session bytes stamp) end may = (tt, end)
       tells-goes to seen (tells.Cease upto) end may = (tt, end)
       tells-goes to seen (tells.Notice dead) end may = (tt, end)
@@ -206,7 +215,9 @@ module _ (F : ℕ → ℕ → List Update → Type 0) (s : Dimensions) (v : Stat
         → Along (next d) (Goes F d settled) seen ms × ((h : Head) → head_at proc d ≡ Some h → EndsAt settled (replica_of proc d) h (run (next d) seen ms))
     tells-any to seen ms end may = by (head_at proc d) refl where
       by : (o : Option Head) → head_at proc d ≡ o → Along (next d) (Goes F d settled) seen ms × ((h : Head) → head_at proc d ≡ Some h → EndsAt settled (replica_of proc d) h (run (next d) seen ms))
-      by (Some h) is = let told = tells-along h is to seen ms (end h is) may in (told.0, λ g e. subst (λ (x : Head). EndsAt settled (replica_of proc d) x (run (next d) seen ms)) (sym (is_head h is g e)) told.1)
+      by (Some h) is =
+          let told = tells-along h is to seen ms (end h is) may in
+          (told.0, λ g e. subst (λ (x : Head). EndsAt settled (replica_of proc d) x (run (next d) seen ms)) (sym (is_head h is g e)) told.1)
       by None is = (stale-along F d settled seen ms (each-weaker (Tells d proc to) (Stale d seen.rank) (λ m told. ranked-weaker d (λ r. r < 0) (λ r. r < seen.rank) (λ r none. absurd (omega (arith, none))) m (tells-stale d proc to m is told)) ms may), λ g e. absurd (cc (is, e)))
 
     tells-ack : IsKeeper d p → (to : ProcessId) (m : Message) → Tells d proc to m → AckFits d to (seen_at d settled proc) m
@@ -226,7 +237,8 @@ module _ (F : ℕ → ℕ → List Update → Type 0) (s : Dimensions) (v : Stat
     tells-ack keeps to (tells.Notice dead) may = tt
 
   -- messages that tell nothing new are sent
-  pub act-send : (proc : Process) (out inn sent : ProcessId → List Message) (settled : List Update) → ((q : ProcessId) → Each (Tells d proc q) (sent q)) → Around F s v d p proc out inn settled → Around F s v d p proc (λ q. out q ++ sent q) inn settled
+  pub act-send : (proc : Process) (out inn sent : ProcessId → List Message) (settled : List Update) → ((q : ProcessId) → Each (Tells d proc q) (sent q))
+      → Around F s v d p proc out inn settled → Around F s v d p proc (λ q. out q ++ sent q) inn settled
   act-send proc out inn sent settled may around = record {
     own = around.own;
     sits = around.sits;
@@ -248,7 +260,8 @@ module _ (F : ℕ → ℕ → List Update → Type 0) (s : Dimensions) (v : Stat
     issued_else = around.issued_else;
   } where
     -- what is acknowledged to a living head it has issued
-    told-issued : (x : ProcessId) (i : ℕ) (h : Head) → p ≡ ParityNode i → IsProcess s x → x ≢ p → v.dead x ≡ false → head_at (v.process x) d ≡ Some h → (m : Message) → Tells d proc x m → AckBelow d (last_of (replica_of (v.process x) d)) m
+    told-issued : (x : ProcessId) (i : ℕ) (h : Head) → p ≡ ParityNode i → IsProcess s x → x ≢ p → v.dead x ≡ false → head_at (v.process x) d ≡ Some h
+        → (m : Message) → Tells d proc x m → AckBelow d (last_of (replica_of (v.process x) d)) m
     told-issued x i h is xin other living heads (tells.Ack r e n) told = λ here.
         let parts = told here in
         let lane = around.inward x i is xin other in
@@ -289,7 +302,8 @@ module _ (F : ℕ → ℕ → List Update → Type 0) (s : Dimensions) (v : Stat
       told : Along (next d) (Goes F d settled) (run (next d) seen (out (ParityNode i))) (sent (ParityNode i)) × ((h : Head) → head_at proc d ≡ Some h → EndsAt settled (replica_of proc d) h (run (next d) (run (next d) seen (out (ParityNode i))) (sent (ParityNode i))))
       told = tells-any proc settled around.own around.sits (ParityNode i) (run (next d) seen (out (ParityNode i))) (sent (ParityNode i)) (λ h heads. lane.ends refl h heads) (may (ParityNode i))
 
-    in_by : (x : ProcessId) (i : ℕ) → p ≡ ParityNode i → IsProcess s x → x ≢ p → LaneReaches F d settled x i (v.dead x) (head_at (v.process x) d) (replica_of (v.process x) d) (seen_at d settled proc) (inn x) (out x ++ sent x)
+    in_by : (x : ProcessId) (i : ℕ) → p ≡ ParityNode i → IsProcess s x → x ≢ p
+        → LaneReaches F d settled x i (v.dead x) (head_at (v.process x) d) (replica_of (v.process x) d) (seen_at d settled proc) (inn x) (out x ++ sent x)
     in_by x i is xin other = let lane = around.inward x i is xin other in record {
       goes = lane.goes;
       ends = lane.ends;

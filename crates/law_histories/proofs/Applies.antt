@@ -50,10 +50,13 @@ kept-append kept [] vs = refl
 kept-append kept (u ∷ us) vs = kept-append _ us vs
 
 -- a replica that applies what is settled holds what that leaves
-pub items-applied : (settled : List Update) (r : Replica) (n : ℕ) → r.applied ≤ length settled → Prolongs settled (history settled r) → n ≤ length settled → ItemsFit settled r → ItemsFit settled (applied_to n r)
+pub items-applied : (settled : List Update) (r : Replica) (n : ℕ) → r.applied ≤ length settled → Prolongs settled (history settled r) → n ≤ length settled
+    → ItemsFit settled r → ItemsFit settled (applied_to n r)
 items-applied settled r n applied prolongs low holds = record {
   items = ap (λ (items : Items). items_after items (up_to n r)) holds.items ∙ sym (items-append [] (take r.applied settled) (up_to n r)) ∙ ap (items_after []) (sym more);
-  kept = ap (λ (kept : List (Option Kept)). kept_after kept (up_to n r)) holds.kept ∙ sym (kept-append (replicate callers None) (take r.applied settled) (up_to n r)) ∙ ap (kept_after (replicate callers None)) (sym more);
+  kept =
+      ap (λ (kept : List (Option Kept)). kept_after kept (up_to n r)) holds.kept
+      ∙ sym (kept-append (replicate callers None) (take r.applied settled) (up_to n r)) ∙ ap (kept_after (replicate callers None)) (sym more);
 } where
   within : n ≤ last_of r
   within = let long = length-history settled r applied in let reach = prolongs.reaches in omega (arith, long, reach, low)
@@ -78,5 +81,9 @@ pub settles-is : (d : ℕ) (settled : List Update) (r : Replica) (n : ℕ) → r
     → settled_with (settlements d (up_to n r)) d settled ≡ take (max (length settled) n) (history settled r)
 settles-is d settled r n applied prolongs numbers within = by (cases_lt (length settled) n) where
   by : (length settled < n) ⊎ (n ≤ length settled) → settled_with (settlements d (up_to n r)) d settled ≡ take (max (length settled) n) (history settled r)
-  by (inl above) = let most : n ≡ max (length settled) n = omega (arith, above) in settled-more d n settled r applied prolongs numbers (omega (arith, above)) within ∙ ap (λ (k : ℕ). take k (history settled r)) most
-  by (inr low) = let most : length settled ≡ max (length settled) n = omega (arith, low) in settled-no-more d n settled r applied prolongs numbers low ∙ sym prolongs.front ∙ ap (λ (k : ℕ). take k (history settled r)) most
+  by (inl above) =
+      let most : n ≡ max (length settled) n = omega (arith, above) in
+      settled-more d n settled r applied prolongs numbers (omega (arith, above)) within ∙ ap (λ (k : ℕ). take k (history settled r)) most
+  by (inr low) =
+      let most : length settled ≡ max (length settled) n = omega (arith, low) in
+      settled-no-more d n settled r applied prolongs numbers low ∙ sym prolongs.front ∙ ap (λ (k : ℕ). take k (history settled r)) most

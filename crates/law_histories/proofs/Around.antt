@@ -114,8 +114,10 @@ pub record Around (F : ℕ → ℕ → List Update → Type 0) (s : Dimensions) 
   pub follows : FollowsBy d (v.settled d) (replica_of (v.process p) d) settled proc
   pub grew : GrewBy d (v.settled d) settled proc
   pub issued_here : (i : ℕ) (h : Head) → i < s.m → ParityNode i ≢ p → head_at proc d ≡ Some h → Each (AckBelow d (last_of (replica_of proc d))) (inn (ParityNode i))
-  pub issued_there : (x : ProcessId) (i : ℕ) (h : Head) → p ≡ ParityNode i → IsProcess s x → x ≢ p → v.dead x ≡ false → head_at (v.process x) d ≡ Some h → Each (AckBelow d (last_of (replica_of (v.process x) d))) (out x)
-  pub issued_else : (x : ProcessId) (i : ℕ) (h : Head) → IsProcess s x → x ≢ p → v.dead x ≡ false → i < s.m → ParityNode i ≢ p → x ≢ ParityNode i → head_at (v.process x) d ≡ Some h → Each (AckBelow d (last_of (replica_of (v.process x) d))) (v.link (ParityNode i) x)
+  pub issued_there : (x : ProcessId) (i : ℕ) (h : Head) → p ≡ ParityNode i → IsProcess s x → x ≢ p → v.dead x ≡ false → head_at (v.process x) d ≡ Some h
+      → Each (AckBelow d (last_of (replica_of (v.process x) d))) (out x)
+  pub issued_else : (x : ProcessId) (i : ℕ) (h : Head) → IsProcess s x → x ≢ p → v.dead x ≡ false → i < s.m → ParityNode i ≢ p → x ≢ ParityNode i
+      → head_at (v.process x) d ≡ Some h → Each (AckBelow d (last_of (replica_of (v.process x) d))) (v.link (ParityNode i) x)
 
 -- a keeper by its rank
 pub keeper-rank : (d r : ℕ) (p : ProcessId) → p ≡ of_rank d r → IsKeeper d p
@@ -196,7 +198,8 @@ pub record Leaves (s : Dimensions) (v w : State) (d : ℕ) (p : ProcessId) (proc
 module _ (F : ℕ → ℕ → List Update → Type 0) (s : Dimensions) (v w : State) (d : ℕ) (p : ProcessId) (proc : Process) (out inn : ProcessId → List Message) (settled : List Update)
     (pin : IsProcess s p) (lives : v.dead p ≡ false) (leaves : Leaves s v w d p proc out inn settled) (around : Around F s v d p proc out inn settled) where
   replica_by : (q : ProcessId) → IsProcess s q → w.dead q ≡ false → IsKeeper d q → (q ≡ p) ⊎ (q ≢ p) → ReplicaReaches F d settled (w.process q)
-  replica_by q qin living keeps (inl same) = subst (λ (y : ProcessId). ReplicaReaches F d settled (w.process y)) (sym same) (subst (ReplicaReaches F d settled) (sym leaves.process) (around.own (subst (IsKeeper d) same keeps)))
+  replica_by q qin living keeps (inl same) =
+      subst (λ (y : ProcessId). ReplicaReaches F d settled (w.process y)) (sym same) (subst (ReplicaReaches F d settled) (sym leaves.process) (around.own (subst (IsKeeper d) same keeps)))
   replica_by q qin living keeps (inr other) = subst (ReplicaReaches F d settled) (sym (leaves.others q qin other)) (around.replicas q qin other (sym (leaves.dead q qin) ∙ living) keeps)
 
   abbrev Lane : ProcessId → ℕ → Type 0
@@ -221,7 +224,8 @@ module _ (F : ℕ → ℕ → List Update → Type 0) (s : Dimensions) (v w : St
       (ap (λ (y : ProcessId). seen_at d settled (w.process y)) ip ∙ ap (seen_at d settled) leaves.process) (ap (w.link x) ip ∙ leaves.inn_is x xin xother) (λ dies. ap (λ (y : ProcessId). w.link y x) ip ∙ leaves.out_is x xin xother dies)
       (around.inward x i (sym ip) xin xother)
 
-  issued_by : (x : ProcessId) (i : ℕ) (h : Head) → IsProcess s x → w.dead x ≡ false → i < s.m → x ≢ ParityNode i → head_at (w.process x) d ≡ Some h → (x ≡ p) ⊎ (x ≢ p) → (ParityNode i ≡ p) ⊎ (ParityNode i ≢ p) → Each (AckBelow d (last_of (replica_of (w.process x) d))) (w.link (ParityNode i) x)
+  issued_by : (x : ProcessId) (i : ℕ) (h : Head) → IsProcess s x → w.dead x ≡ false → i < s.m → x ≢ ParityNode i → head_at (w.process x) d ≡ Some h
+      → (x ≡ p) ⊎ (x ≢ p) → (ParityNode i ≡ p) ⊎ (ParityNode i ≢ p) → Each (AckBelow d (last_of (replica_of (w.process x) d))) (w.link (ParityNode i) x)
   issued_by x i h xin living iin apart heads (inl xp) (inl ip) = absurd (apart (xp ∙ sym ip))
   issued_by x i h xin living iin apart heads (inl xp) (inr iother) =
       subst (λ (y : ProcessId). Each (AckBelow d (last_of (replica_of (w.process y) d))) (w.link (ParityNode i) y)) (sym xp)

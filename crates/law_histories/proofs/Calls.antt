@@ -65,7 +65,8 @@ one-sent m test i (suc n) a low high passes = by (cases_eq i a) (test a) refl (�
   by (inl same) false is rest = absurd (cc (is, ap test (sym same) ∙ passes))
   by (inl same) true is rest =
       let here : same_process (ParityNode a) (ParityNode i) ≡ true = grind (arith, common_steps) in
-      ap (λ (b : Bool). front_if b m (sent_to (ParityNode i) (to_parities (filter test (range_with_len (a + 1) n)) m))) here ∙ ap (λ (ms : List Message). m ∷ ms) (none-sent m test i n (a + 1) (omega (arith, same)))
+      ap (λ (b : Bool). front_if b m (sent_to (ParityNode i) (to_parities (filter test (range_with_len (a + 1) n)) m))) here
+      ∙ ap (λ (ms : List Message). m ∷ ms) (none-sent m test i n (a + 1) (omega (arith, same)))
   by (inr other) true is rest =
       let not_here : same_process (ParityNode a) (ParityNode i) ≡ false = grind (arith, common_steps) in
       ap (λ (b : Bool). front_if b m (sent_to (ParityNode i) (to_parities (filter test (range_with_len (a + 1) n)) m))) not_here ∙ rest (omega (arith, low, other))
@@ -99,7 +100,8 @@ module _ (s : Dimensions) (d : ℕ) where
       (still-judge s d e told other)
 
   -- a decision that issues nothing in the partition
-  still-act : (name : CallName) (op : Asked) (e : ℕ) (h : Head) (p : Process) (decision : Decision) → e ≢ d → (Lost : Type 0) → (Lost → LeadsLost s p) → RestsWell (replica_of p e) Lost decision → Still d p (act_on s name op e h p decision).step
+  still-act : (name : CallName) (op : Asked) (e : ℕ) (h : Head) (p : Process) (decision : Decision) → e ≢ d → (Lost : Type 0) → (Lost → LeadsLost s p)
+      → RestsWell (replica_of p e) Lost decision → Still d p (act_on s name op e h p decision).step
   still-act name op e h p (decides.Answer r) other Lost leads well = still-quiet d p p (same-in-refl d p)
   still-act name op e h p (decides.Retry n) other Lost leads well = still-quiet d p p (same-in-refl d p)
   still-act name op e h p decides.NoSpace other Lost leads well = still-quiet d p p (same-in-refl d p)
@@ -133,7 +135,8 @@ module _ (s : Dimensions) (d : ℕ) where
   }
 
   -- a call on another partition
-  pub still-ask : (name : CallName) (op : Asked) (e : ℕ) (p : Process) (h : Option Head) → e ≢ d → ((g : Head) → h ≡ Some g → (run : Run) (b : ℕ) → found_at s e p p.name run ≡ Missing b → LeadsLost s p) → Still d p (ask_head s name op e p h).step
+  pub still-ask : (name : CallName) (op : Asked) (e : ℕ) (p : Process) (h : Option Head) → e ≢ d
+      → ((g : Head) → h ≡ Some g → (run : Run) (b : ℕ) → found_at s e p p.name run ≡ Missing b → LeadsLost s p) → Still d p (ask_head s name op e p h).step
   still-ask name op e p None other leads = still-quiet d p p (same-in-refl d p)
   still-ask name op e p (Some h) other leads =
       let decision : Decision = decide (space_of s) h.inherited (replica_of p e) op (found_at s e p p.name) in
@@ -163,30 +166,38 @@ module _ (F : ℕ → ℕ → List Update → Type 0) (laws : HistoryLaws F) (s 
           (λ q seen. sent-each (AckFits d q seen) s proc m q tt) (λ q n. sent-each (AckBelow d n) s proc m q tt) few
           (numbered-append 1 (history settled (replica_of proc d)) (u ∷ []) own.fine.0 ((omega (arith, number, long)), tt), keeps) around)
 
-  ticketed-leads : (settled : List Update) (proc : Process) (b : Bool) (u : Update) (t : ProcessStep) → LeadsFrom F laws s v members d below p pin lives inn settled proc t → LeadsFrom F laws s v members d below p pin lives inn settled proc (ticketed b d u t).step
+  ticketed-leads : (settled : List Update) (proc : Process) (b : Bool) (u : Update) (t : ProcessStep)
+      → LeadsFrom F laws s v members d below p pin lives inn settled proc t
+      → LeadsFrom F laws s v members d below p pin lives inn settled proc (ticketed b d u t).step
   ticketed-leads settled proc true u t leads out around = leads out around
   ticketed-leads settled proc false u t leads out around =
       turn-same F laws s v members d below p pin lives inn t.process (holding d u t.process) (record { name = refl; known = refl; head = refl; rank = refl; replica = refl }) (λ q. out q ++ sent_to q t.sent) (settled_with t.settled d settled) (leads out around)
 
-  act-leads : (settled : List Update) (proc : Process) (name : CallName) (op : Asked) (h : Head) (decision : Decision) → head_at proc d ≡ Some h → proc.name ≡ p → Spares F laws s v members d below p pin lives inn proc.known → (Lost : Type 0) → (Lost → LeadsLost s proc)
+  act-leads : (settled : List Update) (proc : Process) (name : CallName) (op : Asked) (h : Head) (decision : Decision) → head_at proc d ≡ Some h → proc.name ≡ p
+      → Spares F laws s v members d below p pin lives inn proc.known → (Lost : Type 0) → (Lost → LeadsLost s proc)
       → RestsWell (replica_of proc d) Lost decision
       → ((body : Body) (outcome : Outcome) → decision ≡ decides.Issue body outcome → F d (replica_of proc d).applied (history settled (replica_of proc d) ++ update_of name op d body outcome proc ∷ []))
       → LeadsFrom F laws s v members d below p pin lives inn settled proc (act_on s name op d h proc decision).step
-  act-leads settled proc name op h (decides.Answer r) heads named spares Lost leads well keeps out around = still-leads F laws s v members d below p pin lives inn proc (quiet proc) (still-quiet d proc proc (same-in-refl d proc)) out settled around
-  act-leads settled proc name op h (decides.Retry n) heads named spares Lost leads well keeps out around = still-leads F laws s v members d below p pin lives inn proc (quiet proc) (still-quiet d proc proc (same-in-refl d proc)) out settled around
-  act-leads settled proc name op h decides.NoSpace heads named spares Lost leads well keeps out around = still-leads F laws s v members d below p pin lives inn proc (quiet proc) (still-quiet d proc proc (same-in-refl d proc)) out settled around
+  act-leads settled proc name op h (decides.Answer r) heads named spares Lost leads well keeps out around =
+      still-leads F laws s v members d below p pin lives inn proc (quiet proc) (still-quiet d proc proc (same-in-refl d proc)) out settled around
+  act-leads settled proc name op h (decides.Retry n) heads named spares Lost leads well keeps out around =
+      still-leads F laws s v members d below p pin lives inn proc (quiet proc) (still-quiet d proc proc (same-in-refl d proc)) out settled around
+  act-leads settled proc name op h decides.NoSpace heads named spares Lost leads well keeps out around =
+      still-leads F laws s v members d below p pin lives inn proc (quiet proc) (still-quiet d proc proc (same-in-refl d proc)) out settled around
   act-leads settled proc name op h (decides.NeedBlock b) heads named spares Lost leads well keeps out around =
       still-leads F laws s v members d below p pin lives inn proc _ (still-retry s d proc b (oldest_inherited proc (range_with_len 0 s.k)) refl (leads well)) out settled around
   act-leads settled proc name op h (decides.Issue body outcome) heads named spares Lost leads well keeps out around =
       let u : Update = update_of name op d body outcome proc in
       ticketed-leads settled proc (nat_le u.number (replica_of (issued s d h u proc).process d).applied) u (issued s d h u proc) (issued-leads settled proc h u heads named spares well refl (keeps body outcome refl)) out around
 
-  pub ask-leads : (settled : List Update) (proc : Process) (name : CallName) (op : Asked) (h : Option Head) → head_at proc d ≡ h → proc.name ≡ p → Spares F laws s v members d below p pin lives inn proc.known
+  pub ask-leads : (settled : List Update) (proc : Process) (name : CallName) (op : Asked) (h : Option Head) → head_at proc d ≡ h → proc.name ≡ p
+      → Spares F laws s v members d below p pin lives inn proc.known
       → ((g : Head) → h ≡ Some g → (run : Run) (b : ℕ) → found_at s d proc proc.name run ≡ Missing b → LeadsLost s proc)
       → ((g : Head) (body : Body) (outcome : Outcome) → head_at proc d ≡ Some g → decide (space_of s) g.inherited (replica_of proc d) op (found_at s d proc proc.name) ≡ decides.Issue body outcome
       → F d (replica_of proc d).applied (history settled (replica_of proc d) ++ update_of name op d body outcome proc ∷ []))
       → LeadsFrom F laws s v members d below p pin lives inn settled proc (ask_head s name op d proc h).step
-  ask-leads settled proc name op None heads named spares leads keeps out around = still-leads F laws s v members d below p pin lives inn proc (quiet proc) (still-quiet d proc proc (same-in-refl d proc)) out settled around
+  ask-leads settled proc name op None heads named spares leads keeps out around =
+      still-leads F laws s v members d below p pin lives inn proc (quiet proc) (still-quiet d proc proc (same-in-refl d proc)) out settled around
   ask-leads settled proc name op (Some h) heads named spares leads keeps out around =
       act-leads settled proc name op h (decide (space_of s) h.inherited (replica_of proc d) op (found_at s d proc proc.name)) heads named spares (LeadsLost s proc) (λ lost. lost)
       (decides-well (space_of s) (replica_of proc d) op (found_at s d proc proc.name) (LeadsLost s proc) (leads h refl) h.inherited) (λ body outcome is. keeps h body outcome heads is) out around

@@ -204,7 +204,8 @@ module _ (s : Dimensions) where
 
   spared-ack : (i r d n : ℕ) (o : Option Head) (p : Process) → IsSpared p → IsSpared (acknowledge s i r d n o p).process
   spared-ack i r d n None p spared = spared
-  spared-ack i r d n (Some h) p spared = spared-when (r == h.rank) p (judge s d (with_head d (Some (acknowledged i n h)) p)) spared (λ is. spared-judge d (with_head d (Some (acknowledged i n h)) p) spared)
+  spared-ack i r d n (Some h) p spared =
+      spared-when (r == h.rank) p (judge s d (with_head d (Some (acknowledged i n h)) p)) spared (λ is. spared-judge d (with_head d (Some (acknowledged i n h)) p) spared)
 
   -- a message
   spared-receives : (x : ProcessId) (m : Message) (p : Process) → IsSpared p → IsSpared (receive s x m p).process

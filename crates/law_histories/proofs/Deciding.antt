@@ -16,6 +16,7 @@ RestsWell r Wanted (decides.NeedBlock b) = Wanted
 RestsWell r Wanted (decides.Answer reply) = Unit {0}
 RestsWell r Wanted (decides.Retry n) = Unit {0}
 RestsWell r Wanted decides.NoSpace = Unit {0}
+
 module _ (space : ℕ) (r : Replica) (op : Asked) (read : Run → Found) (Wanted : Type 0) (wants : (run : Run) (b : ℕ) → read run ≡ Missing b → Wanted) where
   pub decides-well : (inherited : ℕ) → RestsWell r Wanted (decide space inherited r op read)
   decides-well inherited = decides-by space r op read inherited (RestsWell r Wanted) (record {

@@ -55,7 +55,8 @@ IsEmpty s v = (from to : ProcessId) → IsProcess s from → IsProcess s to → 
 least-all : (h : Head) (last : ℕ) (test : ℕ → Bool) (a n : ℕ) → ((i : ℕ) → a ≤ i → i < a + n → test i ≡ true → last ≤ acked_by h i) → last ≤ least_acked h last (filter test (range_with_len a n))
 least-all h last test a zero all = omega arith
 least-all h last test a (suc n) all = by (test a) refl (least-all h last test (a + 1) n (λ i low high. all i (omega (arith, low)) (omega (arith, high)))) where
-  by : (b : Bool) → test a ≡ b → last ≤ least_acked h last (filter test (range_with_len (a + 1) n)) → last ≤ least_acked h last (cond b (a ∷ filter test (range_with_len (a + 1) n)) (filter test (range_with_len (a + 1) n)))
+  by : (b : Bool) → test a ≡ b → last ≤ least_acked h last (filter test (range_with_len (a + 1) n))
+      → last ≤ least_acked h last (cond b (a ∷ filter test (range_with_len (a + 1) n)) (filter test (range_with_len (a + 1) n)))
   by true is rest = let here = all a (omega arith) (omega arith) is in omega (arith, here, rest)
   by false is rest = rest
 

@@ -88,7 +88,8 @@ module _ (F : ℕ → ℕ → List Update → Type 0) (s : Dimensions) (v : Stat
   may-first : (m : Message) (rest : List Message) → First m rest → MayStand s v x p m
   may-first m rest first = (subst (Each (MayStand s v x p)) first (members.may x p xin pin apart lives)).0
 
-  goes-by : (y : ProcessId) → p ≡ y → (m : Message) (rest : List Message) → First m rest → (d : ℕ) → d < s.k → IsParity y → Goes F d (v.settled d) (seen_at d (v.settled d) (v.process p)) m × ReplicaReaches F d (v.settled d) (v.process p)
+  goes-by : (y : ProcessId) → p ≡ y → (m : Message) (rest : List Message) → First m rest → (d : ℕ) → d < s.k → IsParity y
+      → Goes F d (v.settled d) (seen_at d (v.settled d) (v.process p)) m × ReplicaReaches F d (v.settled d) (v.process p)
   goes-by (DataNode e) is m rest first d below parity = absurd parity
   goes-by (ParityNode i) is m rest first d below parity = (
     (subst (Along (next d) (Goes F d (v.settled d)) (seen_at d (v.settled d) (v.process p))) (ap (v.link x) (sym is) ∙ first)
@@ -97,7 +98,8 @@ module _ (F : ℕ → ℕ → List Update → Type 0) (s : Dimensions) (v : Stat
     (reach d below).replicas p pin lives (subst (IsKeeper d) (sym is) tt),
   )
 
-  goes-first : (m : Message) (rest : List Message) → First m rest → (d : ℕ) → d < s.k → IsParity p → Goes F d (v.settled d) (seen_at d (v.settled d) (v.process p)) m × ReplicaReaches F d (v.settled d) (v.process p)
+  goes-first : (m : Message) (rest : List Message) → First m rest → (d : ℕ) → d < s.k → IsParity p
+      → Goes F d (v.settled d) (seen_at d (v.settled d) (v.process p)) m × ReplicaReaches F d (v.settled d) (v.process p)
   goes-first m rest first d below parity = goes-by p refl m rest first d below parity
 
   ranked : (d r : ℕ) (y : ProcessId) → IsFrom s v y d r → IsRanked s d r
@@ -164,7 +166,8 @@ module _ (F : ℕ → ℕ → List Update → Type 0) (s : Dimensions) (v : Stat
   fits-numbers (tells.Cease upto) rest first = tt
 
 -- of a group, in its own words
-numbers-fit : (h : History) (s : Dimensions) → h.world.shape ≡ s → Members s (state_of h) × Reach Any s (state_of h) → (from to : ProcessId) (m : Message) (rest : List Message) → IsProcess s from → IsProcess s to → from ≢ to → Lives h.world to
+numbers-fit : (h : History) (s : Dimensions) → h.world.shape ≡ s → Members s (state_of h) × Reach Any s (state_of h)
+    → (from to : ProcessId) (m : Message) (rest : List Message) → IsProcess s from → IsProcess s to → from ≢ to → Lives h.world to
     → link h.world from to ≡ m ∷ rest → FitsNumbers s from m (process_of h.world to)
 numbers-fit h s shape both from to m rest fin tin apart lives first = fits-numbers Any s (state_of h) both.0 both.1 from to fin tin apart lives.1 m rest first
 

@@ -13,21 +13,21 @@ module _ {S M : Type 0} (next : S → M → S) where
   Along Ok s (m ∷ ms) = Ok s m × Along Ok (next s m) ms
 
   -- messages behind others come to the state that those leave
-  pub run-append : (s : S) (ms ns : List M) → run next s (ms ++ ns) ≡ run next (run next s ms) ns
+  pub run-append : (s : S) (ms ns : List M) → run s (ms ++ ns) ≡ run (run s ms) ns
   run-append s [] ns = refl
   run-append s (m ∷ ms) ns = run-append (next s m) ms ns
 
-  pub along-append : (Ok : S → M → Type 0) (s : S) (ms ns : List M) → Along next Ok s ms → Along next Ok (run next s ms) ns → Along next Ok s (ms ++ ns)
+  pub along-append : (Ok : S → M → Type 0) (s : S) (ms ns : List M) → Along Ok s ms → Along Ok (run s ms) ns → Along Ok s (ms ++ ns)
   along-append Ok s [] ns fits rest = rest
   along-append Ok s (m ∷ ms) ns fits rest = (fits.0, along-append Ok (next s m) ms ns fits.1 rest)
 
   -- the first messages of a link fit by themselves: a link that is cut still fits
-  pub along-take : (Ok : S → M → Type 0) (n : ℕ) (s : S) (ms : List M) → Along next Ok s ms → Along next Ok s (take n ms)
+  pub along-take : (Ok : S → M → Type 0) (n : ℕ) (s : S) (ms : List M) → Along Ok s ms → Along Ok s (take n ms)
   along-take Ok zero s ms fits = tt
   along-take Ok (suc n) s [] fits = tt
   along-take Ok (suc n) s (m ∷ ms) fits = (fits.0, along-take Ok n (next s m) ms fits.1)
 
   -- what fits a stronger condition fits a weaker one
-  pub along-weaker : (Ok Weak : S → M → Type 0) → ((s : S) (m : M) → Ok s m → Weak s m) → (s : S) (ms : List M) → Along next Ok s ms → Along next Weak s ms
+  pub along-weaker : (Ok Weak : S → M → Type 0) → ((s : S) (m : M) → Ok s m → Weak s m) → (s : S) (ms : List M) → Along Ok s ms → Along Weak s ms
   along-weaker Ok Weak weaker s [] fits = tt
   along-weaker Ok Weak weaker s (m ∷ ms) fits = (weaker s m fits.0, along-weaker Ok Weak weaker (next s m) ms fits.1)

@@ -64,7 +64,8 @@ lowest dead (suc n) = by (lowest dead n) (dead n) refl where
     each q low (inr other) = all q (omega (arith, low, other))
 
 -- not all of a partition are dead
-some-lives : (s : Dimensions) (dead : ProcessId → Bool) (d : ℕ) → d < s.k → count_dead (map (λ x. dead (process_at s x)) (range_with_len 0 (s.k + s.m))) ≤ s.m → ((q : ℕ) → q < suc s.m → dead (of_rank d q) ≡ true) → ⊥
+some-lives : (s : Dimensions) (dead : ProcessId → Bool) (d : ℕ) → d < s.k → count_dead (map (λ x. dead (process_at s x)) (range_with_len 0 (s.k + s.m))) ≤ s.m
+    → ((q : ℕ) → q < suc s.m → dead (of_rank d q) ≡ true) → ⊥
 some-lives s dead d below few all =
     let parts = count-parts f 0 s.m s.k in
     let one = count-one f 0 s.k d (omega arith) (omega (arith, below)) (ap dead (process_at-index s (DataNode d) below) ∙ all 0 (omega arith)) in
@@ -92,7 +93,8 @@ pub headed : (h : History) → FramedHistory h → IsDrained h.world → ¬ (IsD
 headed h framed drained up d below = by (lowest (λ r. is_dead h.world (of_rank d r)) (suc h.world.shape.m)) where
   few : lost_in h.world.shape (state_of h) ≤ h.world.shape.m
   few = let same = lost-nodes h.world.shape h.world.nodes h.settled framed.nodes_many in not_more (cases_lt h.world.shape.m (dead_nodes h.world.nodes)) same where
-    not_more : (h.world.shape.m < dead_nodes h.world.nodes) ⊎ (dead_nodes h.world.nodes ≤ h.world.shape.m) → lost_in h.world.shape (state_of h) ≡ dead_nodes h.world.nodes → lost_in h.world.shape (state_of h) ≤ h.world.shape.m
+    not_more : (h.world.shape.m < dead_nodes h.world.nodes) ⊎ (dead_nodes h.world.nodes ≤ h.world.shape.m)
+        → lost_in h.world.shape (state_of h) ≡ dead_nodes h.world.nodes → lost_in h.world.shape (state_of h) ≤ h.world.shape.m
     not_more (inl more) same = absurd (up more)
     not_more (inr low) same = omega (arith, low, same)
 
@@ -104,7 +106,8 @@ headed h framed drained up d below = by (lowest (λ r. is_dead h.world (of_rank 
       let within : found.0 ≤ h.world.shape.m = omega (arith, low) in
       (found.0, record { within = within; lives = found.2; lowest = found.3 }, λ q from lower fin other has. none q from fin other within has)
     where
-      none : (q : ℕ) (from : ProcessId) → IsProcess h.world.shape from → from ≢ of_rank d found.0 → found.0 ≤ h.world.shape.m → ¬ (Contains (link h.world from (of_rank d found.0)) (tells.Notice (of_rank d q)))
+      none : (q : ℕ) (from : ProcessId) → IsProcess h.world.shape from → from ≢ of_rank d found.0 → found.0 ≤ h.world.shape.m
+          → ¬ (Contains (link h.world from (of_rank d found.0)) (tells.Notice (of_rank d q)))
       none q from fin other within has =
           let empty : link h.world from (of_rank d found.0) ≡ [] = drained from (of_rank d found.0) fin (rank-in h.world.shape d found.0 below within, found.2) other in
           let low = has.1 in let zero_long : length (link h.world from (of_rank d found.0)) ≡ 0 = ap length empty in absurd (omega (arith, low, zero_long))

@@ -63,7 +63,8 @@ least-filter h last test j a (suc n) low high passes = by (cases_eq j a) (test a
   by (inr other) true is rest = let low_rest = rest (omega (arith, low, other)) in omega (arith, low_rest)
   by (inr other) false is rest = rest (omega (arith, low, other))
 
-pub least-acked-by : (h : Head) (last m i : ℕ) (name : ProcessId) (known : Membership) → i < m → ParityNode i ≢ name → knows_dead known (ParityNode i) ≡ false → least_acked h last (other_parities m name known) ≤ acked_by h i
+pub least-acked-by : (h : Head) (last m i : ℕ) (name : ProcessId) (known : Membership) → i < m → ParityNode i ≢ name → knows_dead known (ParityNode i) ≡ false
+    → least_acked h last (other_parities m name known) ≤ acked_by h i
 least-acked-by h last m i name known within other unknown =
     least-filter h last (λ j. not (same_process name (ParityNode j)) && not (knows_dead known (ParityNode j))) i 0 m (omega arith) (omega (arith, within))
     (ap (λ (b : Bool). not b && not (knows_dead known (ParityNode i))) (same-ne name (ParityNode i) (λ same. other (sym same))) ∙ ap not unknown)
@@ -114,7 +115,8 @@ replica-apply_to s d n p = at-put empty_replica empty_replica p.replicas d (appl
 
 module _ (F : ℕ → ℕ → List Update → Type 0) (laws : HistoryLaws F) (s : Dimensions) (v : State) (members : Members s v) (d : ℕ) (below : d < s.k) (p : ProcessId) (pin : IsProcess s p) (lives : v.dead p ≡ false) where
   -- what comes to a living head from others is stale, and there is no other head
-  pub head-inward : (r : ℕ) → p ≡ of_rank d r → ((j : ℕ) → j < r → v.dead (of_rank d j) ≡ true) → (settled : List Update) (own : Replica) (seen : Seen) → seen.rank ≡ r → (x : ProcessId) (i : ℕ) → IsProcess s x → x ≢ p → (there back : List Message)
+  pub head-inward : (r : ℕ) → p ≡ of_rank d r → ((j : ℕ) → j < r → v.dead (of_rank d j) ≡ true) → (settled : List Update) (own : Replica) (seen : Seen)
+      → seen.rank ≡ r → (x : ProcessId) (i : ℕ) → IsProcess s x → x ≢ p → (there back : List Message)
       → Each (MayStand s v x p) there → (v.dead x ≡ false → Each (AckFits d x seen) back) → LaneReaches F d settled x i (v.dead x) (head_at (v.process x) d) own seen there back
   head-inward r name lower settled own seen is x i xin other there back may acks = record {
     goes = stale-along F d settled seen there (subst (λ (k : ℕ). Each (Stale d k) there) (sym is) (may-stale s v d p x p r name lives other there may));
@@ -124,7 +126,8 @@ module _ (F : ℕ → ℕ → List Update → Type 0) (laws : HistoryLaws F) (s 
   }
 
   -- a head applies what is settled
-  pub act-apply : (proc : Process) (out inn : ProcessId → List Message) (settled : List Update) (n : ℕ) (h : Head) → head_at proc d ≡ Some h → n ≤ length settled → Around F s v d p proc out inn settled → Around F s v d p (apply_to s d n proc) out inn settled
+  pub act-apply : (proc : Process) (out inn : ProcessId → List Message) (settled : List Update) (n : ℕ) (h : Head) → head_at proc d ≡ Some h
+      → n ≤ length settled → Around F s v d p proc out inn settled → Around F s v d p (apply_to s d n proc) out inn settled
   act-apply proc out inn settled n h heads low around = record {
     own = λ k. subst (λ (x : Replica). ReplicaFits F d settled x (head_at proc d)) (sym is) (fits-applied F laws d settled (replica_of proc d) (head_at proc d) n low own);
     sits = λ g is_head. let was = around.sits g is_head in record { name = was.name; rank = was.rank; lower = was.lower };
@@ -135,7 +138,10 @@ module _ (F : ℕ → ℕ → List Update → Type 0) (laws : HistoryLaws F) (s 
       ends = λ alive g is_head. let end = lane.ends alive g is_head in record {
         rank = end.rank;
         history_is = end.history_is ∙ sym same;
-        number = let most = end.number in let now : (replica_of (apply_to s d n proc) d).applied ≡ (applied_to n (replica_of proc d)).applied = ap (λ (x : Replica). x.applied) is in omega (arith, most, now);
+        number =
+            let most = end.number in
+            let now : (replica_of (apply_to s d n proc) d).applied ≡ (applied_to n (replica_of proc d)).applied = ap (λ (x : Replica). x.applied) is in
+            omega (arith, most, now);
       };
       kept = lane.kept;
       acks = lane.acks;
@@ -176,7 +182,8 @@ module _ (F : ℕ → ℕ → List Update → Type 0) (laws : HistoryLaws F) (s 
     same = ap (history settled) is ∙ history-applied settled (replica_of proc d) own.applied own.prolongs n low
 
   -- a head issues an update: it stands behind its history, and behind each link
-  pub act-issue : (old new : Process) (out inn sent : ProcessId → List Message) (settled : List Update) (h : Head) (u : Update) → head_at old d ≡ Some h → head_at new d ≡ head_at old d → at 0 new.ranks d ≡ at 0 old.ranks d
+  pub act-issue : (old new : Process) (out inn sent : ProcessId → List Message) (settled : List Update) (h : Head) (u : Update) → head_at old d ≡ Some h
+      → head_at new d ≡ head_at old d → at 0 new.ranks d ≡ at 0 old.ranks d
       → replica_of new d ≡ with_update u (replica_of old d)
       → ((i : ℕ) → i < s.m → ParityNode i ≢ p → v.dead (ParityNode i) ≡ false → sent (ParityNode i) ≡ tells.Update (rank h.rank) (partition d) u (replica_of old d).applied ∷ [])
       → ((q : ProcessId) (seen : Seen) → Each (AckFits d q seen) (sent q)) → ((q : ProcessId) (n : ℕ) → Each (AckBelow d n) (sent q))
@@ -254,7 +261,11 @@ module _ (F : ℕ → ℕ → List Update → Type 0) (laws : HistoryLaws F) (s 
       ends = λ alive g is_head. subst (EndsAt settled (replica_of new d) g) (sym whole) (record {
         rank = end.rank ∙ ap (λ (x : Head). x.rank) (one g is_head);
         history_is = ap (λ (us : List Update). us ++ u ∷ []) end.history_is ∙ sym grown;
-        number = let most = end.number in let now : (replica_of new d).applied ≡ r.applied = ap (λ (x : Replica). x.applied) is in let inherits : h.inherited ≡ g.inherited = ap (λ (x : Head). x.inherited) (one g is_head) in omega (arith, most, now, inherits);
+        number =
+            let most = end.number in
+            let now : (replica_of new d).applied ≡ r.applied = ap (λ (x : Replica). x.applied) is in
+            let inherits : h.inherited ≡ g.inherited = ap (λ (x : Head). x.inherited) (one g is_head) in
+            omega (arith, most, now, inherits);
       });
       kept = λ alive g is_head. lane.kept alive g (sym same_head ∙ is_head);
       acks = lane.acks;
@@ -289,7 +300,8 @@ module _ (F : ℕ → ℕ → List Update → Type 0) (laws : HistoryLaws F) (s 
       numbers = last-number hist u fine.0
 
   -- a head keeps an acknowledgement
-  pub act-acked : (old new : Process) (out inn : ProcessId → List Message) (settled : List Update) (h : Head) (i n : ℕ) → head_at old d ≡ Some h → head_at new d ≡ Some (acknowledged i n h) → seen_at d settled new ≡ seen_at d settled old → replica_of new d ≡ replica_of old d
+  pub act-acked : (old new : Process) (out inn : ProcessId → List Message) (settled : List Update) (h : Head) (i n : ℕ) → head_at old d ≡ Some h
+      → head_at new d ≡ Some (acknowledged i n h) → seen_at d settled new ≡ seen_at d settled old → replica_of new d ≡ replica_of old d
       → (i < s.m → ParityNode i ≢ p → v.dead (ParityNode i) ≡ false → KeptGoes (seen_at d settled (v.process (ParityNode i))) h n)
       → Around F s v d p old out inn settled → Around F s v d p new out inn settled
   act-acked old new out inn settled h i n heads now same_seen same_replica goes around = record {
@@ -517,21 +529,22 @@ module _ (F : ℕ → ℕ → List Update → Type 0) (laws : HistoryLaws F) (s 
 
       out_by : (i : ℕ) → i < s.m → ParityNode i ≢ p → v.dead (ParityNode i) ≡ false
           → LaneReaches F d more p i false (head_at new d) (replica_of new d) (seen_at d more (v.process (ParityNode i))) (out (ParityNode i)) (inn (ParityNode i))
-      out_by i iin other living = subst (λ (y : Seen). LaneReaches F d more p i false (head_at new d) (replica_of new d) y (out (ParityNode i)) (inn (ParityNode i))) (sym (same_seen i iin other living)) (record {
-        goes = along-grows F d settled more (let longer = more-begins.longer in longer) seen (out (ParityNode i)) ((lane.ends refl h heads).rank ∙ sym (has-all i iin other living).rank) lane.goes;
-        ends = λ alive g is_head. let end = lane.ends alive g is_head in record {
-          rank = end.rank;
-          history_is = end.history_is ∙ sym own_same ∙ ap (history more) (sym is_new);
-          number = let most = end.number in let now : (replica_of new d).applied ≡ (applied_to n r).applied = ap (λ (x : Replica). x.applied) is_new in omega (arith, most, now);
-        };
-        kept = lane.kept;
-        acks = lane.acks;
-      }) where
-        seen : Seen
-        seen = seen_at d settled (v.process (ParityNode i))
+      out_by i iin other living =
+          subst (λ (y : Seen). LaneReaches F d more p i false (head_at new d) (replica_of new d) y (out (ParityNode i)) (inn (ParityNode i))) (sym (same_seen i iin other living)) (record {
+            goes = along-grows F d settled more (let longer = more-begins.longer in longer) seen (out (ParityNode i)) ((lane.ends refl h heads).rank ∙ sym (has-all i iin other living).rank) lane.goes;
+            ends = λ alive g is_head. let end = lane.ends alive g is_head in record {
+              rank = end.rank;
+              history_is = end.history_is ∙ sym own_same ∙ ap (history more) (sym is_new);
+              number = let most = end.number in let now : (replica_of new d).applied ≡ (applied_to n r).applied = ap (λ (x : Replica). x.applied) is_new in omega (arith, most, now);
+            };
+            kept = lane.kept;
+            acks = lane.acks;
+          }) where
+            seen : Seen
+            seen = seen_at d settled (v.process (ParityNode i))
 
-        lane : LaneReaches F d settled p i false (head_at proc d) (replica_of proc d) seen (out (ParityNode i)) (inn (ParityNode i))
-        lane = lane_of i iin other living
+            lane : LaneReaches F d settled p i false (head_at proc d) (replica_of proc d) seen (out (ParityNode i)) (inn (ParityNode i))
+            lane = lane_of i iin other living
 
       act-grow : Around F s v d p new out inn more
       act-grow = record {

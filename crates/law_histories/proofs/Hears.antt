@@ -125,33 +125,38 @@ module _ (F : ℕ → ℕ → List Update → Type 0) (laws : HistoryLaws F) (s 
         by (inl same) = subst (EndsAt settled (replica_of (v.process y) d) h) same end
         by (inr stays) = let same : a.rank ≡ h.rank = ap (λ (z : Seen). z.rank) (sym stays) ∙ end.rank in absurd (omega (arith, same, high, risen))
 
-    kept_by : (i : ℕ) → p ≡ ParityNode i → (y : ProcessId) → IsProcess s y → y ≢ p → v.dead y ≡ false → (h : Head) → head_at (v.process y) d ≡ Some h → (n : ℕ) → at None h.acks i ≡ Some n → KeptGoes b h n
+    kept_by : (i : ℕ) → p ≡ ParityNode i → (y : ProcessId) → IsProcess s y → y ≢ p → v.dead y ≡ false → (h : Head) → head_at (v.process y) d ≡ Some h → (n : ℕ)
+        → at None h.acks i ≡ Some n → KeptGoes b h n
     kept_by i is y yin yother living h is_head n acked =
         let was = (around.inward y i is yin yother).kept living h is_head n acked in
         let now_is = turned i is y living ((head-from s v d members below y h yin living is_head).0 ∙ ap (of_rank d) (sym was.rank)) in
         record { rank = now_is.0 ∙ was.rank; has = let most = was.has in let longer = now_is.1 in omega (arith, most, longer) }
 
     acks_by : (i : ℕ) → p ≡ ParityNode i → (y : ProcessId) → IsProcess s y → y ≢ p → v.dead y ≡ false → Each (AckFits d y b) (v.link p y)
-    acks_by i is y yin yother living = each-weaker (AckFits d y a) (AckFits d y b) (λ n fits. ack-turned d y a b (turned i is y living) n fits) (v.link p y) ((around.inward y i is yin yother).acks living)
+    acks_by i is y yin yother living =
+        each-weaker (AckFits d y a) (AckFits d y b) (λ n fits. ack-turned d y a b (turned i is y living) n fits) (v.link p y) ((around.inward y i is yin yother).acks living)
 
-    in_by : (y : ProcessId) (i : ℕ) → p ≡ ParityNode i → IsProcess s y → y ≢ p → (y ≡ x) ⊎ (y ≢ x) → LaneReaches F d settled y i (v.dead y) (head_at (v.process y) d) (replica_of (v.process y) d) b (left y) (v.link p y)
-    in_by y i is yin yother (inr apart) = subst (λ (link : List Message). LaneReaches F d settled y i (v.dead y) (head_at (v.process y) d) (replica_of (v.process y) d) b link (v.link p y)) (sym (rest y yin apart)) (record {
-      goes = goes_by i is y yin yother apart (cases_lt r (rank_of y));
-      ends = λ living h is_head. ends_by i is y yin yother apart living h is_head (cases_lt r h.rank);
-      kept = kept_by i is y yin yother;
-      acks = acks_by i is y yin yother;
-    })
-    in_by y i is yin yother (inl same) = subst (λ (z : ProcessId). LaneReaches F d settled z i (v.dead z) (head_at (v.process z) d) (replica_of (v.process z) d) b (left z) (v.link p z)) (sym same) (record {
-      goes = along-lower F d settled b (next d a m) (left x) hears (subst (Along (next d) (Goes F d settled) a) first lane.goes).1;
-      ends = λ living h is_head.
-          let end : EndsAt settled (replica_of (v.process x) d) h (run (next d) (next d a m) (left x)) = subst (λ (link : List Message). EndsAt settled (replica_of (v.process x) d) h (run (next d) a link)) first (lane.ends living h is_head) in
-          let lower = lower-run F d settled b (next d a m) (left x) hears in
-          record { rank = lower.rank ∙ end.rank; history_is = lower.history ∙ end.history_is; number = let less = lower.number in let most = end.number in omega (arith, less, most) };
-      kept = kept_by i is x xin xother;
-      acks = acks_by i is x xin xother;
-    }) where
-      lane : LaneReaches F d settled x i (v.dead x) (head_at (v.process x) d) (replica_of (v.process x) d) a (v.link x p) (v.link p x)
-      lane = around.inward x i is xin xother
+    in_by : (y : ProcessId) (i : ℕ) → p ≡ ParityNode i → IsProcess s y → y ≢ p → (y ≡ x) ⊎ (y ≢ x)
+        → LaneReaches F d settled y i (v.dead y) (head_at (v.process y) d) (replica_of (v.process y) d) b (left y) (v.link p y)
+    in_by y i is yin yother (inr apart) =
+        subst (λ (link : List Message). LaneReaches F d settled y i (v.dead y) (head_at (v.process y) d) (replica_of (v.process y) d) b link (v.link p y)) (sym (rest y yin apart)) (record {
+          goes = goes_by i is y yin yother apart (cases_lt r (rank_of y));
+          ends = λ living h is_head. ends_by i is y yin yother apart living h is_head (cases_lt r h.rank);
+          kept = kept_by i is y yin yother;
+          acks = acks_by i is y yin yother;
+        })
+    in_by y i is yin yother (inl same) =
+        subst (λ (z : ProcessId). LaneReaches F d settled z i (v.dead z) (head_at (v.process z) d) (replica_of (v.process z) d) b (left z) (v.link p z)) (sym same) (record {
+          goes = along-lower F d settled b (next d a m) (left x) hears (subst (Along (next d) (Goes F d settled) a) first lane.goes).1;
+          ends = λ living h is_head.
+              let end : EndsAt settled (replica_of (v.process x) d) h (run (next d) (next d a m) (left x)) = subst (λ (link : List Message). EndsAt settled (replica_of (v.process x) d) h (run (next d) a link)) first (lane.ends living h is_head) in
+              let lower = lower-run F d settled b (next d a m) (left x) hears in
+              record { rank = lower.rank ∙ end.rank; history_is = lower.history ∙ end.history_is; number = let less = lower.number in let most = end.number in omega (arith, less, most) };
+          kept = kept_by i is x xin xother;
+          acks = acks_by i is x xin xother;
+        }) where
+          lane : LaneReaches F d settled x i (v.dead x) (head_at (v.process x) d) (replica_of (v.process x) d) a (v.link x p) (v.link p x)
+          lane = around.inward x i is xin xother
 
     out_by : (i : ℕ) → i < s.m → ParityNode i ≢ p → v.dead (ParityNode i) ≡ false → (ParityNode i ≡ x) ⊎ (ParityNode i ≢ x)
         → LaneReaches F d settled p i false (head_at new d) (replica_of new d) (seen_at d settled (v.process (ParityNode i))) (v.link p (ParityNode i)) (left (ParityNode i))
@@ -290,7 +295,8 @@ module _ (F : ℕ → ℕ → List Update → Type 0) (laws : HistoryLaws F) (s 
       whole : take r.applied seen.history ++ r.log ≡ history settled r
       whole = ap (λ (us : List Update). us ++ r.log) (sym (take-take r.applied (length settled) seen.history was.applied) ∙ ap (take r.applied) (around.replicas (ParityNode j) jin other living tt).prolongs.front)
 
-    hears_by : (x : ProcessId) (j : ℕ) → p ≡ ParityNode j → IsProcess s x → x ≢ p → LaneReaches F d settled x j (v.dead x) (head_at (v.process x) d) (replica_of (v.process x) d) (seen_at d settled new) (inn x) (out x ++ sent x)
+    hears_by : (x : ProcessId) (j : ℕ) → p ≡ ParityNode j → IsProcess s x → x ≢ p
+        → LaneReaches F d settled x j (v.dead x) (head_at (v.process x) d) (replica_of (v.process x) d) (seen_at d settled new) (inn x) (out x ++ sent x)
     hears_by x j is xin other = head-inward F laws s v members d below p pin lives (suc i) name lower settled (replica_of (v.process x) d) (seen_at d settled new) own_rank x j xin other (inn x) (out x ++ sent x) (around.may x xin other)
         (λ living. each-append (AckFits d x (seen_at d settled new)) (out x) (sent x)
         (each-weaker (AckFits d x (seen_at d settled old)) (AckFits d x (seen_at d settled new))

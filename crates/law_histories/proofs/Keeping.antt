@@ -68,7 +68,8 @@ module _ (s : Dimensions) (v : State) (members : Members s v) (p : ProcessId) (p
   pub known-dead : (q : ProcessId) → IsProcess s q → q ≢ p → knows_dead (v.process p).known q ≡ true → v.dead q ≡ true
   known-dead q qin other knows = known-is-dead q (v.dead q) (knows_dead (v.process p).known q) (v.link q p) (members.stands q p qin pin other lives) knows
 
-  pub leads-lost : (e : ℕ) (h : Head) (run : Run) (b : ℕ) → e < s.k → head_at (v.process p) e ≡ Some h → (y : ProcessId) → p ≡ y → found_at s e (v.process p) y run ≡ Missing b → LeadsLost s (v.process p)
+  pub leads-lost : (e : ℕ) (h : Head) (run : Run) (b : ℕ) → e < s.k → head_at (v.process p) e ≡ Some h → (y : ProcessId) → p ≡ y
+      → found_at s e (v.process p) y run ≡ Missing b → LeadsLost s (v.process p)
   leads-lost e h run b below heads (DataNode z) is missing l lin lost = absurd (bytes_not missing) where
     bytes_not : {bytes : List ℕ} → Bytes bytes ≡ Missing b → ⊥
     bytes_not m = cc m
@@ -93,7 +94,8 @@ module _ (F : ℕ → ℕ → List Update → Type 0) (laws : HistoryLaws F) (s 
     spared : (q : ProcessId) → IsProcess s q → q ≢ p → v.dead q ≡ false → knows_dead t.process.known q ≡ false
     spared q qin other living = ap (λ (y : Process). knows_dead y.known q) (sym acts.process) ∙ unknown s w after p pin after-lives q qin other (acts.dead q qin ∙ living)
 
-    treated : (d : ℕ) → d < s.k → Around F s v d p t.process (λ q. v.link p q ++ sent_to q t.sent) (λ x. v.link x p) (settled_with t.settled d (v.settled d)) → PartitionReaches F s w d × Since d (v.process p) (w.process p) × GrewBy d (v.settled d) (w.settled d) (w.process p) × FollowsBy d (v.settled d) (replica_of (v.process p) d) (w.settled d) (w.process p) × (¬ (IsKeeper d p) → replica_of (w.process p) d ≡ replica_of (v.process p) d)
+    treated : (d : ℕ) → d < s.k → Around F s v d p t.process (λ q. v.link p q ++ sent_to q t.sent) (λ x. v.link x p) (settled_with t.settled d (v.settled d))
+        → PartitionReaches F s w d × Since d (v.process p) (w.process p) × GrewBy d (v.settled d) (w.settled d) (w.process p) × FollowsBy d (v.settled d) (replica_of (v.process p) d) (w.settled d) (w.process p) × (¬ (IsKeeper d p) → replica_of (w.process p) d ≡ replica_of (v.process p) d)
     treated d below around = (
       left F s v w d p t.process (λ q. v.link p q ++ sent_to q t.sent) (λ x. v.link x p) (settled_with t.settled d (v.settled d)) pin lives (record {
         process = acts.process;
@@ -110,14 +112,16 @@ module _ (F : ℕ → ℕ → List Update → Type 0) (laws : HistoryLaws F) (s 
       λ not. ap (λ (y : Process). replica_of y d) acts.process ∙ around.unkept not,
     )
 
-  spares_of : (v : State) → Members s v → (p : ProcessId) → IsProcess s p → v.dead p ≡ false → (i : ℕ) → i < s.m → ParityNode i ≢ p → v.dead (ParityNode i) ≡ false → knows_dead (v.process p).known (ParityNode i) ≡ false
+  spares_of : (v : State) → Members s v → (p : ProcessId) → IsProcess s p → v.dead p ≡ false → (i : ℕ) → i < s.m → ParityNode i ≢ p
+      → v.dead (ParityNode i) ≡ false → knows_dead (v.process p).known (ParityNode i) ≡ false
   spares_of v members p pin lives i iin other living = unknown s v members p pin lives (ParityNode i) iin other living
 
   members_after : (v w : State) (p : ProcessId) (t : ProcessStep) → IsProcess s p → IsUp s v → v.dead p ≡ false → Treats s (v.process p) t → Members s v → Acted s v w p t → Members s w
   members_after v w p t pin up lives treats members acts = (keeps s shaped).treats v w p t pin up lives treats members acts
 
   -- a step that leaves every partition as it is
-  still-treated : (v w : State) (p : ProcessId) (t : ProcessStep) → IsProcess s p → IsUp s v → v.dead p ≡ false → Treats s (v.process p) t → ((d : ℕ) → Still d (v.process p) t) → Members s v → Reach F s v → Acted s v w p t → Leaves_both v w p
+  still-treated : (v w : State) (p : ProcessId) (t : ProcessStep) → IsProcess s p → IsUp s v → v.dead p ≡ false → Treats s (v.process p) t
+      → ((d : ℕ) → Still d (v.process p) t) → Members s v → Reach F s v → Acted s v w p t → Leaves_both v w p
   still-treated v w p t pin up lives treats still members reach acts d below =
       treated v w p t pin lives (members_after v w p t pin up lives treats members acts) acts d below
       (still-leads F laws s v members d below p pin lives (λ x. v.link x p) (v.process p) t (still d) (v.link p) (v.settled d) (enters F s v members d below p pin lives (reach d below)))
@@ -134,7 +138,8 @@ module _ (F : ℕ → ℕ → List Update → Type 0) (laws : HistoryLaws F) (s 
       around : Around F s v d p (v.process p) (v.link p) (λ x. v.link x p) (v.settled d)
       around = enters F s v members d below p pin lives (reach d below)
 
-      leads : (g : Head) → head_at (v.process p) (home_of (key_of op.act) s.k) ≡ Some g → (run : Run) (b : ℕ) → found_at s (home_of (key_of op.act) s.k) (v.process p) (v.process p).name run ≡ Missing b → LeadsLost s (v.process p)
+      leads : (g : Head) → head_at (v.process p) (home_of (key_of op.act) s.k) ≡ Some g → (run : Run) (b : ℕ)
+          → found_at s (home_of (key_of op.act) s.k) (v.process p) (v.process p).name run ≡ Missing b → LeadsLost s (v.process p)
       leads g heads run b missing = leads-lost s v members p pin lives (home_of (key_of op.act) s.k) g run b below_e heads p refl (ap (λ (y : ProcessId). found_at s (home_of (key_of op.act) s.k) (v.process p) y run) (sym (members.named p pin)) ∙ missing)
 
       by : (home_of (key_of op.act) s.k ≡ d) ⊎ (home_of (key_of op.act) s.k ≢ d)
@@ -147,14 +152,17 @@ module _ (F : ℕ → ℕ → List Update → Type 0) (laws : HistoryLaws F) (s 
           (subst (λ (k : ℕ). (g : Head) → head_at (v.process p) k ≡ Some g → (run : Run) (b : ℕ) → found_at s k (v.process p) (v.process p).name run ≡ Missing b → LeadsLost s (v.process p)) same leads)
           (subst (λ (k : ℕ). IssuesIn F s k (v.settled k) (v.process p) name op) same issues) (v.link p) around)
 
-  pub collects-both : (v w : State) (p : ProcessId) (caller call : ℕ) → IsProcess s p → IsUp s v → v.dead p ≡ false → Members s v → Reach F s v → Acted s v w p (collect_from caller call (v.process p) (range_with_len 0 s.k)).step → Leaves_both v w p
+  pub collects-both : (v w : State) (p : ProcessId) (caller call : ℕ) → IsProcess s p → IsUp s v → v.dead p ≡ false → Members s v → Reach F s v
+      → Acted s v w p (collect_from caller call (v.process p) (range_with_len 0 s.k)).step → Leaves_both v w p
   collects-both v w p caller call pin up lives members reach acts = still-treated v w p (collect_from caller call (v.process p) (range_with_len 0 s.k)).step pin up lives (Collects caller call) (λ d. still-collect s d caller call (v.process p) (range_with_len 0 s.k)) members reach acts
 
   pub flushes-both : (v w : State) (p : ProcessId) → IsProcess s p → IsUp s v → v.dead p ≡ false → Members s v → Reach F s v → Acted s v w p (flush_process s (v.process p)).step → Leaves_both v w p
   flushes-both v w p pin up lives members reach acts = still-treated v w p (flush_process s (v.process p)).step pin up lives Flushes (λ d. still-flush s d (v.process p)) members reach acts
 
   -- whatever a process treats, where what is issued keeps the sentence
-  pub treats-both : (v w : State) (p : ProcessId) (t : ProcessStep) → IsProcess s p → IsUp s v → v.dead p ≡ false → ((name : CallName) (op : Asked) → All (λ b. b < 256) (value_of op.act) → IssueKeeps F s v p name op) → Treats s (v.process p) t → Members s v → Reach F s v → Acted s v w p t → Leaves_both v w p
+  pub treats-both : (v w : State) (p : ProcessId) (t : ProcessStep) → IsProcess s p → IsUp s v → v.dead p ≡ false
+      → ((name : CallName) (op : Asked) → All (λ b. b < 256) (value_of op.act) → IssueKeeps F s v p name op) → Treats s (v.process p) t → Members s v
+      → Reach F s v → Acted s v w p t → Leaves_both v w p
   treats-both v w p _ pin up lives issues (Asks name op bytes) members reach acts = asks-both v w p name op pin up lives bytes (issues name op bytes) members reach acts
   treats-both v w p _ pin up lives issues (Collects caller call) members reach acts = collects-both v w p caller call pin up lives members reach acts
   treats-both v w p _ pin up lives issues Flushes members reach acts = flushes-both v w p pin up lives members reach acts
@@ -180,13 +188,17 @@ module _ (F : ℕ → ℕ → List Update → Type 0) (laws : HistoryLaws F) (s 
     left_rest : (y : ProcessId) → IsProcess s y → y ≢ x → u.link y p ≡ v.link y p
     left_rest y yin other = pops.links y p yin pin (inl other)
 
-    arrives : (d : ℕ) → d < s.k → Around F s v d p (receive s x m (v.process p)).process (λ q. v.link p q ++ sent_to q (receive s x m (v.process p)).sent) (λ y. u.link y p) (settled_with (receive s x m (v.process p)).settled d (v.settled d)) → PartitionReaches F s w d × Since d (v.process p) (w.process p) × GrewBy d (v.settled d) (w.settled d) (w.process p) × FollowsBy d (v.settled d) (replica_of (v.process p) d) (w.settled d) (w.process p) × (¬ (IsKeeper d p) → replica_of (w.process p) d ≡ replica_of (v.process p) d)
+    arrives : (d : ℕ) → d < s.k
+        → Around F s v d p (receive s x m (v.process p)).process (λ q. v.link p q ++ sent_to q (receive s x m (v.process p)).sent) (λ y. u.link y p) (settled_with (receive s x m (v.process p)).settled d (v.settled d))
+        → PartitionReaches F s w d × Since d (v.process p) (w.process p) × GrewBy d (v.settled d) (w.settled d) (w.process p) × FollowsBy d (v.settled d) (replica_of (v.process p) d) (w.settled d) (w.process p) × (¬ (IsKeeper d p) → replica_of (w.process p) d ≡ replica_of (v.process p) d)
     arrives d below around = (
       left F s v w d p (receive s x m (v.process p)).process (λ q. v.link p q ++ sent_to q (receive s x m (v.process p)).sent) (λ y. u.link y p) (settled_with (receive s x m (v.process p)).settled d (v.settled d)) pin lives (record {
         process = acts.process;
         others = λ q qin other. acts.others q qin other ∙ pops.processes q qin;
         dead = same_dead;
-        out_is = λ q qin other living. acts.sends q qin (received_spares q qin other living) ∙ ap (λ (link : List Message). link ++ sent_to q (receive s x m (v.process p)).sent) (pops.links p q pin qin (inr other));
+        out_is =
+            λ q qin other living. acts.sends q qin (received_spares q qin other living)
+            ∙ ap (λ (link : List Message). link ++ sent_to q (receive s x m (v.process p)).sent) (pops.links p q pin qin (inr other));
         inn_is = λ y yin other. acts.links y p yin pin other;
         between = λ y q yin qin other qother. acts.links y q yin qin other ∙ pops.links y q yin qin (inr qother);
         settled_is = acts.settled d below ∙ ap (settled_with (receive s x m (v.process p)).settled d) (pops.settled d);
@@ -201,7 +213,8 @@ module _ (F : ℕ → ℕ → List Update → Type 0) (laws : HistoryLaws F) (s 
     began d below = enters F s v members d below p pin lives (reach d below)
 
     receives_plain : is_notice m ≡ false → Leaves_both v w p
-    receives_plain plain d below = arrives d below (received F laws s v members d below p pin lives (spares_of v members p pin lives) x xin apart (λ y. u.link y p) left_rest (began d below) m plain pops.first)
+    receives_plain plain d below =
+        arrives d below (received F laws s v members d below p pin lives (spares_of v members p pin lives) x xin apart (λ y. u.link y p) left_rest (began d below) m plain pops.first)
 
   -- a notice
   receives_notice : (v u w : State) (x p dead : ProcessId) (xin : IsProcess s x) (pin : IsProcess s p) (apart : x ≢ p) (up : IsUp s v) (lives : v.dead p ≡ false) (members : Members s v) (reach : Reach F s v) (pops : Popped s v u x p (tells.Notice dead))
@@ -226,16 +239,23 @@ module _ (F : ℕ → ℕ → List Update → Type 0) (laws : HistoryLaws F) (s 
       popped = act-pop F s v members d below p pin lives (v.process p) (v.link p) (λ y. v.link y p) (λ y. u.link y p) (v.settled d) x (tells.Notice dead) pops.first
           (λ y yin other. pops.links y p yin pin (inl other)) xin apart (λ i is. refl) (enters F s v members d below p pin lives (reach d below))
 
-  pub receives-both : (v u w : State) (x p : ProcessId) (m : Message) → IsProcess s x → IsProcess s p → x ≢ p → IsUp s v → v.dead p ≡ false → Members s v → Reach F s v → Popped s v u x p m → Acted s u w p (receive s x m (v.process p)) → Leaves_both v w p
+  pub receives-both : (v u w : State) (x p : ProcessId) (m : Message) → IsProcess s x → IsProcess s p → x ≢ p → IsUp s v → v.dead p ≡ false → Members s v
+      → Reach F s v → Popped s v u x p m → Acted s u w p (receive s x m (v.process p)) → Leaves_both v w p
   receives-both v u w x p (tells.Notice dead) xin pin apart up lives members reach pops acts = receives_notice v u w x p dead xin pin apart up lives members reach pops acts
-  receives-both v u w x p (tells.Update r e z stable) xin pin apart up lives members reach pops acts = receives_plain v u w x p (tells.Update r e z stable) xin pin apart up lives members reach pops acts refl
+  receives-both v u w x p (tells.Update r e z stable) xin pin apart up lives members reach pops acts =
+      receives_plain v u w x p (tells.Update r e z stable) xin pin apart up lives members reach pops acts refl
   receives-both v u w x p (tells.Ack r e n) xin pin apart up lives members reach pops acts = receives_plain v u w x p (tells.Ack r e n) xin pin apart up lives members reach pops acts refl
   receives-both v u w x p (tells.Stable r e n) xin pin apart up lives members reach pops acts = receives_plain v u w x p (tells.Stable r e n) xin pin apart up lives members reach pops acts refl
-  receives-both v u w x p (tells.Adopt r e base list) xin pin apart up lives members reach pops acts = receives_plain v u w x p (tells.Adopt r e base list) xin pin apart up lives members reach pops acts refl
-  receives-both v u w x p (tells.ReadBlock session block rows) xin pin apart up lives members reach pops acts = receives_plain v u w x p (tells.ReadBlock session block rows) xin pin apart up lives members reach pops acts refl
-  receives-both v u w x p (tells.Block session bytes n) xin pin apart up lives members reach pops acts = receives_plain v u w x p (tells.Block session bytes n) xin pin apart up lives members reach pops acts refl
-  receives-both v u w x p (tells.Mark session r block e n) xin pin apart up lives members reach pops acts = receives_plain v u w x p (tells.Mark session r block e n) xin pin apart up lives members reach pops acts refl
-  receives-both v u w x p (tells.Row session bytes stamp) xin pin apart up lives members reach pops acts = receives_plain v u w x p (tells.Row session bytes stamp) xin pin apart up lives members reach pops acts refl
+  receives-both v u w x p (tells.Adopt r e base list) xin pin apart up lives members reach pops acts =
+      receives_plain v u w x p (tells.Adopt r e base list) xin pin apart up lives members reach pops acts refl
+  receives-both v u w x p (tells.ReadBlock session block rows) xin pin apart up lives members reach pops acts =
+      receives_plain v u w x p (tells.ReadBlock session block rows) xin pin apart up lives members reach pops acts refl
+  receives-both v u w x p (tells.Block session bytes n) xin pin apart up lives members reach pops acts =
+      receives_plain v u w x p (tells.Block session bytes n) xin pin apart up lives members reach pops acts refl
+  receives-both v u w x p (tells.Mark session r block e n) xin pin apart up lives members reach pops acts =
+      receives_plain v u w x p (tells.Mark session r block e n) xin pin apart up lives members reach pops acts refl
+  receives-both v u w x p (tells.Row session bytes stamp) xin pin apart up lives members reach pops acts =
+      receives_plain v u w x p (tells.Row session bytes stamp) xin pin apart up lives members reach pops acts refl
   receives-both v u w x p (tells.Cease upto) xin pin apart up lives members reach pops acts = receives_plain v u w x p (tells.Cease upto) xin pin apart up lives members reach pops acts refl
 
   -- a call is asked, where what is issued keeps the sentence
@@ -244,18 +264,22 @@ module _ (F : ℕ → ℕ → List Update → Type 0) (laws : HistoryLaws F) (s 
   asks v w p name op pin up lives bytes issues members reach acts d below = (asks-both v w p name op pin up lives bytes issues members reach acts d below).0
 
   -- a call is collected, and a process is told to tell how far it has settled
-  pub collects : (v w : State) (p : ProcessId) (caller call : ℕ) → IsProcess s p → IsUp s v → v.dead p ≡ false → Members s v → Reach F s v → Acted s v w p (collect_from caller call (v.process p) (range_with_len 0 s.k)).step → Reach F s w
+  pub collects : (v w : State) (p : ProcessId) (caller call : ℕ) → IsProcess s p → IsUp s v → v.dead p ≡ false → Members s v → Reach F s v
+      → Acted s v w p (collect_from caller call (v.process p) (range_with_len 0 s.k)).step → Reach F s w
   collects v w p caller call pin up lives members reach acts d below = (collects-both v w p caller call pin up lives members reach acts d below).0
 
   pub flushes : (v w : State) (p : ProcessId) → IsProcess s p → IsUp s v → v.dead p ≡ false → Members s v → Reach F s v → Acted s v w p (flush_process s (v.process p)).step → Reach F s w
   flushes v w p pin up lives members reach acts d below = (flushes-both v w p pin up lives members reach acts d below).0
 
   -- whatever a process treats, where what is issued keeps the sentence
-  pub treats : (v w : State) (p : ProcessId) (t : ProcessStep) → IsProcess s p → IsUp s v → v.dead p ≡ false → ((name : CallName) (op : Asked) → All (λ b. b < 256) (value_of op.act) → IssueKeeps F s v p name op) → Treats s (v.process p) t → Members s v → Reach F s v → Acted s v w p t → Reach F s w
+  pub treats : (v w : State) (p : ProcessId) (t : ProcessStep) → IsProcess s p → IsUp s v → v.dead p ≡ false
+      → ((name : CallName) (op : Asked) → All (λ b. b < 256) (value_of op.act) → IssueKeeps F s v p name op) → Treats s (v.process p) t → Members s v
+      → Reach F s v → Acted s v w p t → Reach F s w
   treats v w p t pin up lives issues treated members reach acts d below = (treats-both v w p t pin up lives issues treated members reach acts d below).0
 
   -- a message is received
-  pub receives : (v u w : State) (x p : ProcessId) (m : Message) → IsProcess s x → IsProcess s p → x ≢ p → IsUp s v → v.dead p ≡ false → Members s v → Reach F s v → Popped s v u x p m → Acted s u w p (receive s x m (v.process p)) → Reach F s w
+  pub receives : (v u w : State) (x p : ProcessId) (m : Message) → IsProcess s x → IsProcess s p → x ≢ p → IsUp s v → v.dead p ≡ false → Members s v
+      → Reach F s v → Popped s v u x p m → Acted s u w p (receive s x m (v.process p)) → Reach F s w
   receives v u w x p m xin pin apart up lives members reach pops acts d below = (receives-both v u w x p m xin pin apart up lives members reach pops acts d below).0
 
   -- what was settled stays in front
@@ -277,7 +301,9 @@ module _ (F : ℕ → ℕ → List Update → Type 0) (laws : HistoryLaws F) (s 
     lived : (q : ProcessId) → IsProcess s q → w.dead q ≡ false → v.dead q ≡ false
     lived q qin here = sym (died.others q qin (other_than q here)) ∙ here
 
-    issued_by : (x : ProcessId) (i : ℕ) → IsProcess s x → w.dead x ≡ false → i < s.m → (ParityNode i ≡ p) ⊎ (ParityNode i ≢ p) → Each (AckBelow d (last_of (replica_of (v.process x) d))) (v.link (ParityNode i) x) → Each (AckBelow d (last_of (replica_of (v.process x) d))) (w.link (ParityNode i) x)
+    issued_by : (x : ProcessId) (i : ℕ) → IsProcess s x → w.dead x ≡ false → i < s.m → (ParityNode i ≡ p) ⊎ (ParityNode i ≢ p)
+        → Each (AckBelow d (last_of (replica_of (v.process x) d))) (v.link (ParityNode i) x)
+        → Each (AckBelow d (last_of (replica_of (v.process x) d))) (w.link (ParityNode i) x)
     issued_by x i xin living iin (inr other) each = subst (Each (AckBelow d (last_of (replica_of (v.process x) d)))) (sym (died.links (ParityNode i) x iin xin other)) each
     issued_by x i xin living iin (inl same) each = subst (λ (y : ProcessId). Each (AckBelow d (last_of (replica_of (v.process x) d))) (w.link y x)) (sym same)
         (subst (Each (AckBelow d (last_of (replica_of (v.process x) d)))) (sym (died.cut x xin))

@@ -92,7 +92,8 @@ module _ (F : ℕ → ℕ → List Update → Type 0) (d : ℕ) where
 
   pub stale-along : (settled : List Update) (seen : Seen) (ms : List Message) → Each (Stale d seen.rank) ms → Along (next d) (Goes F d settled) seen ms
   stale-along settled seen [] stale = tt
-  stale-along settled seen (m ∷ ms) stale = (stale-goes settled seen m stale.0, subst (λ (y : Seen). Along (next d) (Goes F d settled) y ms) (sym (stale-next d seen m stale.0)) (stale-along settled seen ms stale.1))
+  stale-along settled seen (m ∷ ms) stale =
+      (stale-goes settled seen m stale.0, subst (λ (y : Seen). Along (next d) (Goes F d settled) y ms) (sym (stale-next d seen m stale.0)) (stale-along settled seen ms stale.1))
 
 -- the rank only rises
 pub rank-rises : (d : ℕ) (seen : Seen) (m : Message) → seen.rank ≤ (next d seen m).rank
@@ -172,7 +173,8 @@ module _ (F : ℕ → ℕ → List Update → Type 0) (d : ℕ) (settled : List 
 
   -- where more is settled, what leaves the rank still goes
   grows-step : (more : List Update) → length settled ≤ length more → (seen : Seen) (m : Message) → (next d seen m).rank ≡ seen.rank → Goes F d settled seen m → Goes F d more seen m
-  grows-step more longer seen (tells.Update r e u stable) same goes = λ live. let old = goes live in record { rank = old.rank; stable_settled = let low = old.stable_settled in omega (arith, low, longer); few = old.few; fine = old.fine }
+  grows-step more longer seen (tells.Update r e u stable) same goes =
+      λ live. let old = goes live in record { rank = old.rank; stable_settled = let low = old.stable_settled in omega (arith, low, longer); few = old.few; fine = old.fine }
   grows-step more longer seen (tells.Adopt r e base list) same goes = λ live.
       let above = (goes live).rank in
       let is : r.0 ≡ seen.rank = sym (ap (λ (b : Bool). (replaced b r.0 base list seen).rank) live) ∙ same in
@@ -181,12 +183,14 @@ module _ (F : ℕ → ℕ → List Update → Type 0) (d : ℕ) (settled : List 
   grows-step more longer seen (tells.Stable r e n) same goes = λ live. let old = goes live in record { rank = old.rank; number_settled = let low = old.number_settled in omega (arith, low, longer) }
   grows-step more longer seen (tells.ReadBlock session block rows) same goes = tt
   grows-step more longer seen (tells.Block session bytes n) same goes = tt
-  grows-step more longer seen (tells.Mark session r block e n) same goes = λ live. let old = goes live in record { rank = old.rank; number_settled = let low = old.number_settled in omega (arith, low, longer); above = old.above }
+  grows-step more longer seen (tells.Mark session r block e n) same goes =
+      λ live. let old = goes live in record { rank = old.rank; number_settled = let low = old.number_settled in omega (arith, low, longer); above = old.above }
   grows-step more longer seen (tells.Row session bytes stamp) same goes = tt
   grows-step more longer seen (tells.Cease upto) same goes = tt
   grows-step more longer seen (tells.Notice dead) same goes = tt
 
-  pub along-grows : (more : List Update) → length settled ≤ length more → (seen : Seen) (ms : List Message) → (run (next d) seen ms).rank ≡ seen.rank → Along (next d) (Goes F d settled) seen ms → Along (next d) (Goes F d more) seen ms
+  pub along-grows : (more : List Update) → length settled ≤ length more → (seen : Seen) (ms : List Message) → (run (next d) seen ms).rank ≡ seen.rank
+      → Along (next d) (Goes F d settled) seen ms → Along (next d) (Goes F d more) seen ms
   along-grows more longer seen [] same goes = tt
   along-grows more longer seen (m ∷ ms) same goes =
       let first = rank-rises d seen m in
@@ -221,10 +225,13 @@ module _ (F : ℕ → ℕ → List Update → Type 0) (d : ℕ) (settled : List 
   lower-replaced false a b r base list lower = lower
 
   lower-next : (a b : Seen) (m : Message) → Lower a b → Lower (next d a m) (next d b m)
-  lower-next a b (tells.Update r e u stable) lower = subst (λ (t : Bool). Lower (appended t u stable a) (appended (is_live d b e.0 r.0) u stable b)) (sym (same-live a b lower e.0 r.0)) (lower-appended (is_live d b e.0 r.0) a b u stable lower)
+  lower-next a b (tells.Update r e u stable) lower =
+      subst (λ (t : Bool). Lower (appended t u stable a) (appended (is_live d b e.0 r.0) u stable b)) (sym (same-live a b lower e.0 r.0)) (lower-appended (is_live d b e.0 r.0) a b u stable lower)
   lower-next a b (tells.Adopt r e base list) lower = subst (λ (t : Bool). Lower (replaced t r.0 base list a) (replaced (is_live d b e.0 r.0) r.0 base list b)) (sym (same-live a b lower e.0 r.0)) (lower-replaced (is_live d b e.0 r.0) a b r.0 base list lower)
-  lower-next a b (tells.Stable r e n) lower = subst (λ (t : Bool). Lower (raised t n a) (raised (is_live d b e.0 r.0) n b)) (sym (same-live a b lower e.0 r.0)) (lower-raised (is_live d b e.0 r.0) a b n lower)
-  lower-next a b (tells.Mark session r block e n) lower = subst (λ (t : Bool). Lower (raised t n a) (raised (is_live d b e.0 r.0) n b)) (sym (same-live a b lower e.0 r.0)) (lower-raised (is_live d b e.0 r.0) a b n lower)
+  lower-next a b (tells.Stable r e n) lower =
+      subst (λ (t : Bool). Lower (raised t n a) (raised (is_live d b e.0 r.0) n b)) (sym (same-live a b lower e.0 r.0)) (lower-raised (is_live d b e.0 r.0) a b n lower)
+  lower-next a b (tells.Mark session r block e n) lower =
+      subst (λ (t : Bool). Lower (raised t n a) (raised (is_live d b e.0 r.0) n b)) (sym (same-live a b lower e.0 r.0)) (lower-raised (is_live d b e.0 r.0) a b n lower)
   lower-next a b (tells.Ack r e n) lower = lower
   lower-next a b (tells.ReadBlock session block rows) lower = lower
   lower-next a b (tells.Block session bytes n) lower = lower
@@ -281,7 +288,8 @@ module _ (F : ℕ → ℕ → List Update → Type 0) (d : ℕ) (settled : List 
     passes : (m : Message) → Stale d a.rank m → Stale d b.rank m → Passes a b m
     passes m lower low = record { goes = stale-goes F d settled b m low; a_stays = stale-next d a m lower; b_stays = stale-next d b m low }
 
-    joins : (r e base : ℕ) (list : List Update) (goes : AdoptGoes F d settled a r base list) → b.rank < r → is_live d a e r ≡ true → is_live d b e r ≡ true → (AdoptGoes F d settled b r base list) × (replaced (is_live d a e r) r base list a ≡ replaced (is_live d b e r) r base list b)
+    joins : (r e base : ℕ) (list : List Update) (goes : AdoptGoes F d settled a r base list) → b.rank < r → is_live d a e r ≡ true → is_live d b e r ≡ true
+        → (AdoptGoes F d settled b r base list) × (replaced (is_live d a e r) r base list a ≡ replaced (is_live d b e r) r base list b)
     joins r e base list goes high live live_b = (
       record {
         rank = high;
@@ -290,7 +298,8 @@ module _ (F : ℕ → ℕ → List Update → Type 0) (d : ℕ) (settled : List 
         few = goes.few;
         fine = subst (λ (us : List Update). Fine F d base (us ++ list)) front goes.fine;
       },
-      ap (λ (t : Bool). replaced t r base list a) live ∙ ap (λ (us : List Update). record { rank = r; history = us ++ list; number = base + length list }) front ∙ sym (ap (λ (t : Bool). replaced t r base list b) live_b),
+      ap (λ (t : Bool). replaced t r base list a) live ∙ ap (λ (us : List Update). record { rank = r; history = us ++ list; number = base + length list }) front
+          ∙ sym (ap (λ (t : Bool). replaced t r base list b) live_b),
     ) where
       front : take base a.history ≡ take base b.history
       front = front-same base a.history b.history goes.base_settled pa pb
@@ -323,7 +332,8 @@ module _ (F : ℕ → ℕ → List Update → Type 0) (d : ℕ) (settled : List 
     resync-step (tells.Cease upto) above goes = inl (passes (tells.Cease upto) tt tt)
     resync-step (tells.Notice dead) above goes = inl (passes (tells.Notice dead) tt tt)
 
-    resynced : (m : Message) (ms : List Message) → Along (next d) (Goes F d settled) (next d a m) ms → Passes a b m ⊎ Joins a b m → (Along (next d) (Goes F d settled) a ms → Resyncs a b ms) → Resyncs a b (m ∷ ms)
+    resynced : (m : Message) (ms : List Message) → Along (next d) (Goes F d settled) (next d a m) ms → Passes a b m ⊎ Joins a b m
+        → (Along (next d) (Goes F d settled) a ms → Resyncs a b ms) → Resyncs a b (m ∷ ms)
     resynced m ms goes (inr join) rest = record {
       goes = (join.goes, subst (λ (y : Seen). Along (next d) (Goes F d settled) y ms) join.same goes);
       meets = inl (ap (λ (y : Seen). run (next d) y ms) join.same);

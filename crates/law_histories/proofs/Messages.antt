@@ -53,7 +53,8 @@ seat-some None r seat = absurd (cc seat)
 seat-some (Some g) r seat = (g, refl, cc seat)
 
 -- a new head's list in the place of a log
-fits-update : (F : ℕ → ℕ → List Update → Type 0) (laws : HistoryLaws F) (d : ℕ) (settled : List Update) (r : Replica) (seen : Seen) (rank stable : ℕ) (u : Update) → seen.history ≡ history settled r → UpdateGoes F d settled seen rank u stable
+fits-update : (F : ℕ → ℕ → List Update → Type 0) (laws : HistoryLaws F) (d : ℕ) (settled : List Update) (r : Replica) (seen : Seen) (rank stable : ℕ) (u : Update)
+    → seen.history ≡ history settled r → UpdateGoes F d settled seen rank u stable
     → ReplicaFits F d settled r None → ReplicaFits F d settled (with_update u (applied_to stable r)) None
 fits-update F laws d settled r seen rank stable u is goes fits = record {
   applied = moved.applied;
@@ -61,7 +62,13 @@ fits-update F laws d settled r seen rank stable u is goes fits = record {
     reaches = let long = length-append (history settled r) (u ∷ []) in let reach = fits.prolongs.reaches in omega (arith, long, reach);
     front = take-append-le (length settled) (history settled r) (u ∷ []) fits.prolongs.reaches ∙ fits.prolongs.front;
   });
-  short = let left = log-left settled r fits.applied stable within in let long = length-append (applied_to stable r).log (u ∷ []) in let few = goes.few in let low = fits.short in let all = length-history settled r fits.applied in omega (arith, left, long, few, low, all, number, stable_low);
+  short =
+      let left = log-left settled r fits.applied stable within in
+      let long = length-append (applied_to stable r).log (u ∷ []) in
+      let few = goes.few in
+      let low = fits.short in
+      let all = length-history settled r fits.applied in
+      omega (arith, left, long, few, low, all, number, stable_low);
   fine = subst (λ (a : ℕ). Fine F d a (history settled (with_update u (applied_to stable r)))) (sym moved_is) (subst (Fine F d (max r.applied stable)) (sym whole) (
     fine.0,
     laws.rises d stable (max r.applied stable) (history settled r ++ u ∷ []) fine.1 (omega arith)
@@ -92,8 +99,10 @@ fits-update F laws d settled r seen rank stable u is goes fits = record {
   number = last-number (history settled r) u fine.0
 
 -- an adopted log
-fits-adopted : (F : ℕ → ℕ → List Update → Type 0) (laws : HistoryLaws F) (d : ℕ) (settled : List Update) (r : Replica) (seen : Seen) (rank base : ℕ) (list : List Update) → seen.history ≡ history settled r → AdoptGoes F d settled seen rank base list
-    → ReplicaFits F d settled r None → ReplicaFits F d settled (adopting base list (applied_to base r)) None × (history settled (adopting base list (applied_to base r)) ≡ take base (history settled r) ++ list)
+fits-adopted : (F : ℕ → ℕ → List Update → Type 0) (laws : HistoryLaws F) (d : ℕ) (settled : List Update) (r : Replica) (seen : Seen) (rank base : ℕ) (list : List Update)
+    → seen.history ≡ history settled r → AdoptGoes F d settled seen rank base list
+    → ReplicaFits F d settled r None
+    → ReplicaFits F d settled (adopting base list (applied_to base r)) None × (history settled (adopting base list (applied_to base r)) ≡ take base (history settled r) ++ list)
 fits-adopted F laws d settled r seen rank base list is goes fits = (
   record {
     applied = moved.applied;
@@ -189,7 +198,8 @@ module _ (F : ℕ → ℕ → List Update → Type 0) (laws : HistoryLaws F) (s 
   abbrev taken : Update → ℕ → Process
   taken u stable = update_taken s d u stable proc
 
-  update-here : (b : Bool) (r : ℕ) (u : Update) (stable : ℕ) → nat_le (at 0 proc.ranks d) r ≡ b → First (tells.Update (rank r) (partition d) u stable) → Comes (when b proc (ack_to x r d u.number (update_taken s d u stable proc)))
+  update-here : (b : Bool) (r : ℕ) (u : Update) (stable : ℕ) → nat_le (at 0 proc.ranks d) r ≡ b → First (tells.Update (rank r) (partition d) u stable)
+      → Comes (when b proc (ack_to x r d u.number (update_taken s d u stable proc)))
   update-here false r u stable is first = pops-still (tells.Update (rank r) (partition d) u stable) first (λ i pis. stale-next d seen (tells.Update (rank r) (partition d) u stable) (λ here. grind (arith, common_steps))) (quiet proc) quiet-still
   update-here true r u stable is first =
       acked (taken u stable) r u.number from.0 (sym goes.rank) (let long = length-history settled (replica_of (taken u stable) d) new_fits.applied in let whole : length (history settled (replica_of (taken u stable) d)) ≡ length (history settled r0 ++ u ∷ []) = ap length hist_new in let more = length-append (history settled r0) (u ∷ []) in let number = last-number (history settled r0) u goes.fine.0 in omega (arith, long, whole, more, number))
@@ -238,7 +248,9 @@ module _ (F : ℕ → ℕ → List Update → Type 0) (laws : HistoryLaws F) (s 
       moved = fits-applied F laws d settled r0 None stable goes.stable_settled own
 
       hist_new : history settled (replica_of (taken u stable) d) ≡ history settled r0 ++ u ∷ []
-      hist_new = ap (history settled) is_new ∙ history-with_update settled (applied_to stable r0) moved.applied u ∙ ap (λ (us : List Update). us ++ u ∷ []) (history-applied settled r0 own.applied own.prolongs stable goes.stable_settled)
+      hist_new =
+          ap (history settled) is_new ∙ history-with_update settled (applied_to stable r0) moved.applied u
+          ∙ ap (λ (us : List Update). us ++ u ∷ []) (history-applied settled r0 own.applied own.prolongs stable goes.stable_settled)
 
       hears : Lower F d settled (seen_at d settled (taken u stable)) (next d seen m)
       hears = subst (λ (b : Bool). Lower F d settled (seen_at d settled (taken u stable)) (appended b u stable seen)) (sym live) (record {
@@ -266,7 +278,8 @@ module _ (F : ℕ → ℕ → List Update → Type 0) (laws : HistoryLaws F) (s 
   abbrev adopted : ℕ → ℕ → List Update → Process
   adopted r base list = log_adopted s r d base list proc
 
-  adopt-here : (b : Bool) (r base : ℕ) (list : List Update) → nat_le (at 0 proc.ranks d) r ≡ b → First (tells.Adopt (rank r) (partition d) base list) → Comes (when b proc (ack_to x r d (base + length list) (adopted r base list)))
+  adopt-here : (b : Bool) (r base : ℕ) (list : List Update) → nat_le (at 0 proc.ranks d) r ≡ b → First (tells.Adopt (rank r) (partition d) base list)
+      → Comes (when b proc (ack_to x r d (base + length list) (adopted r base list)))
   adopt-here false r base list is first = pops-still (tells.Adopt (rank r) (partition d) base list) first (λ i pis. stale-next d seen (tells.Adopt (rank r) (partition d) base list) (λ here. grind (arith, common_steps))) (quiet proc) quiet-still
   adopt-here true r base list is first =
       acked (adopted r base list) r (base + length list) from.0 own_rank
@@ -347,7 +360,8 @@ module _ (F : ℕ → ℕ → List Update → Type 0) (laws : HistoryLaws F) (s 
       }))
 
   -- a settled number, or a mark, that is taken: everything up to it is applied
-  heard-applied : (m : Message) (r n : ℕ) (q : Process) → First m → IsFrom s v x d r → IsParity p → r ≡ at 0 proc.ranks d → n ≤ length settled → next d seen m ≡ raised true n seen → SameIn d proc q → Around F s v d p (apply_to s d n q) (v.link p) left settled
+  heard-applied : (m : Message) (r n : ℕ) (q : Process) → First m → IsFrom s v x d r → IsParity p → r ≡ at 0 proc.ranks d → n ≤ length settled
+      → next d seen m ≡ raised true n seen → SameIn d proc q → Around F s v d p (apply_to s d n q) (v.link p) left settled
   heard-applied m r n q first sent parity same_rank low is same =
       act-hear F laws s v members d below p pin lives proc (apply_to s d n q) left settled x m r first rest xin xother from none (same.head ∙ none) hears (omega (arith, same_rank)) (same.rank ∙ sym same_rank) fits (subst (λ (y : Replica). (replica_of proc d).applied ≤ y.applied) (sym is_new) (omega arith)) (parity-keeps parity) around
     where
@@ -393,7 +407,8 @@ module _ (F : ℕ → ℕ → List Update → Type 0) (laws : HistoryLaws F) (s 
   heard-still q t still heard = still-leads F laws s v members d below p pin lives left q t still (v.link p) settled heard
 
   stable-here : (b : Bool) (r n : ℕ) → nat_le (at 0 proc.ranks d) r ≡ b → First (tells.Stable (rank r) (partition d) n) → Comes (when b proc (quiet (apply_to s d n proc)))
-  stable-here false r n is first = pops-still (tells.Stable (rank r) (partition d) n) first (λ i pis. stale-next d seen (tells.Stable (rank r) (partition d) n) (λ here. grind (arith, common_steps))) (quiet proc) quiet-still
+  stable-here false r n is first =
+      pops-still (tells.Stable (rank r) (partition d) n) first (λ i pis. stale-next d seen (tells.Stable (rank r) (partition d) n) (λ here. grind (arith, common_steps))) (quiet proc) quiet-still
   stable-here true r n is first =
       let may : IsFrom s v x d r × IsParity p = may-first (tells.Stable (rank r) (partition d) n) first in
       let live : is_live d seen d r ≡ true = live-is d seen d r refl (grind (arith, common_steps)) in
@@ -403,10 +418,12 @@ module _ (F : ℕ → ℕ → List Update → Type 0) (laws : HistoryLaws F) (s 
 
   stable-comes : (e r n : ℕ) → First (tells.Stable (rank r) (partition e) n) → (e ≡ d) ⊎ (e ≢ d) → Comes (stable_comes s r e n proc)
   stable-comes e r n first (inl same) = subst (λ (k : ℕ). Comes (stable_comes s r k n proc)) (sym same) (stable-here (nat_le (at 0 proc.ranks d) r) r n refl (subst (λ (k : ℕ). First (tells.Stable (rank r) (partition k) n)) same first))
-  stable-comes e r n first (inr other) = pops-still (tells.Stable (rank r) (partition e) n) first (λ i pis. stale-next d seen (tells.Stable (rank r) (partition e) n) (λ here. absurd (other here))) (stable_comes s r e n proc)
+  stable-comes e r n first (inr other) =
+      pops-still (tells.Stable (rank r) (partition e) n) first (λ i pis. stale-next d seen (tells.Stable (rank r) (partition e) n) (λ here. absurd (other here))) (stable_comes s r e n proc)
       (still-when d (nat_le (at 0 proc.ranks e) r) proc (quiet (apply_to s e n proc)) (still-quiet d proc (apply_to s e n proc) (same-apply s d e n proc other)))
 
-  mark-goes : (session : Session) (r block n : ℕ) → First (tells.Mark session (rank r) block (partition d) n) → is_live d seen d r ≡ true → (IsFrom s v x d r × (0 < r → session.leader ≡ x) × IsParity p) × MarkGoes settled seen r n
+  mark-goes : (session : Session) (r block n : ℕ) → First (tells.Mark session (rank r) block (partition d) n) → is_live d seen d r ≡ true
+      → (IsFrom s v x d r × (0 < r → session.leader ≡ x) × IsParity p) × MarkGoes settled seen r n
   mark-goes session r block n first live =
       let may : IsFrom s v x d r × (0 < r → session.leader ≡ x) × IsParity p = may-first (tells.Mark session (rank r) block (partition d) n) first in
       (may, goes-first (tells.Mark session (rank r) block (partition d) n) first may.2 live)
@@ -435,14 +452,16 @@ module _ (F : ℕ → ℕ → List Update → Type 0) (laws : HistoryLaws F) (s 
       low : at 0 proc.ranks d ≤ r
       low = grind (arith, common_steps)
 
-  mark-comes : (e : ℕ) (session : Session) (r block n : ℕ) → First (tells.Mark session (rank r) block (partition e) n) → (e ≡ d) ⊎ (e ≢ d) → Comes (mark_comes s (parity_number session.leader) session.number r block e n proc)
+  mark-comes : (e : ℕ) (session : Session) (r block n : ℕ) → First (tells.Mark session (rank r) block (partition e) n) → (e ≡ d) ⊎ (e ≢ d)
+      → Comes (mark_comes s (parity_number session.leader) session.number r block e n proc)
   mark-comes e session r block n first (inl same) = subst (λ (k : ℕ). Comes (mark_comes s (parity_number session.leader) session.number r block k n proc)) (sym same)
       (mark-here (accepts_mark proc (parity_number session.leader) session.number r d) session r block n refl (subst (λ (k : ℕ). First (tells.Mark session (rank r) block (partition k) n)) same first))
   mark-comes e session r block n first (inr other) = pops-still (tells.Mark session (rank r) block (partition e) n) first (λ i pis. stale-next d seen (tells.Mark session (rank r) block (partition e) n) (λ here. absurd (other here))) (mark_comes s (parity_number session.leader) session.number r block e n proc)
       (still-mark s d (parity_number session.leader) session.number r block e n proc other)
 
   -- an acknowledgement
-  ack-fits : (i r n : ℕ) → x ≡ ParityNode i → i < s.m → ParityNode i ≢ p → v.dead (ParityNode i) ≡ false → First (tells.Ack (rank r) (partition d) n) → AckGoes d p (seen_at d settled (v.process (ParityNode i))) r n
+  ack-fits : (i r n : ℕ) → x ≡ ParityNode i → i < s.m → ParityNode i ≢ p → v.dead (ParityNode i) ≡ false → First (tells.Ack (rank r) (partition d) n)
+      → AckGoes d p (seen_at d settled (v.process (ParityNode i))) r n
   ack-fits i r n is iin other living first =
       (subst (Each (AckFits d p (seen_at d settled (v.process (ParityNode i))))) (ap (λ (y : ProcessId). v.link y p) (sym is) ∙ first) ((around.outward i iin other living).acks refl)).0 refl
 
@@ -469,7 +488,8 @@ module _ (F : ℕ → ℕ → List Update → Type 0) (laws : HistoryLaws F) (s 
   ack-comes : (y : ProcessId) → x ≡ y → (e r n : ℕ) → First (tells.Ack (rank r) (partition e) n) → (e ≡ d) ⊎ (e ≢ d) → Comes (receive s y (tells.Ack (rank r) (partition e) n) proc)
   ack-comes (DataNode z) is e r n first which = pops-still (tells.Ack (rank r) (partition e) n) first (λ j pis. refl) (quiet proc) quiet-still
   ack-comes (ParityNode i) is e r n first (inl same) = subst (λ (k : ℕ). Comes (acknowledge s i r k n (head_at proc k) proc)) (sym same) (ack-here i r n is (head_at proc d) refl (subst (λ (k : ℕ). First (tells.Ack (rank r) (partition k) n)) same first))
-  ack-comes (ParityNode i) is e r n first (inr other) = pops-still (tells.Ack (rank r) (partition e) n) first (λ j pis. refl) (acknowledge s i r e n (head_at proc e) proc) (ack-other i r e n (head_at proc e) other)
+  ack-comes (ParityNode i) is e r n first (inr other) =
+      pops-still (tells.Ack (rank r) (partition e) n) first (λ j pis. refl) (acknowledge s i r e n (head_at proc e) proc) (ack-other i r e n (head_at proc e) other)
 
   -- a leader asks for a block
   read-still : (y : ProcessId) (session : Session) (block : ℕ) (rows : List ℕ) → p ≡ y → Still d proc (read_comes s session block rows proc y)

@@ -67,7 +67,8 @@ pub silent-well : (d : ℕ) (due : ProcessId → ℕ → ℕ → Type 0) (k : �
 silent-well d due k p none sent well = each-weaker (λ z. MaySend due k p z.to z.message) (λ z. NoAck d z.message) (λ z may. silent-one d due k p none z z.message may) sent well
 
 -- the same of equal parts
-pub acks-is : (d i : ℕ) (head head' : Option Head) (rank rank' last last' : ℕ) (back back' : List Message) → head' ≡ head → rank' ≡ rank → last' ≡ last → ((o : Option ℕ) → newest d o back' ≡ newest d o back)
+pub acks-is : (d i : ℕ) (head head' : Option Head) (rank rank' last last' : ℕ) (back back' : List Message) → head' ≡ head → rank' ≡ rank → last' ≡ last
+    → ((o : Option ℕ) → newest d o back' ≡ newest d o back)
     → Acks d i head rank last back → Acks d i head' rank' last' back'
 acks-is d i head head' rank rank' last last' back back' ishead isrank islast isback acks h heads same =
     subst (IsTold h.rank (newest d (at None h.acks i) back')) (sym islast)

@@ -56,7 +56,8 @@ module _ (s : Dimensions) (d : ℕ) where
   pub still-take : (e : ℕ) (p : Process) → e ≢ d → Still d p (take_over_if s e p)
   still-take e p other = still-when d (takes_over p e p.name) p (taken_over s e p) (still-taken_over e p other)
 
-  pub same-known : (dead : ProcessId) (p : Process) → (head_at (death_known dead p) d ≡ head_at p d) × (at 0 (death_known dead p).ranks d ≡ at 0 p.ranks d) × (replica_of (death_known dead p) d ≡ replica_of p d) × ((death_known dead p).name ≡ p.name) × ((death_known dead p).known ≡ with_dead p.known dead)
+  pub same-known : (dead : ProcessId) (p : Process)
+      → (head_at (death_known dead p) d ≡ head_at p d) × (at 0 (death_known dead p).ranks d ≡ at 0 p.ranks d) × (replica_of (death_known dead p) d ≡ replica_of p d) × ((death_known dead p).name ≡ p.name) × ((death_known dead p).known ≡ with_dead p.known dead)
   same-known (DataNode e) p = (refl, refl, refl, refl, refl)
   same-known (ParityNode e) p = (refl, refl, refl, refl, refl)
 
@@ -71,7 +72,8 @@ module _ (F : ℕ → ℕ → List Update → Type 0) (laws : HistoryLaws F) (s 
     pub replica : replica_of q d ≡ replica_of (v.process p) d
 
   stood-same : (q r : Process) → SameIn d q r → Stood q → Stood r
-  stood-same q r same stood = record { name = same.name ∙ stood.name; knows = same.known ∙ stood.knows; head = same.head ∙ stood.head; rank = same.rank ∙ stood.rank; replica = same.replica ∙ stood.replica }
+  stood-same q r same stood =
+      record { name = same.name ∙ stood.name; knows = same.known ∙ stood.knows; head = same.head ∙ stood.head; rank = same.rank ∙ stood.rank; replica = same.replica ∙ stood.replica }
 
   spares-of : (q : Process) → Stood q → Spares F laws s v members d below p pin lives inn q.known
   spares-of q stood i iin other living = ap (λ (k : Membership). knows_dead k (ParityNode i)) stood.knows ∙ spares i iin other living

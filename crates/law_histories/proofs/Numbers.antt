@@ -58,7 +58,8 @@ module _ (F : ℕ → ℕ → List Update → Type 0) (d : ℕ) (settled : List 
   }
 
 -- a data process has applied all that is settled
-pub data-applied : (F : ℕ → ℕ → List Update → Type 0) (s : Dimensions) (v : State) → Members s v → Reach F s v → (d : ℕ) → d < s.k → v.dead (DataNode d) ≡ false → (replica_of (v.process (DataNode d)) d).applied ≡ length (v.settled d)
+pub data-applied : (F : ℕ → ℕ → List Update → Type 0) (s : Dimensions) (v : State) → Members s v → Reach F s v → (d : ℕ) → d < s.k → v.dead (DataNode d) ≡ false
+    → (replica_of (v.process (DataNode d)) d).applied ≡ length (v.settled d)
 data-applied F s v members reach d below lives = by (fits.heads h heads) where
   fits : ReplicaReaches F d (v.settled d) (v.process (DataNode d))
   fits = (reach d below).replicas (DataNode d) below lives refl
@@ -77,7 +78,8 @@ data-applied F s v members reach d below lives = by (fits.heads h heads) where
     none : h.inherited ≡ 0
     none = reaches.first seat.2
 
-    which : ((replica_of (v.process (DataNode d)) d).applied ≡ length (v.settled d)) ⊎ (((replica_of (v.process (DataNode d)) d).applied < h.inherited) × (length (v.settled d) ≤ h.inherited)) → (replica_of (v.process (DataNode d)) d).applied ≡ length (v.settled d)
+    which : ((replica_of (v.process (DataNode d)) d).applied ≡ length (v.settled d)) ⊎ (((replica_of (v.process (DataNode d)) d).applied < h.inherited) × (length (v.settled d) ≤ h.inherited))
+        → (replica_of (v.process (DataNode d)) d).applied ≡ length (v.settled d)
     which (inl all) = all
     which (inr waits) = let less = waits.0 in absurd (omega (arith, less, none))
 
@@ -99,7 +101,8 @@ module _ (h : History) (members : Members h.world.shape (state_of h)) (reach : R
     at_parity = λ i d below lives. (fits_at (ParityNode i) d below tt lives).short;
   }
 
-history-members : (s : Dimensions) (es : List Event) → IsRun s es → Members (history_of s es).world.shape (state_of (history_of s es)) × Reach Any (history_of s es).world.shape (state_of (history_of s es))
+history-members : (s : Dimensions) (es : List Event) → IsRun s es
+    → Members (history_of s es).world.shape (state_of (history_of s es)) × Reach Any (history_of s es).world.shape (state_of (history_of s es))
 history-members s es run = subst (λ (t : Dimensions). Members t (state_of (history_of s es)) × Reach Any t (state_of (history_of s es))) (sym (shape-from (no_history s) es)) (reach_always s es run)
 
 pub numbers_kept_always : NumbersKeptAlways

@@ -191,7 +191,8 @@ module _ (s : Dimensions) (d : ℕ) where
   settles-judges : (n a : ℕ) (q : Process) → (a ≤ d) → (d < a + n) → Settles s d (for_each (range_with_len a n) (judge s) q).process
   settles-judges zero a q low high = absurd (omega (arith, low, high))
   settles-judges (suc n) a q low high = by (cases_eq a d) (λ above. settles-judges n (a + 1) (judge s a q).process above (omega (arith, high))) where
-    by : (a ≡ d) ⊎ (a ≢ d) → (a + 1 ≤ d → Settles s d (for_each (range_with_len (a + 1) n) (judge s) (judge s a q).process).process) → Settles s d (for_each (range_with_len (a + 1) n) (judge s) (judge s a q).process).process
+    by : (a ≡ d) ⊎ (a ≢ d) → (a + 1 ≤ d → Settles s d (for_each (range_with_len (a + 1) n) (judge s) (judge s a q).process).process)
+        → Settles s d (for_each (range_with_len (a + 1) n) (judge s) (judge s a q).process).process
     by (inl same) later = settles-plain s d (judge s a q).process (for_each (range_with_len (a + 1) n) (judge s) (judge s a q).process).process
         (plain-each d (range_with_len (a + 1) n) (judge s) (λ e r. plain-judge s d e r) (judge s a q).process)
         (subst (λ (x : ℕ). Settles s d (judge s x q).process) (sym same) (settles-judge s d q))

@@ -111,7 +111,8 @@ goes-block : (s : Dimensions) (b : ℕ) (o : Option Oldest) (p : Process) → o 
 goes-block s b None p none = tt
 goes-block s b (Some o) p none = absurd (cc none)
 
-goes-act : (s : Dimensions) (name : CallName) (op : Asked) (d : ℕ) (h : Head) (p : Process) (decision : Decision) → NoRetry decision → oldest_inherited p (range_with_len 0 s.k) ≡ None → NotPending (act_on s name op d h p decision).answer
+goes-act : (s : Dimensions) (name : CallName) (op : Asked) (d : ℕ) (h : Head) (p : Process) (decision : Decision) → NoRetry decision
+    → oldest_inherited p (range_with_len 0 s.k) ≡ None → NotPending (act_on s name op d h p decision).answer
 goes-act s name op d h p (decides.Answer r) goes none = tt
 goes-act s name op d h p (decides.Retry n) goes none = absurd goes
 goes-act s name op d h p decides.NoSpace goes none = tt
@@ -136,7 +137,8 @@ known-fate call (Some kept) = by (kept.call == call) (nat_lt call kept.call) whe
 all-filter : (test P : ℕ → Bool) (a n : ℕ) → ((i : ℕ) → a ≤ i → i < a + n → test i ≡ true → P i ≡ true) → list_all P (filter test (range_with_len a n)) ≡ true
 all-filter test P a zero all = refl
 all-filter test P a (suc n) all = by (test a) refl (all-filter test P (a + 1) n (λ i low high. all i (omega (arith, low)) (omega (arith, high)))) where
-  by : (b : Bool) → test a ≡ b → list_all P (filter test (range_with_len (a + 1) n)) ≡ true → list_all P (cond b (a ∷ filter test (range_with_len (a + 1) n)) (filter test (range_with_len (a + 1) n))) ≡ true
+  by : (b : Bool) → test a ≡ b → list_all P (filter test (range_with_len (a + 1) n)) ≡ true
+      → list_all P (cond b (a ∷ filter test (range_with_len (a + 1) n)) (filter test (range_with_len (a + 1) n))) ≡ true
   by true is rest = ap (λ (b : Bool). b && list_all P (filter test (range_with_len (a + 1) n))) (all a (omega arith) (omega arith) is) ∙ rest
   by false is rest = rest
 
@@ -234,7 +236,8 @@ module _ (h : History) (reached : Reached h.world.shape (state_of h)) (told : To
 
   traced : IsTraced h.world
   traced caller call d p may = by (node_of h.world p).down (node_of h.world p).dead refl where
-    by : (down dead : Bool) → (node_of h.world p).dead ≡ dead → (if_up down dead (node_of h.world p) (unchanged (fate_of h.world.shape caller call d.0 (process_of h.world p) (head_at (process_of h.world p) d.0)) (node_of h.world p))).answer ≢ says.NotYet
+    by : (down dead : Bool) → (node_of h.world p).dead ≡ dead
+        → (if_up down dead (node_of h.world p) (unchanged (fate_of h.world.shape caller call d.0 (process_of h.world p) (head_at (process_of h.world p) d.0)) (node_of h.world p))).answer ≢ says.NotYet
     by true dead is e = cc e
     by false true is e = cc e
     by false false is e = subst IsKnown e (fate-known h.world.shape (state_of h) reached told empty p may.3 is caller call d.0 may.2 (head_at (process_of h.world p) d.0) refl)
@@ -244,7 +247,8 @@ module _ (h : History) (reached : Reached h.world.shape (state_of h)) (told : To
     below : home_of (key_of op.act) h.world.shape.k < h.world.shape.k
     below = mod-below (fnv1a (key_of op.act)) h.world.shape.k some
 
-    by : (down dead : Bool) → (node_of h.world p).dead ≡ dead → NotPending (if_up down dead (node_of h.world p) (treated h.world.shape (node_of h.world p) (ask_process h.world.shape (next_name h.world caller) op (process_of h.world p)))).answer
+    by : (down dead : Bool) → (node_of h.world p).dead ≡ dead
+        → NotPending (if_up down dead (node_of h.world p) (treated h.world.shape (node_of h.world p) (ask_process h.world.shape (next_name h.world caller) op (process_of h.world p)))).answer
     by true dead is = tt
     by false true is = tt
     by false false is = asks-now h.world.shape (state_of h) reached told empty p may.1 is (next_name h.world caller) op (home_of (key_of op.act) h.world.shape.k) below (head_at (process_of h.world p) (home_of (key_of op.act) h.world.shape.k)) refl
@@ -278,4 +282,5 @@ pub traced_always : TracedAlways
 traced_always s es run drained = subst IsTraced (same s es run drained) (traced (history_of s es) (reached-here s es run drained) (told-here s es run drained) (drained-here s es run drained))
 
 pub asked_always : AskedAlways
-asked_always s es run drained = subst IsAsked (same s es run drained) (asked (history_of s es) (reached-here s es run drained) (told-here s es run drained) (drained-here s es run drained) (some-here s es run drained))
+asked_always s es run drained =
+    subst IsAsked (same s es run drained) (asked (history_of s es) (reached-here s es run drained) (told-here s es run drained) (drained-here s es run drained) (some-here s es run drained))

@@ -65,7 +65,8 @@ module _ (s : Dimensions) (v : State) (d : ℕ) where
     head-from y h yin lives heads = seat-from s v (ground_of s v members) y d h.rank yin lives below (ap (option_map (λ (x : Head). x.rank)) heads)
 
     -- where all of lower rank are dead there is no other living head
-    pub no-other : (p y : ProcessId) (r : ℕ) (h : Head) → p ≡ of_rank d r → v.dead p ≡ false → ((j : ℕ) → j < r → v.dead (of_rank d j) ≡ true) → IsProcess s y → y ≢ p → v.dead y ≡ false → head_at (v.process y) d ≡ Some h → ⊥
+    pub no-other : (p y : ProcessId) (r : ℕ) (h : Head) → p ≡ of_rank d r → v.dead p ≡ false → ((j : ℕ) → j < r → v.dead (of_rank d j) ≡ true) → IsProcess s y
+        → y ≢ p → v.dead y ≡ false → head_at (v.process y) d ≡ Some h → ⊥
     no-other p y r h is lives lower yin other living heads =
         let from : Used y h.rank = head-from y h yin living heads in
         let low : h.rank < r = lower-rank p y r h.rank is lives other from in

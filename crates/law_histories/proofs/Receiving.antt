@@ -217,7 +217,8 @@ module _ (s : Dimensions) (shaped : IsShape s) (v u w : State) (x p : ProcessId)
         let kept : last_of (replica_of q d) ≡ last_of (replica_of proc d) = (plain-apply s d d stable proc).last in
         omega (arith, last, longer, kept)
 
-    adopted : (r base : ℕ) (list : List Update) (i : ℕ) → p ≡ ParityNode i → AdoptGoes Any d (v.settled d) seen r base list → last_of (replica_of (log_adopted s r d base list proc) d) ≡ base + length list
+    adopted : (r base : ℕ) (list : List Update) (i : ℕ) → p ≡ ParityNode i → AdoptGoes Any d (v.settled d) seen r base list
+        → last_of (replica_of (log_adopted s r d base list proc) d) ≡ base + length list
     adopted r base list i is goes =
         let ranked : Process = with_rank d r proc in
         let q : Process = apply_to s d base ranked in
@@ -335,7 +336,9 @@ module _ (s : Dimensions) (shaped : IsShape s) (v u w : State) (x p : ProcessId)
         (λ i isp. ap (λ (t : ProcessStep). last_of (replica_of t.process d)) is ∙ adopted s shaped v u w x p m xin pin apart up lives reached told pops acts d below r.0 base list i isp (goes_at i isp))
       where
         is : receive s x m proc0 ≡ ack_to x r.0 d (base + length list) (log_adopted s r.0 d base list proc0)
-        is = ap (λ (b : Bool). when b proc0 (ack_to x r.0 e.0 (base + length list) (log_adopted s r.0 e.0 base list proc0))) test ∙ ap (λ (k : ℕ). ack_to x r.0 k (base + length list) (log_adopted s r.0 k base list proc0)) same
+        is =
+            ap (λ (b : Bool). when b proc0 (ack_to x r.0 e.0 (base + length list) (log_adopted s r.0 e.0 base list proc0))) test
+            ∙ ap (λ (k : ℕ). ack_to x r.0 k (base + length list) (log_adopted s r.0 k base list proc0)) same
 
         may : IsFrom s v x e.0 r.0 × (0 < r.0) × IsParity p
         may = may-first s shaped v u w x p m xin pin apart up lives reached told pops acts
@@ -382,7 +385,8 @@ module _ (s : Dimensions) (shaped : IsShape s) (v u w : State) (x p : ProcessId)
       takes : TakesAck s d j r.0 n proc0 (receive s x m proc0).process
       takes = subst (λ (t : ProcessStep). TakesAck s d j r.0 n proc0 t.process) (sym step_is) (takes-ack s d j r.0 n proc0 (head_at proc0 d) refl)
 
-      heads : (i : ℕ) → i < s.m → ParityNode i ≢ p → v.dead (ParityNode i) ≡ false → Acks d i (head_at (w.process p) d) (at 0 (v.process (ParityNode i)).ranks d) (last_of (replica_of (v.process (ParityNode i)) d)) (w.link (ParityNode i) p)
+      heads : (i : ℕ) → i < s.m → ParityNode i ≢ p → v.dead (ParityNode i) ≡ false
+          → Acks d i (head_at (w.process p) d) (at 0 (v.process (ParityNode i)).ranks d) (last_of (replica_of (v.process (ParityNode i)) d)) (w.link (ParityNode i) p)
       heads i iin other living h heads_w ranked = which (takes.heads h (ap (λ (y : Process). head_at y d) (sym acts.process) ∙ heads_w)) (same-cases (ParityNode i) x) where
         last : ℕ
         last = last_of (replica_of (v.process (ParityNode i)) d)
@@ -405,7 +409,8 @@ module _ (s : Dimensions) (shaped : IsShape s) (v u w : State) (x p : ProcessId)
         fits : ParityNode i ≡ x → AckGoes d p (seen_at d (v.settled d) (v.process (ParityNode i))) r.0 n
         fits k = (subst (Each (AckFits d p (seen_at d (v.settled d) (v.process (ParityNode i))))) (first k) (((reached.1 d below).lanes p i pin iin (λ z. other (sym z)) living).acks lives)).0 same
 
-        which : ((head_at proc0 d ≡ Some h) × (r.0 ≢ h.rank)) ⊎ ((g : Head) × (head_at proc0 d ≡ Some g) × (h ≡ acknowledged j n g)) → (ParityNode i ≡ x) ⊎ (ParityNode i ≢ x) → IsTold h.rank (newest d (at None h.acks i) (w.link (ParityNode i) p)) last
+        which : ((head_at proc0 d ≡ Some h) × (r.0 ≢ h.rank)) ⊎ ((g : Head) × (head_at proc0 d ≡ Some g) × (h ≡ acknowledged j n g))
+            → (ParityNode i ≡ x) ⊎ (ParityNode i ≢ x) → IsTold h.rank (newest d (at None h.acks i) (w.link (ParityNode i) p)) last
         which (inl was) (inl k) = absurd (was.1 (sym (fits k).rank ∙ ranked))
         which (inl was) (inr k) = subst (λ (ms : List Message). IsTold h.rank (newest d (at None h.acks i) ms) last) (sym (same_link k)) (old h was.0 ranked)
         which (inr new) (inl k) =
@@ -455,7 +460,8 @@ module _ (s : Dimensions) (shaped : IsShape s) (v u w : State) (x p : ProcessId)
         let seat : seat_of proc0 d ≡ Some (at 0 (v.process (ParityNode i)).ranks d) = ap (λ (z : ProcessId). seat_of (v.process z) d) (sym is) ∙ reigns.leads (ap v.dead is ∙ lives) in
         absurd (cc (seat, ap (option_map (λ (z : Head). z.rank)) was))
 
-    sends : (z : ProcessId) (i : ℕ) → IsProcess s z → z ≢ p → v.dead z ≡ false → p ≡ ParityNode i → Acks d i (head_at (v.process z) d) (at 0 (w.process p).ranks d) (last_of (replica_of (w.process p) d)) (w.link p z)
+    sends : (z : ProcessId) (i : ℕ) → IsProcess s z → z ≢ p → v.dead z ≡ false → p ≡ ParityNode i
+        → Acks d i (head_at (v.process z) d) (at 0 (w.process p).ranks d) (last_of (replica_of (w.process p) d)) (w.link p z)
     sends z i zin other living isp = which (got.ranks d below) where
       which : (at 0 (notice_comes s y proc0).process.ranks d ≡ at 0 proc0.ranks d) ⊎ (seat_of (notice_comes s y proc0).process d ≡ Some (at 0 (notice_comes s y proc0).process.ranks d))
           → Acks d i (head_at (v.process z) d) (at 0 (w.process p).ranks d) (last_of (replica_of (w.process p) d)) (w.link p z)
@@ -493,5 +499,6 @@ module _ (s : Dimensions) (shaped : IsShape s) (v u w : State) (x p : ProcessId)
   comes (tells.Notice y) d below pops acts = comes-notice y d below pops acts
 
   pub told-receives : (m : Message) → Popped s v u x p m → Acted s u w p (receive s x m (v.process p)) → Told s w
-  told-receives m pops acts = told-left s v w p pin (others s shaped v u w x p m xin pin apart up lives reached told pops acts) (dead s shaped v u w x p m xin pin apart up lives reached told pops acts)
+  told-receives m pops acts =
+      told-left s v w p pin (others s shaped v u w x p m xin pin apart up lives reached told pops acts) (dead s shaped v u w x p m xin pin apart up lives reached told pops acts)
       (between s shaped v u w x p m xin pin apart up lives reached told pops acts) told (λ d below. comes m d below pops acts)

@@ -36,9 +36,12 @@ LeadsLost s p = (l : ℕ) → l < s.k → knows_dead p.known (DataNode l) ≡ tr
 waits-not : (p : Process) (e : ℕ) (h : Option Head) (other : Option Oldest) → inherited_or p e h other ≡ None → (other ≡ None) × ((g : Head) → h ≡ Some g → g.inherited ≤ (replica_of p e).applied)
 waits-not p e None other none = (none, λ g is. absurd (cc is))
 waits-not p e (Some h) other none = by (nat_lt (replica_of p e).applied h.inherited) refl none where
-  by : (b : Bool) → nat_lt (replica_of p e).applied h.inherited ≡ b → (if b then Some (record { partition = e; number = suc (replica_of p e).applied }) else other) ≡ None → (other ≡ None) × ((g : Head) → Some h ≡ Some g → g.inherited ≤ (replica_of p e).applied)
+  by : (b : Bool) → nat_lt (replica_of p e).applied h.inherited ≡ b
+      → (if b then Some (record { partition = e; number = suc (replica_of p e).applied }) else other) ≡ None
+      → (other ≡ None) × ((g : Head) → Some h ≡ Some g → g.inherited ≤ (replica_of p e).applied)
   by true is nothing = absurd (cc nothing)
-  by false is nothing = (nothing, λ g same. let low : h.inherited ≤ (replica_of p e).applied = grind (arith, common_steps) in let one : h.inherited ≡ g.inherited = inherits h g same in omega (arith, low, one))
+  by false is nothing =
+      (nothing, λ g same. let low : h.inherited ≤ (replica_of p e).applied = grind (arith, common_steps) in let one : h.inherited ≡ g.inherited = inherits h g same in omega (arith, low, one))
     where
       inherits : (a b : Head) → Some a ≡ Some b → a.inherited ≡ b.inherited
       inherits a b e = ap (λ (o : Option Head). in_some o) e where
@@ -48,10 +51,15 @@ waits-not p e (Some h) other none = by (nat_lt (replica_of p e).applied h.inheri
 
 none-waits : (p : Process) (l n a : ℕ) → oldest_inherited p (range_with_len a n) ≡ None → a ≤ l → l < a + n → (h : Head) → head_at p l ≡ Some h → h.inherited ≤ (replica_of p l).applied
 none-waits p l zero a none low high h heads = absurd (omega (arith, low, high))
-none-waits p l (suc n) a none low high h heads = by (cases_eq l a) (waits-not p a (head_at p a) (oldest_inherited p (range_with_len (a + 1) n)) none) (λ rest above. none-waits p l n (a + 1) rest above (omega (arith, high)) h heads) where
-  by : (l ≡ a) ⊎ (l ≢ a) → (oldest_inherited p (range_with_len (a + 1) n) ≡ None) × ((g : Head) → head_at p a ≡ Some g → g.inherited ≤ (replica_of p a).applied) → (oldest_inherited p (range_with_len (a + 1) n) ≡ None → a + 1 ≤ l → h.inherited ≤ (replica_of p l).applied) → h.inherited ≤ (replica_of p l).applied
-  by (inl same) parts rest = let here = parts.1 h (ap (head_at p) (sym same) ∙ heads) in let one : (replica_of p a).applied ≡ (replica_of p l).applied = ap (λ (e : ℕ). (replica_of p e).applied) (sym same) in omega (arith, here, one)
-  by (inr other) parts rest = rest parts.0 (omega (arith, low, other))
+none-waits p l (suc n) a none low high h heads =
+    by (cases_eq l a) (waits-not p a (head_at p a) (oldest_inherited p (range_with_len (a + 1) n)) none) (λ rest above. none-waits p l n (a + 1) rest above (omega (arith, high)) h heads) where
+      by : (l ≡ a) ⊎ (l ≢ a) → (oldest_inherited p (range_with_len (a + 1) n) ≡ None) × ((g : Head) → head_at p a ≡ Some g → g.inherited ≤ (replica_of p a).applied)
+          → (oldest_inherited p (range_with_len (a + 1) n) ≡ None → a + 1 ≤ l → h.inherited ≤ (replica_of p l).applied) → h.inherited ≤ (replica_of p l).applied
+      by (inl same) parts rest =
+          let here = parts.1 h (ap (head_at p) (sym same) ∙ heads) in
+          let one : (replica_of p a).applied ≡ (replica_of p l).applied = ap (λ (e : ℕ). (replica_of p e).applied) (sym same) in
+          omega (arith, here, one)
+      by (inr other) parts rest = rest parts.0 (omega (arith, low, other))
 
 module _ (s : Dimensions) (d : ℕ) where
   still-row_finished : (b : Bool) (copy : Copy) (p : Process) → Still d p (row_finished b s copy p)
@@ -76,7 +84,8 @@ module _ (s : Dimensions) (d : ℕ) where
   same-begin leader number block p = same-begun (is_some (copy_in p.as_row.copies leader number)) leader number block p
 
   -- a mark that applies nothing of the partition
-  still-taken : (leader number block e n : ℕ) (p : Process) → SameIn d (begin_copy s leader number block p) (apply_to s e n (begin_copy s leader number block p)) → Still d p (mark_taken s leader number block e n p)
+  still-taken : (leader number block e n : ℕ) (p : Process)
+      → SameIn d (begin_copy s leader number block p) (apply_to s e n (begin_copy s leader number block p)) → Still d p (mark_taken s leader number block e n p)
   still-taken leader number block e n p same =
       let q : Process = apply_to s e n (begin_copy s leader number block p) in
       still-from d p q (copy_marked s e n (copy_in q.as_row.copies leader number) q) (same-in-trans (same-begin leader number block p) same) (still-copy_marked e n (copy_in q.as_row.copies leader number) q)

@@ -104,7 +104,8 @@ each-other d (suc n) a outside = (first outside, each-other d n (a + 1) (rest ou
 
 -- applying another partition
 pub same-apply : (s : Dimensions) (d e n : ℕ) (p : Process) → e ≢ d → SameIn d p (apply_to s e n p)
-same-apply s d e n p other = record { name = refl; known = refl; head = refl; rank = refl; replica = at-put-other empty_replica p.replicas e d (applied_to n (replica_of p e)) (λ same. other (sym same)) }
+same-apply s d e n p other =
+    record { name = refl; known = refl; head = refl; rank = refl; replica = at-put-other empty_replica p.replicas e d (applied_to n (replica_of p e)) (λ same. other (sym same)) }
 
 still-judge_head : (s : Dimensions) (d e : ℕ) (p : Process) (h : Option Head) → e ≢ d → Still d p (judge_head s e p h)
 still-judge_head s d e p None other = still-quiet d p p (same-in-refl d p)
@@ -154,10 +155,12 @@ module _ (F : ℕ → ℕ → List Update → Type 0) (laws : HistoryLaws F) (s 
 
   -- from one list of settled updates
   abbrev pub LeadsFrom : List Update → Process → ProcessStep → Type 0
-  LeadsFrom settled proc t = (out : ProcessId → List Message) → Around F s v d p proc out inn settled → Around F s v d p t.process (λ q. out q ++ sent_to q t.sent) inn (settled_with t.settled d settled)
+  LeadsFrom settled proc t =
+      (out : ProcessId → List Message) → Around F s v d p proc out inn settled → Around F s v d p t.process (λ q. out q ++ sent_to q t.sent) inn (settled_with t.settled d settled)
 
   -- one step, and then another, of which one settles nothing of the partition
-  pub then-from : (settled : List Update) (proc : Process) (a : ProcessStep) (f : Process → ProcessStep) → LeadsFrom settled proc a → Leads a.process (f a.process) → (settled_in d a.settled ≡ []) ⊎ (settled_in d (f a.process).settled ≡ []) → LeadsFrom settled proc (and_then a f)
+  pub then-from : (settled : List Update) (proc : Process) (a : ProcessStep) (f : Process → ProcessStep) → LeadsFrom settled proc a
+      → Leads a.process (f a.process) → (settled_in d a.settled ≡ []) ⊎ (settled_in d (f a.process).settled ≡ []) → LeadsFrom settled proc (and_then a f)
   then-from settled proc a f first later quiet out around =
       subst (λ (o : ProcessId → List Message). Around F s v d p b.process o inn (settled_with (a.settled ++ b.settled) d settled)) (λ i. λ q. outs q i)
       (subst (Around F s v d p b.process (λ q. (out q ++ sent_to q a.sent) ++ sent_to q b.sent) inn) (settles quiet)
@@ -177,7 +180,8 @@ module _ (F : ℕ → ℕ → List Update → Type 0) (laws : HistoryLaws F) (s 
           settled-none d b.settled (settled_with a.settled d settled) none
           ∙ sym (ap (λ (us : List Update). settled ++ new_ones (length settled) us) (settled-in-append d a.settled b.settled ∙ ap (λ (us : List Update). settled_in d a.settled ++ us) none ∙ append-nil (settled_in d a.settled)))
 
-  pub then-leads : (proc : Process) (a : ProcessStep) (f : Process → ProcessStep) → Leads proc a → Leads a.process (f a.process) → (settled_in d a.settled ≡ []) ⊎ (settled_in d (f a.process).settled ≡ []) → Leads proc (and_then a f)
+  pub then-leads : (proc : Process) (a : ProcessStep) (f : Process → ProcessStep) → Leads proc a → Leads a.process (f a.process)
+      → (settled_in d a.settled ≡ []) ⊎ (settled_in d (f a.process).settled ≡ []) → Leads proc (and_then a f)
   then-leads proc a f first later quiet out settled around = then-from settled proc a f (λ o. first o settled) later quiet out around
 
   -- acknowledgements are judged, by a process that knows no living one to be dead
@@ -197,16 +201,18 @@ module _ (F : ℕ → ℕ → List Update → Type 0) (laws : HistoryLaws F) (s 
     by (inl same) = subst (λ (x : ℕ). Leads proc (judge s x proc)) (sym same) (judged_head proc (head_at proc d) refl name spares)
 
   -- a step for each partition in order, where those of others leave this one as it is
-  pub range-leads : (f : ℕ → Process → ProcessStep) (Inv : Process → Type 0) → ((q r : Process) → SameIn d q r → Inv q → Inv r) → ((e : ℕ) (q : Process) → e ≢ d → Still d q (f e q)) → ((q : Process) → Inv q → Leads q (f d q))
+  pub range-leads : (f : ℕ → Process → ProcessStep) (Inv : Process → Type 0) → ((q r : Process) → SameIn d q r → Inv q → Inv r)
+      → ((e : ℕ) (q : Process) → e ≢ d → Still d q (f e q)) → ((q : Process) → Inv q → Leads q (f d q))
       → (n a : ℕ) (proc : Process) → Inv proc → Leads proc (for_each (range_with_len a n) f proc)
   range-leads f Inv kept others here zero a proc inv = still-leads proc (quiet proc) (still-quiet d proc proc (same-in-refl d proc))
-  range-leads f Inv kept others here (suc n) a proc inv = by (cases_eq a d) (λ still. range-leads f Inv kept others here n (a + 1) (f a proc).process (kept proc (f a proc).process still.same inv)) where
-    by : (a ≡ d) ⊎ (a ≢ d) → (Still d proc (f a proc) → Leads (f a proc).process (for_each (range_with_len (a + 1) n) f (f a proc).process)) → Leads proc (for_each (range_with_len a (suc n)) f proc)
-    by (inr other) rest =
-        let still : Still d proc (f a proc) = others a proc other in
-        then-leads proc (f a proc) (for_each (range_with_len (a + 1) n) f) (still-leads proc (f a proc) still) (rest still) (inl still.quiet)
-    by (inl same) rest =
-        let t : ProcessStep = f a proc in
-        let behind : Still d t.process (for_each (range_with_len (a + 1) n) f t.process) = still-each d (range_with_len (a + 1) n) f t.process
-        (each-weaker (λ e. e ≢ d) (λ e. (q : Process) → SameIn d t.process q → Still d q (f e q)) (λ e other q sames. others e q other) (range_with_len (a + 1) n) (each-other d n (a + 1) (inl (omega (arith, same))))) in
-        then-leads proc t (for_each (range_with_len (a + 1) n) f) (subst (λ (e : ℕ). Leads proc (f e proc)) (sym same) (here proc inv)) (still-leads t.process (for_each (range_with_len (a + 1) n) f t.process) behind) (inr behind.quiet)
+  range-leads f Inv kept others here (suc n) a proc inv =
+      by (cases_eq a d) (λ still. range-leads f Inv kept others here n (a + 1) (f a proc).process (kept proc (f a proc).process still.same inv)) where
+        by : (a ≡ d) ⊎ (a ≢ d) → (Still d proc (f a proc) → Leads (f a proc).process (for_each (range_with_len (a + 1) n) f (f a proc).process)) → Leads proc (for_each (range_with_len a (suc n)) f proc)
+        by (inr other) rest =
+            let still : Still d proc (f a proc) = others a proc other in
+            then-leads proc (f a proc) (for_each (range_with_len (a + 1) n) f) (still-leads proc (f a proc) still) (rest still) (inl still.quiet)
+        by (inl same) rest =
+            let t : ProcessStep = f a proc in
+            let behind : Still d t.process (for_each (range_with_len (a + 1) n) f t.process) = still-each d (range_with_len (a + 1) n) f t.process
+            (each-weaker (λ e. e ≢ d) (λ e. (q : Process) → SameIn d t.process q → Still d q (f e q)) (λ e other q sames. others e q other) (range_with_len (a + 1) n) (each-other d n (a + 1) (inl (omega (arith, same))))) in
+            then-leads proc t (for_each (range_with_len (a + 1) n) f) (subst (λ (e : ℕ). Leads proc (f e proc)) (sym same) (here proc inv)) (still-leads t.process (for_each (range_with_len (a + 1) n) f t.process) behind) (inr behind.quiet)

@@ -33,7 +33,8 @@ abbrev pub Reached : Dimensions → State → Type 0
 Reached s v = Members s v × Reach Any s v
 
 -- no two living processes head a partition
-pub no-two : (s : Dimensions) (v : State) → Members s v → (d : ℕ) → d < s.k → (p x : ProcessId) (g h : Head) → IsProcess s p → v.dead p ≡ false → head_at (v.process p) d ≡ Some g → IsProcess s x → x ≢ p → v.dead x ≡ false → head_at (v.process x) d ≡ Some h → ⊥
+pub no-two : (s : Dimensions) (v : State) → Members s v → (d : ℕ) → d < s.k → (p x : ProcessId) (g h : Head) → IsProcess s p → v.dead p ≡ false
+    → head_at (v.process p) d ≡ Some g → IsProcess s x → x ≢ p → v.dead x ≡ false → head_at (v.process x) d ≡ Some h → ⊥
 no-two s v members d below p x g h pin lives headed xin other living heads =
     let from : Used s v d p g.rank = head-from s v d members below p g pin lives headed in
     no-other s v d members below p x g.rank h from.0 lives from.1.below xin other living heads
@@ -58,7 +59,8 @@ module _ (s : Dimensions) (v w : State) (p : ProcessId) (pin : IsProcess s p) (o
     settles_by q d qin living below (inl same) = subst (λ (y : ProcessId). Settles s d (w.process y)) (sym same) (all d below).0
     settles_by q d qin living below (inr other) = subst (Settles s d) (sym (others q qin other)) (told.settles q d qin (sym (dead q qin) ∙ living) below)
 
-    acks_by : (x : ProcessId) (i d : ℕ) → IsProcess s x → i < s.m → x ≢ ParityNode i → w.dead x ≡ false → w.dead (ParityNode i) ≡ false → d < s.k → (x ≡ p) ⊎ (x ≢ p) → (ParityNode i ≡ p) ⊎ (ParityNode i ≢ p)
+    acks_by : (x : ProcessId) (i d : ℕ) → IsProcess s x → i < s.m → x ≢ ParityNode i → w.dead x ≡ false → w.dead (ParityNode i) ≡ false → d < s.k
+        → (x ≡ p) ⊎ (x ≢ p) → (ParityNode i ≡ p) ⊎ (ParityNode i ≢ p)
         → Acks d i (head_at (w.process x) d) (at 0 (w.process (ParityNode i)).ranks d) (last_of (replica_of (w.process (ParityNode i)) d)) (w.link (ParityNode i) x)
     acks_by x i d xin iin apart xliving iliving below (inl xp) (inl ip) = absurd (apart (xp ∙ sym ip))
     acks_by x i d xin iin apart xliving iliving below (inl xp) (inr iother) =
@@ -77,7 +79,8 @@ module _ (s : Dimensions) (v w : State) (p : ProcessId) (pin : IsProcess s p) (o
         (told.acks x i d xin iin apart (sym (dead x xin) ∙ xliving) (sym (dead (ParityNode i) iin) ∙ iliving) below)
 
   -- the head stays, and so does what is on its way to it
-  pub head-same : (d : ℕ) → d < s.k → v.dead p ≡ false → head_at (w.process p) d ≡ head_at (v.process p) d → ((i : ℕ) → i < s.m → ParityNode i ≢ p → (o : Option ℕ) → newest d o (w.link (ParityNode i) p) ≡ newest d o (v.link (ParityNode i) p)) → HeadSide d
+  pub head-same : (d : ℕ) → d < s.k → v.dead p ≡ false → head_at (w.process p) d ≡ head_at (v.process p) d
+      → ((i : ℕ) → i < s.m → ParityNode i ≢ p → (o : Option ℕ) → newest d o (w.link (ParityNode i) p) ≡ newest d o (v.link (ParityNode i) p)) → HeadSide d
   head-same d below lives same back i iin other living =
       acks-is d i (head_at (v.process p) d) (head_at (w.process p) d) (at 0 (v.process (ParityNode i)).ranks d) (at 0 (v.process (ParityNode i)).ranks d)
       (last_of (replica_of (v.process (ParityNode i)) d)) (last_of (replica_of (v.process (ParityNode i)) d)) (v.link (ParityNode i) p) (w.link (ParityNode i) p)
@@ -85,7 +88,8 @@ module _ (s : Dimensions) (v w : State) (p : ProcessId) (pin : IsProcess s p) (o
 
   -- rank and number of updates stay, and nothing is acknowledged
   pub sender-one : (d : ℕ) → d < s.k → v.dead p ≡ false → (x : ProcessId) (i : ℕ) → IsProcess s x → x ≢ p → v.dead x ≡ false → p ≡ ParityNode i
-      → at 0 (w.process p).ranks d ≡ at 0 (v.process p).ranks d → last_of (replica_of (w.process p) d) ≡ last_of (replica_of (v.process p) d) → ((o : Option ℕ) → newest d o (w.link p x) ≡ newest d o (v.link p x))
+      → at 0 (w.process p).ranks d ≡ at 0 (v.process p).ranks d → last_of (replica_of (w.process p) d) ≡ last_of (replica_of (v.process p) d)
+      → ((o : Option ℕ) → newest d o (w.link p x) ≡ newest d o (v.link p x))
       → Acks d i (head_at (v.process x) d) (at 0 (w.process p).ranks d) (last_of (replica_of (w.process p) d)) (w.link p x)
   sender-one d below lives x i xin other living is rank last back =
       acks-is d i (head_at (v.process x) d) (head_at (v.process x) d) (at 0 (v.process p).ranks d) (at 0 (w.process p).ranks d) (last_of (replica_of (v.process p) d)) (last_of (replica_of (w.process p) d)) (v.link p x) (w.link p x)
@@ -175,7 +179,10 @@ module _ (s : Dimensions) (shaped : IsShape s) where
     empty p d = ap last_of (at-replicate empty_replica s.k d)
 
     settled : (p : ProcessId) (d : ℕ) → Settles s d (opening_process s p)
-    settled p d h heads = let low = least-last h (last_of (replica_of (opening_process s p) d)) (other_parities s.m (opening_process s p).name (opening_process s p).known) in let none = empty p d in omega (arith, low, none)
+    settled p d h heads =
+        let low = least-last h (last_of (replica_of (opening_process s p) d)) (other_parities s.m (opening_process s p).name (opening_process s p).known) in
+        let none = empty p d in
+        omega (arith, low, none)
 
     none_told : (x : ProcessId) (i d : ℕ) → Acks d i (head_at (opening_process s x) d) (at 0 (opening_process s (ParityNode i)).ranks d) (last_of (replica_of (opening_process s (ParityNode i)) d)) []
     none_told x i d h heads same = let new = none-acked x d h heads in inr (ap (λ (g : Head). g.rank) new, ap (λ (g : Head). at None g.acks i) new ∙ at-replicate None s.m i, empty (ParityNode i) d)

@@ -12,7 +12,8 @@ use Rattle.law_histories.proofs.Quiet.{asked_always, finished_always, traced_alw
 
 -- a drained group is quiet where no session is open and no copy is left
 pub quiet-where : (s : Dimensions) (es : List Event) → IsRun s es → IsDrained (after s es) → ¬ (IsDown (after s es))
-    → ((i : ℕ) → Lives (after s es) (ParityNode i) → (process_of (after s es) (ParityNode i)).as_leader.sessions ≡ []) → ((i : ℕ) → Lives (after s es) (ParityNode i) → (process_of (after s es) (ParityNode i)).as_row.copies ≡ [])
+    → ((i : ℕ) → Lives (after s es) (ParityNode i) → (process_of (after s es) (ParityNode i)).as_leader.sessions ≡ [])
+    → ((i : ℕ) → Lives (after s es) (ParityNode i) → (process_of (after s es) (ParityNode i)).as_row.copies ≡ [])
     → IsQuiet (after s es)
 quiet-where s es run drained up sessions copies = record {
   headed = headed_always s es run drained up;

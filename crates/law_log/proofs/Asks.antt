@@ -179,7 +179,8 @@ module _ (s : Dimensions) (calls : List Call) (settled : List Update) (c : Call)
     by : (h : Option Head) → head_at p (home_of (key_of c.op.act) s.k) ≡ h → (ask_head s c.name c.op (home_of (key_of c.op.act) s.k) p h).answer ≡ says.Reply reply
         → ruling_in (store_after s (home_of (key_of c.op.act) s.k) settled) n c.op ≡ Refused reply
     by None heads is = absurd (not-reply _ reply refl is)
-    by (Some h) heads is = refused-when s calls settled c (home_of (key_of c.op.act) s.k) p h (stands h heads) _ (sound s calls settled c (home_of (key_of c.op.act) s.k) p h (stands h heads)) reply is refused n
+    by (Some h) heads is =
+        refused-when s calls settled c (home_of (key_of c.op.act) s.k) p h (stands h heads) _ (sound s calls settled c (home_of (key_of c.op.act) s.k) p h (stands h heads)) reply is refused n
 
   pub ask-answered : (reply : Reply) → (ask_process s c.name c.op p).answer ≡ says.Reply reply → accepts reply ≡ true
       → AnsweredBy (settled_with (ask_process s c.name c.op p).step.settled (home_of (key_of c.op.act) s.k) settled) c.name reply
@@ -187,7 +188,8 @@ module _ (s : Dimensions) (calls : List Call) (settled : List Update) (c : Call)
     by : (h : Option Head) → head_at p (home_of (key_of c.op.act) s.k) ≡ h → (ask_head s c.name c.op (home_of (key_of c.op.act) s.k) p h).answer ≡ says.Reply reply
         → AnsweredBy (settled_with (ask_head s c.name c.op (home_of (key_of c.op.act) s.k) p h).step.settled (home_of (key_of c.op.act) s.k) settled) c.name reply
     by None heads is = absurd (not-reply _ reply refl is)
-    by (Some h) heads is = answered-when s calls settled c (home_of (key_of c.op.act) s.k) p h (stands h heads) _ (sound s calls settled c (home_of (key_of c.op.act) s.k) p h (stands h heads)) reply is accepted
+    by (Some h) heads is =
+        answered-when s calls settled c (home_of (key_of c.op.act) s.k) p h (stands h heads) _ (sound s calls settled c (home_of (key_of c.op.act) s.k) p h (stands h heads)) reply is accepted
 
 -- what it issues prolongs its history
 pub heads_issue_fine : HeadsIssueFine

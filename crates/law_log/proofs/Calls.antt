@@ -185,7 +185,8 @@ module _ (P : List Call → State → Type 0) where
   event-kept b (Collect caller call p) framed keeps may all holds =
       let h : History = b.history in
       by (call-comes h.world.shape h.world.nodes h.settled framed p (collect_from caller call (node_of h.world p).process (range_with_len 0 h.world.shape.k)) may.1 (node_of h.world p).down (node_of h.world p).dead refl refl) where
-        by : {w : State} {answer : Answer} → Answers b.history.world.shape (state_of b.history) w p (collect_from caller call (node_of b.history.world p).process (range_with_len 0 b.history.world.shape.k)) answer
+        by : {w : State} {answer : Answer}
+            → Answers b.history.world.shape (state_of b.history) w p (collect_from caller call (node_of b.history.world p).process (range_with_len 0 b.history.world.shape.k)) answer
             → P (b.issued ++ []) w
         by {w} {answer} (Idle same idle) = stays b.issued (state_of b.history) w same holds
         by {w} {answer} (Acts up lives acts is) =
@@ -193,7 +194,9 @@ module _ (P : List Call → State → Type 0) where
   event-kept b (Flush p) framed keeps may all holds =
       let h : History = b.history in
       by (call-comes h.world.shape h.world.nodes h.settled framed p (flush_process h.world.shape (node_of h.world p).process) may (node_of h.world p).down (node_of h.world p).dead refl refl) where
-        by : {w : State} {answer : Answer} → Answers b.history.world.shape (state_of b.history) w p (flush_process b.history.world.shape (node_of b.history.world p).process) answer → P (b.issued ++ []) w
+        by : {w : State} {answer : Answer}
+            → Answers b.history.world.shape (state_of b.history) w p (flush_process b.history.world.shape (node_of b.history.world p).process) answer
+            → P (b.issued ++ []) w
         by {w} {answer} (Idle same idle) = stays b.issued (state_of b.history) w same holds
         by {w} {answer} (Acts up lives acts is) =
             subst (λ (cs : List Call). P cs w) (sym (append-nil b.issued)) (keeps.flushes b.issued (state_of b.history) w p may up lives holds acts)

@@ -44,7 +44,8 @@ contained-last turns last turn there = by (Contains-append_cases turns (last ∷
   by (inr here) = inr (contained-one last turn here)
 
 -- what is clean stays so with one turn more, if it is clean of that
-pub clean-more : (turns : List Turn) (last : Turn) (d a b : ℕ) (us : List Update) → IsClean turns d a us → ((name : CallName) → Traces last.event name d → last.answer ≡ says.Gone → IsUnnamed name us) → IsClean (turns ++ last ∷ []) d b us
+pub clean-more : (turns : List Turn) (last : Turn) (d a b : ℕ) (us : List Update) → IsClean turns d a us
+    → ((name : CallName) → Traces last.event name d → last.answer ≡ says.Gone → IsUnnamed name us) → IsClean (turns ++ last ∷ []) d b us
 clean-more turns last d a b us clean more turn name there traced gone = by (contained-last turns last turn there) where
   by : Contains turns turn ⊎ (last ≡ turn) → IsUnnamed name us
   by (inl before) = clean turn name before traced gone

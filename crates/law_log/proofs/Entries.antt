@@ -79,7 +79,8 @@ logged-not-left log more name none = by (is_logged log name) refl where
   by false e = e
 
 -- the ticket of an issued call whose entry isn't in the log has its op
-pub op-of : (log : List Entry) (calls : List Call) (tickets : List Ticket) (c : Call) → AreTickets log calls tickets → EachTwo (λ x y. x.name ≢ y.name) calls → Contains calls c → is_logged log c.name ≡ false
+pub op-of : (log : List Entry) (calls : List Call) (tickets : List Ticket) (c : Call) → AreTickets log calls tickets → EachTwo (λ x y. x.name ≢ y.name) calls
+    → Contains calls c → is_logged log c.name ≡ false
     → op_in c.name tickets ≡ Some c.op
 op-of log [] tickets c are differ place none = absurd (omega (arith, place.1))
 op-of log (x ∷ xs) [] c are differ place none = absurd are

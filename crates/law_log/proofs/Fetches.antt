@@ -61,7 +61,8 @@ pub record Collected (k : ℕ) (p : Process) (caller call : ℕ) (reply : Reply)
 collected : (k n a : ℕ) (p : Process) (caller call : ℕ) (reply : Reply) → a + n ≤ k → (collect_from caller call p (range_with_len a n)).answer ≡ says.Reply reply → Collected k p caller call reply
 collected k zero a p caller call reply within is = absurd (not-reply _ reply refl is)
 collected k (suc n) a p caller call reply within is = by (find (is_call caller call) (held_at p a)) refl is (collected k n (a + 1) p caller call reply (omega arith)) where
-  handed : (x : Held) → find (is_call caller call) (held_at p a) ≡ Some x → (b : Bool) → nat_le x.number (replica_of p a).applied ≡ b → (handed_out b a x p).answer ≡ says.Reply reply → Collected k p caller call reply
+  handed : (x : Held) → find (is_call caller call) (held_at p a) ≡ Some x → (b : Bool) → nat_le x.number (replica_of p a).applied ≡ b
+      → (handed_out b a x p).answer ≡ says.Reply reply → Collected k p caller call reply
   handed x found true test is =
       let said = found-passes (is_call caller call) (held_at p a) x found in
       let name = is-call-name caller call x said.1 in
@@ -121,13 +122,15 @@ module _ (b : Book) (framed : FramedHistory b.history) (stands : StandsIn b) (na
   names-is : (caller call : ℕ) → caller ≡ name.caller → call ≡ name.call → record { caller = caller; call = call } ≡ name
   names-is caller call a c = λ i. record { caller = a i; call = c i }
 
-  handed-collect : (caller call : ℕ) (p : ProcessId) → IsProcess b.history.world.shape p → (caller ≡ name.caller) × (call ≡ name.call) → (group_step b.history.world (Collect caller call p)).answer ≡ says.Reply reply
+  handed-collect : (caller call : ℕ) (p : ProcessId) → IsProcess b.history.world.shape p → (caller ≡ name.caller) × (call ≡ name.call)
+      → (group_step b.history.world (Collect caller call p)).answer ≡ says.Reply reply
       → HandedOut b.history.world.shape.k settled_now name reply
   handed-collect caller call p pin names is =
       let h : History = b.history in
       by (call-comes h.world.shape h.world.nodes h.settled framed p (collect_from caller call (node_of h.world p).process (range_with_len 0 h.world.shape.k)) pin (node_of h.world p).down (node_of h.world p).dead refl refl) is
     where
-      by : {w : State} {answer : Answer} → Answers b.history.world.shape (state_of b.history) w p (collect_from caller call (node_of b.history.world p).process (range_with_len 0 b.history.world.shape.k)) answer
+      by : {w : State} {answer : Answer}
+          → Answers b.history.world.shape (state_of b.history) w p (collect_from caller call (node_of b.history.world p).process (range_with_len 0 b.history.world.shape.k)) answer
           → answer ≡ says.Reply reply → HandedOut b.history.world.shape.k settled_now name reply
       by {w} {answer} (Idle same idle) said = absurd (idle-no-reply answer reply idle said)
       by {w} {answer} (Acts up lives acts its) said =

@@ -54,7 +54,8 @@ IsClear turns s v = Members s v × Reach (IsClean turns) s v × ((d : ℕ) → d
 
 module _ (turns : List Turn) (s : Dimensions) (shaped : IsShape s) where
   -- each move keeps a state clear
-  clear-after : (v w : State) (p : ProcessId) → reaching.Leaves_both (IsClean turns) (clean-laws turns) s shaped v w p → Members s w → IsProcess s p → w.dead p ≡ false → IsClear turns s v → IsClear turns s w
+  clear-after : (v w : State) (p : ProcessId) → reaching.Leaves_both (IsClean turns) (clean-laws turns) s shaped v w p → Members s w → IsProcess s p
+      → w.dead p ≡ false → IsClear turns s v → IsClear turns s w
   clear-after v w p leaves members pin living clear = (members, (λ d below. (leaves d below).0), λ d below. settled-clean turns s shaped v w p leaves members pin living d below (clear.2 d below))
 
   asks : (v w : State) (p : ProcessId) (name : CallName) (op : Asked) → IsProcess s p → IsUp s v → v.dead p ≡ false → All (λ b. b < 256) (value_of op.act) → IssueKeeps (IsClean turns) s v p name op
@@ -63,7 +64,8 @@ module _ (turns : List Turn) (s : Dimensions) (shaped : IsShape s) where
       clear-after v w p (reaching.asks-both (IsClean turns) (clean-laws turns) s shaped v w p name op pin up lives bytes issues clear.0 clear.1 acts)
       ((keeps s shaped).treats v w p (ask_process s name op (v.process p)).step pin up lives (Asks name op bytes) clear.0 acts) pin (acts.dead p pin ∙ lives) clear
 
-  collects : (v w : State) (p : ProcessId) (caller call : ℕ) → IsProcess s p → IsUp s v → v.dead p ≡ false → IsClear turns s v → Acted s v w p (collect_from caller call (v.process p) (range_with_len 0 s.k)).step → IsClear turns s w
+  collects : (v w : State) (p : ProcessId) (caller call : ℕ) → IsProcess s p → IsUp s v → v.dead p ≡ false → IsClear turns s v
+      → Acted s v w p (collect_from caller call (v.process p) (range_with_len 0 s.k)).step → IsClear turns s w
   collects v w p caller call pin up lives clear acts =
       clear-after v w p (reaching.collects-both (IsClean turns) (clean-laws turns) s shaped v w p caller call pin up lives clear.0 clear.1 acts)
       ((keeps s shaped).treats v w p (collect_from caller call (v.process p) (range_with_len 0 s.k)).step pin up lives (Collects caller call) clear.0 acts) pin (acts.dead p pin ∙ lives) clear
@@ -73,7 +75,8 @@ module _ (turns : List Turn) (s : Dimensions) (shaped : IsShape s) where
       clear-after v w p (reaching.flushes-both (IsClean turns) (clean-laws turns) s shaped v w p pin up lives clear.0 clear.1 acts)
       ((keeps s shaped).treats v w p (flush_process s (v.process p)).step pin up lives Flushes clear.0 acts) pin (acts.dead p pin ∙ lives) clear
 
-  receives : (v u w : State) (x p : ProcessId) (m : Message) → IsProcess s x → IsProcess s p → x ≢ p → IsUp s v → v.dead p ≡ false → IsClear turns s v → Popped s v u x p m → Acted s u w p (receive s x m (v.process p)) → IsClear turns s w
+  receives : (v u w : State) (x p : ProcessId) (m : Message) → IsProcess s x → IsProcess s p → x ≢ p → IsUp s v → v.dead p ≡ false → IsClear turns s v
+      → Popped s v u x p m → Acted s u w p (receive s x m (v.process p)) → IsClear turns s w
   receives v u w x p m xin pin apart up lives clear pops acts =
       clear-after v w p (reaching.receives-both (IsClean turns) (clean-laws turns) s shaped v u w x p m xin pin apart up lives clear.0 clear.1 pops acts)
       ((keeps s shaped).receives v u w x p m xin pin apart up lives clear.0 pops acts) pin (acts.dead p pin ∙ pops.dead p pin ∙ lives) clear
@@ -86,16 +89,21 @@ module _ (turns : List Turn) (s : Dimensions) (shaped : IsShape s) where
   )
 
 -- an event keeps the state clear
-event-clear : (turns : List Turn) (h : History) (e : Event) → FramedHistory h → IsShape h.world.shape → MayCome h.world e → TracesAsked h.world.shape.k h.world.asked turns → IsClear turns h.world.shape (state_of h) → IsClear turns h.world.shape (state_of (prolonged h e))
+event-clear : (turns : List Turn) (h : History) (e : Event) → FramedHistory h → IsShape h.world.shape → MayCome h.world e
+    → TracesAsked h.world.shape.k h.world.asked turns → IsClear turns h.world.shape (state_of h) → IsClear turns h.world.shape (state_of (prolonged h e))
 event-clear turns h (Ask caller op p) framed shaped may were clear =
     by (call-comes h.world.shape h.world.nodes h.settled framed p (ask_process h.world.shape (next_name h.world caller) op (node_of h.world p).process) may.1 (node_of h.world p).down (node_of h.world p).dead refl refl) where
-      by : {w : State} {answer : Answer} → Answers h.world.shape (state_of h) w p (ask_process h.world.shape (next_name h.world caller) op (node_of h.world p).process) answer → IsClear turns h.world.shape w
+      by : {w : State} {answer : Answer}
+          → Answers h.world.shape (state_of h) w p (ask_process h.world.shape (next_name h.world caller) op (node_of h.world p).process) answer
+          → IsClear turns h.world.shape w
       by (Idle same idle) = subst (IsClear turns h.world.shape) (sym same) clear
       by {w} (Acts up lives acts is) = asks turns h.world.shape shaped (state_of h) w p (next_name h.world caller) op may.1 up lives may.2
           (issue-clean turns h.world.shape shaped h.world.asked were (state_of h) clear.0 clear.1 p may.1 lives (next_name h.world caller) op refl) clear acts
 event-clear turns h (Collect caller call p) framed shaped may were clear =
     by (call-comes h.world.shape h.world.nodes h.settled framed p (collect_from caller call (node_of h.world p).process (range_with_len 0 h.world.shape.k)) may.1 (node_of h.world p).down (node_of h.world p).dead refl refl) where
-      by : {w : State} {answer : Answer} → Answers h.world.shape (state_of h) w p (collect_from caller call (node_of h.world p).process (range_with_len 0 h.world.shape.k)) answer → IsClear turns h.world.shape w
+      by : {w : State} {answer : Answer}
+          → Answers h.world.shape (state_of h) w p (collect_from caller call (node_of h.world p).process (range_with_len 0 h.world.shape.k)) answer
+          → IsClear turns h.world.shape w
       by (Idle same idle) = subst (IsClear turns h.world.shape) (sym same) clear
       by {w} (Acts up lives acts is) = collects turns h.world.shape shaped (state_of h) w p caller call may.1 up lives clear acts
 event-clear turns h (Flush p) framed shaped may were clear =
@@ -117,7 +125,8 @@ event-clear turns h (Fail p keep) framed shaped may were clear =
       by {w} (Dies died) = dies turns h.world.shape shaped (state_of h) w p keep may clear died
 
 -- a state that is clear stays so with one turn more, if it is clear of that
-clear-more : (turns : List Turn) (last : Turn) (s : Dimensions) (v : State) → ((name : CallName) (d : ℕ) → Traces last.event name d → last.answer ≢ says.Gone) → IsClear turns s v → IsClear (turns ++ last ∷ []) s v
+clear-more : (turns : List Turn) (last : Turn) (s : Dimensions) (v : State) → ((name : CallName) (d : ℕ) → Traces last.event name d → last.answer ≢ says.Gone)
+    → IsClear turns s v → IsClear (turns ++ last ∷ []) s v
 clear-more turns last s v other clear = (
   clear.0,
   reach-weaker (IsClean turns) (IsClean (turns ++ last ∷ [])) (λ d a us clean. clean-more turns last d a a us clean (λ name traced gone. absurd (other name d traced gone))) s v clear.1,
@@ -182,7 +191,8 @@ gone-or (says.Stale n) = inr (λ is. cc is)
 
 -- after an event the state is clear of what its turn told, too
 turn-clear : (b : Book) (e : Event) → FramedHistory b.history → IsShape b.history.world.shape → MayCome b.history.world e → Stands b.history.world.shape b.issued (state_of b.history)
-    → TracesAsked b.history.world.shape.k b.history.world.asked b.turns → IsClear b.turns b.history.world.shape (state_of b.history) → IsClear (booked b e).turns b.history.world.shape (state_of (booked b e).history)
+    → TracesAsked b.history.world.shape.k b.history.world.asked b.turns → IsClear b.turns b.history.world.shape (state_of b.history)
+    → IsClear (booked b e).turns b.history.world.shape (state_of (booked b e).history)
 turn-clear b (Ask caller op p) framed shaped may stands were clear =
     clear-more b.turns (step b.history.world (Ask caller op p)).turn b.history.world.shape _ (λ name d traced. absurd traced) (event-clear b.turns b.history (Ask caller op p) framed shaped may were clear)
 turn-clear b (Collect caller call p) framed shaped may stands were clear =
@@ -220,23 +230,29 @@ asked-rises asked caller x = by (cases_eq x caller) where
   by : (x ≡ caller) ⊎ (x ≢ caller) → at 0 asked x ≤ at 0 (put 0 asked caller (suc (at 0 asked caller))) x
   by (inr other) = let e = at-put-other 0 asked caller x (suc (at 0 asked caller)) other in omega arith
   by (inl same) =
-      let e : at 0 (put 0 asked caller (suc (at 0 asked caller))) x ≡ suc (at 0 asked caller) = ap (at 0 (put 0 asked caller (suc (at 0 asked caller)))) same ∙ at-put 0 0 asked caller (suc (at 0 asked caller)) in
+      let e : at 0 (put 0 asked caller (suc (at 0 asked caller))) x ≡ suc (at 0 asked caller) = ap (at 0 (put 0 asked caller (suc (at 0 asked caller)))) same
+      ∙ at-put 0 0 asked caller (suc (at 0 asked caller)) in
       let was : at 0 asked x ≡ at 0 asked caller = ap (at 0 asked) same in omega arith
 
-traces-more : (k : ℕ) (asked now : List ℕ) (turns : List Turn) (last : Turn) → ((x : ℕ) → at 0 asked x ≤ at 0 now x) → ((name : CallName) (d : ℕ) → Traces last.event name d → (d < k) × (name.call < at 0 now name.caller))
+traces-more : (k : ℕ) (asked now : List ℕ) (turns : List Turn) (last : Turn) → ((x : ℕ) → at 0 asked x ≤ at 0 now x)
+    → ((name : CallName) (d : ℕ) → Traces last.event name d → (d < k) × (name.call < at 0 now name.caller))
     → TracesAsked k asked turns → TracesAsked k now (turns ++ last ∷ [])
 traces-more k asked now turns last rises here were turn name d there traced = by (contained-last turns last turn there) where
   by : Contains turns turn ⊎ (last ≡ turn) → (d < k) × (name.call < at 0 now name.caller)
   by (inl before) = let old = were turn name d before traced in let low = old.1 in let more = rises name.caller in (old.0, omega (arith, low, more))
   by (inr same) = here name d (subst (λ (t : Turn). Traces t.event name d) (sym same) traced)
 
-turn-asked : (b : Book) (e : Event) → MayCome b.history.world e → TracesAsked b.history.world.shape.k b.history.world.asked b.turns → TracesAsked b.history.world.shape.k (booked b e).history.world.asked (booked b e).turns
+turn-asked : (b : Book) (e : Event) → MayCome b.history.world e → TracesAsked b.history.world.shape.k b.history.world.asked b.turns
+    → TracesAsked b.history.world.shape.k (booked b e).history.world.asked (booked b e).turns
 turn-asked b (Ask caller op p) may were =
     traces-more b.history.world.shape.k b.history.world.asked _ b.turns (step b.history.world (Ask caller op p)).turn (asked-rises b.history.world.asked caller) (λ name d traced. absurd traced) were
-turn-asked b (Collect caller call p) may were = traces-more b.history.world.shape.k b.history.world.asked _ b.turns (step b.history.world (Collect caller call p)).turn (λ x. omega arith) (λ name d traced. absurd traced) were
+turn-asked b (Collect caller call p) may were =
+    traces-more b.history.world.shape.k b.history.world.asked _ b.turns (step b.history.world (Collect caller call p)).turn (λ x. omega arith) (λ name d traced. absurd traced) were
 turn-asked b (Flush p) may were = traces-more b.history.world.shape.k b.history.world.asked _ b.turns (step b.history.world (Flush p)).turn (λ x. omega arith) (λ name d traced. absurd traced) were
-turn-asked b (Deliver from to) may were = traces-more b.history.world.shape.k b.history.world.asked _ b.turns (step b.history.world (Deliver from to)).turn (λ x. omega arith) (λ name d traced. absurd traced) were
-turn-asked b (Fail p keep) may were = traces-more b.history.world.shape.k b.history.world.asked _ b.turns (step b.history.world (Fail p keep)).turn (λ x. omega arith) (λ name d traced. absurd traced) were
+turn-asked b (Deliver from to) may were =
+    traces-more b.history.world.shape.k b.history.world.asked _ b.turns (step b.history.world (Deliver from to)).turn (λ x. omega arith) (λ name d traced. absurd traced) were
+turn-asked b (Fail p keep) may were =
+    traces-more b.history.world.shape.k b.history.world.asked _ b.turns (step b.history.world (Fail p keep)).turn (λ x. omega arith) (λ name d traced. absurd traced) were
 turn-asked b (Trace caller call d p) may were =
     traces-more b.history.world.shape.k b.history.world.asked _ b.turns (step b.history.world (Trace caller call d p)).turn (λ x. omega arith)
     (λ name e traced.
@@ -255,7 +271,8 @@ stand-start s shaped = record {
   asked = λ turn name d there traced. absurd (omega (arith, there.1));
 }
 
-stand-next : (b : Book) (e : Event) → FramedHistory b.history → IsShape b.history.world.shape → MayCome b.history.world e → Stands b.history.world.shape b.issued (state_of b.history) → Stand b → Stand (booked b e)
+stand-next : (b : Book) (e : Event) → FramedHistory b.history → IsShape b.history.world.shape → MayCome b.history.world e
+    → Stands b.history.world.shape b.issued (state_of b.history) → Stand b → Stand (booked b e)
 stand-next b e framed shaped may stands old =
     let clear = turn-clear b e framed shaped may stands old.asked (old.members, old.reach, old.settled) in record {
       members = clear.0;

@@ -32,7 +32,8 @@ abbrev entries : List Logged → List Entry
 entries logged = map (λ (x : Logged). x.entry) logged
 
 -- the last of a caller's among the first n is the same in the log as among what is settled
-kept-same : (caller n : ℕ) (logged : List Logged) (settled : List Update) (a : Option Logged) (b : Option Kept) → Matches (entries logged) settled → IsKept a b → IsKept (last_by caller a (take n logged)) (kept_last caller b (take n settled))
+kept-same : (caller n : ℕ) (logged : List Logged) (settled : List Update) (a : Option Logged) (b : Option Kept) → Matches (entries logged) settled → IsKept a b
+    → IsKept (last_by caller a (take n logged)) (kept_last caller b (take n settled))
 kept-same caller zero logged settled a b all kept = kept
 kept-same caller (suc n) [] [] a b all kept = kept
 kept-same caller (suc n) [] (u ∷ us) a b all kept = absurd all

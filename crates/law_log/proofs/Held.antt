@@ -52,7 +52,8 @@ begins-contains front whole begins u there =
     (Contains-append_left (take (length front) whole) _ u (subst (λ (us : List Update). Contains us u) (sym begins.same) there))
 
 held-more : (front whole : List Update) → Begins front whole → (x : Held) → IsHeldOf front x → IsHeldOf whole x
-held-more front whole begins x is = record { update = is.update; there = begins-contains front whole begins is.update is.there; number = is.number; caller = is.caller; call = is.call; outcome = is.outcome }
+held-more front whole begins x is =
+    record { update = is.update; there = begins-contains front whole begins is.update is.there; number = is.number; caller = is.caller; call = is.call; outcome = is.outcome }
 
 none-held : (xs : List Held) → Each (λ x. ⊥) xs → xs ≡ []
 none-held [] all = refl
@@ -79,7 +80,8 @@ held-moved d old settled p q fits since follows moves = record { heads = λ h he
   none-by None is none = none-held (held_at q d) (moves (λ x. ⊥) (subst (Each (λ x. ⊥)) (sym (fits.none is)) tt) (λ g u some there. absurd (cc (is, some))))
 
 -- another process's history stays where more is settled
-held-stays : (d : ℕ) (old settled : List Update) (p : Process) → ((h : Head) → head_at p d ≡ Some h → (replica_of p d).applied ≤ length old) → Begins old settled → HeldFits old d p → HeldFits settled d p
+held-stays : (d : ℕ) (old settled : List Update) (p : Process) → ((h : Head) → head_at p d ≡ Some h → (replica_of p d).applied ≤ length old)
+    → Begins old settled → HeldFits old d p → HeldFits settled d p
 held-stays d old settled p applied begins fits = record {
   heads = λ h heads. subst (λ (us : List Update). Each (IsHeldOf us) (held_at p d)) (sym (history-grown old (replica_of p d) (applied h heads) settled begins)) (fits.heads h heads);
   none = fits.none;
@@ -140,7 +142,8 @@ module _ (s : Dimensions) (shaped : IsShape s) where
           none = λ is. none;
         }
 
-    after : (v w : State) (p : ProcessId) (keep : ℕ) → Died s v w p keep → HeldStand s v → (q : ProcessId) (d : ℕ) → IsProcess s q → w.dead q ≡ false → d < s.k → (q ≡ p) ⊎ (q ≢ p) → HeldFits (w.settled d) d (w.process q)
+    after : (v w : State) (p : ProcessId) (keep : ℕ) → Died s v w p keep → HeldStand s v → (q : ProcessId) (d : ℕ) → IsProcess s q → w.dead q ≡ false → d < s.k
+        → (q ≡ p) ⊎ (q ≢ p) → HeldFits (w.settled d) d (w.process q)
     after v w p keep died stand q d qin living below (inl same) = absurd (cc (living, ap w.dead same, died.dead))
     after v w p keep died stand q d qin living below (inr other) =
         subst (λ (us : List Update). HeldFits us d (w.process q)) (sym (died.settled d))

@@ -42,7 +42,8 @@ module _ (P : Held → Type 0) (d : ℕ) where
       (λ same. each-filter P (λ x. not (is_call h.caller h.call x)) (held_at p e) (subst (λ (k : ℕ). Each P (held_at p k)) same all))
   held-handed false e h p all = all
 
-  held-found : (e : ℕ) (h : Option Held) (p : Process) (elsewhere : CallStep) → Each P (held_at p d) → Each P (held_at elsewhere.step.process d) → Each P (held_at (collect_held e h p elsewhere).step.process d)
+  held-found : (e : ℕ) (h : Option Held) (p : Process) (elsewhere : CallStep) → Each P (held_at p d) → Each P (held_at elsewhere.step.process d)
+      → Each P (held_at (collect_held e h p elsewhere).step.process d)
   held-found e None p elsewhere all rest = rest
   held-found e (Some h) p elsewhere all rest = held-handed (nat_le h.number (replica_of p e).applied) e h p all
 
@@ -78,7 +79,8 @@ log-judged s e q (Some h) r u is number test = by _ (at-put empty_replica empty_
 
 module _ (s : Dimensions) (P : Held → Type 0) (d : ℕ) where
   -- a ticket puts the update's call behind those that are held, and the log has the update
-  held-issued : (e : ℕ) (h : Head) (u : Update) (p : Process) → u.number ≡ suc (last_of (replica_of p e)) → (b : Bool) → nat_le u.number (replica_of (issued s e h u p).process e).applied ≡ b → Each P (held_at p d)
+  held-issued : (e : ℕ) (h : Head) (u : Update) (p : Process) → u.number ≡ suc (last_of (replica_of p e)) → (b : Bool)
+      → nat_le u.number (replica_of (issued s e h u p).process e).applied ≡ b → Each P (held_at p d)
       → (d ≡ e → Contains (replica_of (issued s e h u p).process d).log u → P (held_of u))
       → Each P (held_at (ticketed b e u (issued s e h u p)).step.process d)
   held-issued e h u p number b test all more = by b test where

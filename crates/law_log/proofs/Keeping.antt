@@ -34,7 +34,8 @@ number-at s calls d n zero store (v ∷ vs) u steps is =
 number-at s calls d n (suc m) store (v ∷ vs) u steps is = let rest = number-at s calls d (suc n) m (stored s d v store) vs u steps.1 is in omega arith
 
 -- the update that is shown at a place
-logged-at : (s : Dimensions) (d m : ℕ) (store : Store) (us : List Update) (ls : List Logged) (u : Update) (l : Logged) → AreShown s d store us ls → slice_get us m ≡ Some u → slice_get ls m ≡ Some l → IsLogged l u
+logged-at : (s : Dimensions) (d m : ℕ) (store : Store) (us : List Update) (ls : List Logged) (u : Update) (l : Logged) → AreShown s d store us ls
+    → slice_get us m ≡ Some u → slice_get ls m ≡ Some l → IsLogged l u
 logged-at s d m store [] ls u l shown is it = absurd (cc is)
 logged-at s d m store (v ∷ vs) [] u l shown is it = absurd shown
 logged-at s d zero store (v ∷ vs) (x ∷ xs) u l shown is it =

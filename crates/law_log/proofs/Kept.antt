@@ -34,7 +34,8 @@ kept-is caller (u ∷ us) kept = kept-is caller us (put None kept u.caller (Some
       ∙ sym (ap (λ (b : Bool). if b then Some (kept_of u) else at None kept caller) (ne_eqb u.caller caller other))
 
 -- it is of one of the updates, or from before
-last-among : (caller : ℕ) (us : List Update) (before : Option Kept) (x : Kept) → kept_last caller before us ≡ Some x → (before ≡ Some x) ⊎ IsSettledAs us (record { caller = caller; call = x.call }) x.outcome
+last-among : (caller : ℕ) (us : List Update) (before : Option Kept) (x : Kept) → kept_last caller before us ≡ Some x
+    → (before ≡ Some x) ⊎ IsSettledAs us (record { caller = caller; call = x.call }) x.outcome
 last-among caller [] before x is = inl is
 last-among caller (u ∷ us) before x is = by (u.caller == caller) refl (last-among caller us (if u.caller == caller then Some (kept_of u) else before) x is) where
   behind : IsSettledAs us (record { caller = caller; call = x.call }) x.outcome → IsSettledAs (u ∷ us) (record { caller = caller; call = x.call }) x.outcome
@@ -58,7 +59,8 @@ kept-fits settled r fits = record { last = last; settled_as = λ caller x is. by
       ap (λ (kept : List (Option Kept)). at None kept caller) fits.kept ∙ kept-is caller (take r.applied settled) (replicate callers None)
       ∙ ap (λ (o : Option Kept). kept_last caller o (take r.applied settled)) (at-replicate None callers caller)
 
-  by : (caller : ℕ) (x : Kept) → (None ≡ Some x) ⊎ IsSettledAs (take r.applied settled) (record { caller = caller; call = x.call }) x.outcome → IsSettledAs settled (record { caller = caller; call = x.call }) x.outcome
+  by : (caller : ℕ) (x : Kept) → (None ≡ Some x) ⊎ IsSettledAs (take r.applied settled) (record { caller = caller; call = x.call }) x.outcome
+      → IsSettledAs settled (record { caller = caller; call = x.call }) x.outcome
   by caller x (inl none) = absurd (cc none)
   by caller x (inr of) = record { update = of.update; there = contains-taken r.applied settled of.update of.there; named = of.named; ended = of.ended }
 

@@ -24,7 +24,9 @@ placed-more : (places : List (List (Option Run))) (settled : List (List Update))
     → ArePlaced (put [] places d (grown (at [] places d) (map (λ u. run_of u.body) us))) (put [] settled d (at [] settled d ++ us))
 placed-more places settled d us placed e = by (cases_eq e d) where
   runs : grown (at [] places d) (map (λ u. run_of u.body) us) ≡ map (λ u. run_of u.body) (at [] settled d ++ us)
-  runs = grown-is (at [] places d) (map (λ u. run_of u.body) us) ∙ ap (λ (xs : List (Option Run)). xs ++ map (λ u. run_of u.body) us) (placed d) ∙ sym (map-append (λ u. run_of u.body) (at [] settled d) us)
+  runs =
+      grown-is (at [] places d) (map (λ u. run_of u.body) us) ∙ ap (λ (xs : List (Option Run)). xs ++ map (λ u. run_of u.body) us) (placed d)
+      ∙ sym (map-append (λ u. run_of u.body) (at [] settled d) us)
 
   by : (e ≡ d) ⊎ (e ≢ d) → at [] (put [] places d (grown (at [] places d) (map (λ u. run_of u.body) us))) e ≡ map (λ u. run_of u.body) (at [] (put [] settled d (at [] settled d ++ us)) e)
   by (inl same) =

@@ -64,14 +64,16 @@ idle-no-reply answer reply (inr lost) is = cc (lost, is)
 
 module _ (b : Book) (framed : FramedHistory b.history) (stands : StandsIn b) (some : 1 ≤ b.history.world.shape.k) where
   -- a refusal that an ask is given is the table's
-  ask-refuses : (caller : ℕ) (op : Asked) (p : ProcessId) → IsProcess b.history.world.shape p → RefusesWell b.history.world.shape b.history.settled (Some (next_call b.history.world caller op)) (group_step b.history.world (Ask caller op p)).answer
+  ask-refuses : (caller : ℕ) (op : Asked) (p : ProcessId) → IsProcess b.history.world.shape p
+      → RefusesWell b.history.world.shape b.history.settled (Some (next_call b.history.world caller op)) (group_step b.history.world (Ask caller op p)).answer
   ask-refuses caller op p pin c reply is answered refused =
       let h : History = b.history in
       subst (λ (x : Call). ruling_in (store_after h.world.shape (home_of (key_of x.op.act) h.world.shape.k) (at [] h.settled (home_of (key_of x.op.act) h.world.shape.k)))
       (suc (length (at [] h.settled (home_of (key_of x.op.act) h.world.shape.k)))) x.op ≡ Refused reply) (same-call (next_call h.world caller op) c is)
       (by (call-comes h.world.shape h.world.nodes h.settled framed p (ask_process h.world.shape (next_name h.world caller) op (node_of h.world p).process) pin (node_of h.world p).down (node_of h.world p).dead refl refl) answered)
     where
-      by : {w : State} {answer : Answer} → Answers b.history.world.shape (state_of b.history) w p (ask_process b.history.world.shape (next_name b.history.world caller) op (node_of b.history.world p).process) answer
+      by : {w : State} {answer : Answer}
+          → Answers b.history.world.shape (state_of b.history) w p (ask_process b.history.world.shape (next_name b.history.world caller) op (node_of b.history.world p).process) answer
           → answer ≡ says.Reply reply
           → ruling_in (store_after b.history.world.shape (home_of (key_of op.act) b.history.world.shape.k) (at [] b.history.settled (home_of (key_of op.act) b.history.world.shape.k)))
           (suc (length (at [] b.history.settled (home_of (key_of op.act) b.history.world.shape.k)))) op ≡ Refused reply

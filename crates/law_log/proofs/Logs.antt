@@ -240,7 +240,8 @@ module _ (s : Dimensions) (some : 1 ≤ s.k) (issued : List Call) (log : List En
     abbrev final : ℕ → List Update
     final d = at [] (settled_after t (range_with_len 0 s.k) settled) d
 
-    law : Grown now tickets_now → (es : List Entry) (us : List (List Update)) (d : ℕ) (u : Update) (rest : List Update) → d < s.k → length us ≡ s.k → final d ≡ at [] us d ++ u ∷ rest → Keeps E now (asked_after asked call) es us
+    law : Grown now tickets_now → (es : List Entry) (us : List (List Update)) (d : ℕ) (u : Update) (rest : List Update) → d < s.k → length us ≡ s.k
+        → final d ≡ at [] us d ++ u ∷ rest → Keeps E now (asked_after asked call) es us
         → (op : Asked) × (op_in (update_name u) tickets_now ≡ Some op)
         × Keeps E now (asked_after asked call) (es ++ entry_of (update_name u) op (reply_from u.outcome) ∷ []) (put [] us d (at [] us d ++ u ∷ []))
     law more es us d u rest low as_many is keeps =

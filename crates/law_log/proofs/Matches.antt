@@ -94,7 +94,8 @@ match-update s calls log settled d u low many stands fits step all e below = by 
       subst (λ (es : List Entry). Matches es (at [] (put [] settled d (at [] settled d ++ u ∷ [])) e)) (sym (filter-out (is_update_of s.k e) log entry (test ∙ ne_eqb _ _ (λ home. other (sym home ∙ step.fits.home)))))
       (subst (Matches (filter (is_update_of s.k e) log)) (sym (at-put-other [] settled d e (at [] settled d ++ u ∷ []) other)) (all e below))
 
-match-refusal : (k : ℕ) (log : List Entry) (settled : List (List Update)) (c : Call) (reply : Reply) → accepts reply ≡ false → AllMatch k log settled → AllMatch k (log ++ entry_of c.name c.op reply ∷ []) settled
+match-refusal : (k : ℕ) (log : List Entry) (settled : List (List Update)) (c : Call) (reply : Reply) → accepts reply ≡ false → AllMatch k log settled
+    → AllMatch k (log ++ entry_of c.name c.op reply ∷ []) settled
 match-refusal k log settled c reply refused all d below =
     subst (λ (es : List Entry). Matches es (at [] settled d)) (sym (filter-out (is_update_of k d) log (entry_of c.name c.op reply) (ap (λ (b : Bool). if b then home_of (key_of c.op.act) k == d else false) refused))) (all d below)
 

@@ -63,7 +63,8 @@ module _ (b : Book) (framed : FramedHistory b.history) (stands : StandsIn b) (so
       let h : History = b.history in
       by (call-comes h.world.shape h.world.nodes h.settled framed p (ask_process h.world.shape (next_name h.world caller) op (node_of h.world p).process) pin (node_of h.world p).down (node_of h.world p).dead refl refl) answered
     where
-      by : {w : State} {answer : Answer} → Answers b.history.world.shape (state_of b.history) w p (ask_process b.history.world.shape (next_name b.history.world caller) op (node_of b.history.world p).process) answer
+      by : {w : State} {answer : Answer}
+          → Answers b.history.world.shape (state_of b.history) w p (ask_process b.history.world.shape (next_name b.history.world caller) op (node_of b.history.world p).process) answer
           → answer ≡ says.Reply reply → AnsweredBy (w.settled (home_of (key_of op.act) b.history.world.shape.k)) (next_call b.history.world caller op).name reply
       by {w} {answer} (Idle same idle) said = absurd (idle-no-reply answer reply idle said)
       by {w} {answer} (Acts up lives acts its) said =

@@ -56,7 +56,8 @@ only-number items (u ∷ us) key n clear is = by (number_on us key) refl (same_k
     (λ same. let none : number_on us key ≡ None = number_on-others us key (subst (λ (x : List ℕ). Each (λ v. x ≢ v.key) us) same clear.1) in cc (found, none)),
     later (found ∙ is),
   )
-  by None none true test is later = ((λ same. number-same u.number n is), each-weaker (λ v. v.key ≢ key) (λ v. v.key ≡ key → v.number ≡ n) (λ v other same. absurd (other same)) us (number_on-none us key none))
+  by None none true test is later =
+      ((λ same. number-same u.number n is), each-weaker (λ v. v.key ≢ key) (λ v. v.key ≡ key → v.number ≡ n) (λ v other same. absurd (other same)) us (number_on-none us key none))
   by None none false test is later = absurd (cc is)
 
 -- the numbers of updates behind the first n

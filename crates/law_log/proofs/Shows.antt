@@ -43,7 +43,8 @@ pub record ShownIn (s : Dimensions) (d : ℕ) (log : List Entry) (us : List Upda
   pub count : count_in s.k d log ≡ length us
   pub tables : (n : ℕ) → n ≤ length us → (key : List ℕ) → home_of key s.k ≡ d → (table_of (empty_table s.k) (cut_after s.k d n log)).items key ≡ held (store_after s d (take n us)) key
 
-shown-push : (s : Dimensions) (d : ℕ) (store : Store) (us : List Update) (ls : List Logged) (u : Update) (l : Logged) → AreShown s d store us ls → IsShown s d (store_from s d store us) u l → AreShown s d store (us ++ u ∷ []) (ls ++ l ∷ [])
+shown-push : (s : Dimensions) (d : ℕ) (store : Store) (us : List Update) (ls : List Logged) (u : Update) (l : Logged) → AreShown s d store us ls
+    → IsShown s d (store_from s d store us) u l → AreShown s d store (us ++ u ∷ []) (ls ++ l ∷ [])
 shown-push s d store [] [] u l shown one = (one, tt)
 shown-push s d store [] (x ∷ xs) u l shown one = absurd shown
 shown-push s d store (v ∷ vs) [] u l shown one = absurd shown
@@ -58,7 +59,9 @@ module _ (s : Dimensions) where
         ++ front_if b (record { entry = e; run = next_run (drop (count_in s.k d log) (runs_of us)); item = (table_after (table_of (empty_table s.k) log) e.op).items (key_of e.op.act) }) []) other
         ∙ append-nil (updates_from s.k d (empty_table s.k) (runs_of us) log))) shown.shown;
     count = count-push s.k d log e ∙ ap (λ (b : Bool). one_if b (count_in s.k d log)) other ∙ shown.count;
-    tables = λ n low key home. ap (λ (es : List Entry). (table_of (empty_table s.k) es).items key) (cut-append s.k d n log (e ∷ []) (let count = shown.count in omega arith)) ∙ shown.tables n low key home;
+    tables =
+        λ n low key home. ap (λ (es : List Entry). (table_of (empty_table s.k) es).items key) (cut-append s.k d n log (e ∷ []) (let count = shown.count in omega arith))
+        ∙ shown.tables n low key home;
   }
 
   module _ (some : 1 ≤ s.k) (calls : List Call) (log : List Entry) (settled : List (List Update)) (d : ℕ) (u : Update) (low : d < s.k) (stands : LogStands s calls log settled)
@@ -96,7 +99,8 @@ module _ (s : Dimensions) where
       item = holds-next (key_of step.call.op.act) step.fits.home ∙ ap₂ held (store-append s d (no_store s) us (u ∷ [])) (sym step.right.key);
     }
 
-    updates-next : (shown : ShownIn s d log us) → updates_from s.k d (empty_table s.k) (runs_of (us ++ u ∷ [])) (log ++ entry ∷ []) ≡ updates_from s.k d (empty_table s.k) (runs_of us) log ++ logged ∷ []
+    updates-next : (shown : ShownIn s d log us)
+        → updates_from s.k d (empty_table s.k) (runs_of (us ++ u ∷ [])) (log ++ entry ∷ []) ≡ updates_from s.k d (empty_table s.k) (runs_of us) log ++ logged ∷ []
     updates-next shown =
         let count : count_in s.k d log ≡ length (runs_of us) = shown.count ∙ sym (length-map us (λ x. run_of x.body)) in
         ap (λ (rs : List (Option Run)). updates_from s.k d (empty_table s.k) rs (log ++ entry ∷ [])) (map-append (λ x. run_of x.body) us (u ∷ []))

@@ -116,7 +116,8 @@ module _ (F : ℕ → ℕ → List Update → Type 0) (d : ℕ) (C : List Update
           let none : h.rank ≡ 0 = grind (arith, common_steps) in
           let alive : v.dead (of_rank d 0) ≡ false = ap (λ (r : ℕ). v.dead (of_rank d r)) (sym none) ∙ ap v.dead (sym from.0) ∙ lives in
           ranked alive none (cases_lt 0 (at 0 (v.process (ParityNode i)).ranks d)) where
-            ranked : v.dead (of_rank d 0) ≡ false → h.rank ≡ 0 → (0 < at 0 (v.process (ParityNode i)).ranks d) ⊎ (at 0 (v.process (ParityNode i)).ranks d ≤ 0) → at 0 (v.process (ParityNode i)).ranks d ≡ h.rank
+            ranked : v.dead (of_rank d 0) ≡ false → h.rank ≡ 0 → (0 < at 0 (v.process (ParityNode i)).ranks d) ⊎ (at 0 (v.process (ParityNode i)).ranks d ≤ 0)
+                → at 0 (v.process (ParityNode i)).ranks d ≡ h.rank
             ranked alive none (inl above) = absurd (cc (reigns.below 0 above, alive))
             ranked alive none (inr low) = omega (arith, low, none)
       by (inr all) =
@@ -149,7 +150,8 @@ module _ (F : ℕ → ℕ → List Update → Type 0) (d : ℕ) (C : List Update
       by (inr other) = other_keeper q qin living keeps other
 
     -- links of others are stale
-    lane-stale : (x : ProcessId) (i : ℕ) → IsProcess s x → i < s.m → x ≢ ParityNode i → v.dead (ParityNode i) ≡ false → x ≢ p → Along (next d) (Goes With d (v.settled d)) (seen_at d (v.settled d) (v.process (ParityNode i))) (v.link x (ParityNode i))
+    lane-stale : (x : ProcessId) (i : ℕ) → IsProcess s x → i < s.m → x ≢ ParityNode i → v.dead (ParityNode i) ≡ false → x ≢ p
+        → Along (next d) (Goes With d (v.settled d)) (seen_at d (v.settled d) (v.process (ParityNode i))) (v.link x (ParityNode i))
     lane-stale x i xin iin apart living other =
         stale-along With d (v.settled d) (seen_at d (v.settled d) (v.process (ParityNode i))) (v.link x (ParityNode i))
         (subst (λ (r : ℕ). Each (Stale d r) (v.link x (ParityNode i))) (sym (at_rank (same-cases (ParityNode i) p)))
@@ -158,14 +160,16 @@ module _ (F : ℕ → ℕ → List Update → Type 0) (d : ℕ) (C : List Update
           at_rank (inl same) = ap (λ (y : ProcessId). at 0 (v.process y).ranks d) same ∙ own_rank
           at_rank (inr other_i) = rank-same i iin other_i living
 
-    lane-own : (i : ℕ) → i < s.m → p ≢ ParityNode i → v.dead (ParityNode i) ≡ false → Along (next d) (Goes With d (v.settled d)) (seen_at d (v.settled d) (v.process (ParityNode i))) (v.link p (ParityNode i))
+    lane-own : (i : ℕ) → i < s.m → p ≢ ParityNode i → v.dead (ParityNode i) ≡ false
+        → Along (next d) (Goes With d (v.settled d)) (seen_at d (v.settled d) (v.process (ParityNode i))) (v.link p (ParityNode i))
     lane-own i iin apart living =
         let lane = (reach d below).lanes p i pin iin apart living in
         let ends = lane.ends lives h heads in
         along-with d (v.settled d) (seen_at d (v.settled d) (v.process (ParityNode i))) (v.link p (ParityNode i)) lane.goes
         (λ here. (ends.rank ∙ sym (rank-same i iin (λ same. apart (sym same)) living), subst C (sym ends.history_is) holds))
 
-    lane-at : (x : ProcessId) (i : ℕ) → IsProcess s x → i < s.m → x ≢ ParityNode i → v.dead (ParityNode i) ≡ false → Along (next d) (Goes With d (v.settled d)) (seen_at d (v.settled d) (v.process (ParityNode i))) (v.link x (ParityNode i))
+    lane-at : (x : ProcessId) (i : ℕ) → IsProcess s x → i < s.m → x ≢ ParityNode i → v.dead (ParityNode i) ≡ false
+        → Along (next d) (Goes With d (v.settled d)) (seen_at d (v.settled d) (v.process (ParityNode i))) (v.link x (ParityNode i))
     lane-at x i xin iin apart living = by (same-cases x p) where
       by : (x ≡ p) ⊎ (x ≢ p) → Along (next d) (Goes With d (v.settled d)) (seen_at d (v.settled d) (v.process (ParityNode i))) (v.link x (ParityNode i))
       by (inr other) = lane-stale x i xin iin apart living other
@@ -195,6 +199,7 @@ module _ (F : ℕ → ℕ → List Update → Type 0) (d : ℕ) (C : List Update
     } where
       by : (x : ProcessId) (i : ℕ) → IsProcess s x → i < s.m → x ≢ ParityNode i → v.dead (ParityNode i) ≡ false → (e ≡ d) ⊎ (e ≢ d)
           → Along (next e) (Goes With e (v.settled e)) (seen_at e (v.settled e) (v.process (ParityNode i))) (v.link x (ParityNode i))
-      by x i xin iin apart living (inl same) = subst (λ (k : ℕ). Along (next k) (Goes With k (v.settled k)) (seen_at k (v.settled k) (v.process (ParityNode i))) (v.link x (ParityNode i))) (sym same) (lane-at x i xin iin apart living)
+      by x i xin iin apart living (inl same) =
+          subst (λ (k : ℕ). Along (next k) (Goes With k (v.settled k)) (seen_at k (v.settled k) (v.process (ParityNode i))) (v.link x (ParityNode i))) (sym same) (lane-at x i xin iin apart living)
       by x i xin iin apart living (inr other) =
           along-with e (v.settled e) (seen_at e (v.settled e) (v.process (ParityNode i))) (v.link x (ParityNode i)) ((reach e low).lanes x i xin iin apart living).goes (λ here. absurd (other here))

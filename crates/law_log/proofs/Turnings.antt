@@ -107,7 +107,8 @@ asks-grow : (w : World) (e : Event) (caller : ℕ) → at 0 (asked_after w.asked
 asks-grow w (Ask who op p) caller = by (cases_eq caller who) where
   by : (caller ≡ who) ⊎ (caller ≢ who) → at 0 (put 0 w.asked who (suc (at 0 w.asked who))) caller ≡ at 0 w.asked caller + asks_in caller (Ask who op p)
   by (inl same) =
-      let now : at 0 (put 0 w.asked who (suc (at 0 w.asked who))) caller ≡ suc (at 0 w.asked who) = ap (at 0 (put 0 w.asked who (suc (at 0 w.asked who)))) same ∙ at-put 0 0 w.asked who (suc (at 0 w.asked who)) in
+      let now : at 0 (put 0 w.asked who (suc (at 0 w.asked who))) caller ≡ suc (at 0 w.asked who) = ap (at 0 (put 0 w.asked who (suc (at 0 w.asked who)))) same
+      ∙ at-put 0 0 w.asked who (suc (at 0 w.asked who)) in
       let was : at 0 w.asked caller ≡ at 0 w.asked who = ap (at 0 w.asked) same in
       let one : asks_in caller (Ask who op p) ≡ 1 = ap (λ (b : Bool). if b then 1 else 0) (eq-eqb who caller (sym same)) in omega arith
   by (inr other) =

@@ -50,14 +50,16 @@ own-held s d store u =
     ∙ ap (λ (b : Bool). if b then slot_after u.number u.body (slot_in store.items u.key) else slot_in store.items u.key) (key-refl u.key))
 
 -- the run of a key's item after an update on the key
-run-kept : (space : List ℕ) (n : ℕ) (body : Body) (slot : Option Slot) → run_after (held_in space (slot_after n body slot)) (run_of body) (option_map run_in slot) ≡ option_map run_in (slot_after n body slot)
+run-kept : (space : List ℕ) (n : ℕ) (body : Body) (slot : Option Slot)
+    → run_after (held_in space (slot_after n body slot)) (run_of body) (option_map run_in slot) ≡ option_map run_in (slot_after n body slot)
 run-kept space n (Put flags until run delta) slot = refl
 run-kept space n Remove slot = refl
 run-kept space n (Touch until) None = refl
 run-kept space n (Touch until) (Some slot) = refl
 
 -- the run of a key is that of its item
-pub runs-are : (s : Dimensions) (d : ℕ) (key : List ℕ) (store : Store) (us : List Update) (ls : List Logged) (old : Option Run) → AreShown s d store us ls → old ≡ option_map run_in (slot_in store.items key)
+pub runs-are : (s : Dimensions) (d : ℕ) (key : List ℕ) (store : Store) (us : List Update) (ls : List Logged) (old : Option Run) → AreShown s d store us ls
+    → old ≡ option_map run_in (slot_in store.items key)
     → run_on key old ls ≡ option_map run_in (slot_in (items_after store.items us) key)
 runs-are s d key store [] [] old shown is = is
 runs-are s d key store [] (l ∷ ls) old shown is = absurd shown
@@ -78,7 +80,9 @@ runs-are s d key store (u ∷ us) (l ∷ ls) old shown is = runs-are s d key (st
   by false test = is
 
   next : run_unless (same_key (key_of l.entry.op.act) key) l old ≡ option_map run_in (slot_in (item_settled u store.items) key)
-  next = ap (λ (b : Bool). run_unless b l old) same ∙ by (same_key u.key key) refl ∙ ap (option_map run_in) (sym (slot_in-with u.key key (slot_after u.number u.body (slot_in store.items u.key)) store.items))
+  next =
+      ap (λ (b : Bool). run_unless b l old) same ∙ by (same_key u.key key) refl
+      ∙ ap (option_map run_in) (sym (slot_in-with u.key key (slot_after u.number u.body (slot_in store.items u.key)) store.items))
 
 -- a value that stands at its run was written there
 written-is : (run : Run) (delta space : List ℕ) → run.len ≡ length delta → run.at + run.len ≤ length space

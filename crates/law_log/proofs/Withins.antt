@@ -186,7 +186,8 @@ module _ (s : Dimensions) (always : StandsAlways s) (es : List Event) (run : IsR
       let one : turn ≡ has.turn = some-same turn has.turn (sym ask.there ∙ ap (slice_get turns) place ∙ its.there) in
       none (subst (λ (t : Turn). IsTaken t.answer) (sym one) has.taken)
 
-  gone : GoneStays s → (i : ℕ) (turn : Turn) (name : CallName) (d : ℕ) (entry : Entry) → slice_get turns i ≡ Some turn → Traces turn.event name d → turn.answer ≡ says.Gone → Contains (log_of turns) entry
+  gone : GoneStays s → (i : ℕ) (turn : Turn) (name : CallName) (d : ℕ) (entry : Entry) → slice_get turns i ≡ Some turn → Traces turn.event name d
+      → turn.answer ≡ says.Gone → Contains (log_of turns) entry
       → accepts entry.reply ≡ true → home_of (key_of entry.op.act) s.k ≡ d → name_of entry ≢ name
   gone stays i turn name d entry there traces answered contained accepted home same =
       let inside : Contains (book_of s es).history.world.log entry = subst (λ (log : List Entry). Contains log entry) (sym whole-log) contained in
@@ -202,7 +203,8 @@ module _ (s : Dimensions) (always : StandsAlways s) (es : List Event) (run : IsR
   at_once : (i : ℕ) (turn : Turn) (name : CallName) (op : Asked) (reply : Reply) → IsAsk turns i turn name op → turn.answer ≡ says.Reply reply → Contains turn.logged (entry_of name op reply)
   at_once i turn name op reply ask answered =
       by (e i turn ask.there) (sym (ap (λ (t : Turn). t.event) (turn-same i turn ask.there)) ∙ ask.event) (parts i turn ask.there).1 (turn-same i turn ask.there) (asked-through i turn ask.there) where
-        by : (x : Event) → x ≡ Ask name.caller op ask.at → MayCome (after s (place i turn ask.there).before) x → turn ≡ (step (b i turn ask.there).history.world x).turn → AskedOf (booked (b i turn ask.there) x)
+        by : (x : Event) → x ≡ Ask name.caller op ask.at → MayCome (after s (place i turn ask.there).before) x
+            → turn ≡ (step (b i turn ask.there).history.world x).turn → AskedOf (booked (b i turn ask.there) x)
             → Contains turn.logged (entry_of name op reply)
         by x is may same later =
             let before : List Event = (place i turn ask.there).before in

@@ -35,7 +35,8 @@ use Rattle.law_log.proofs.Shows.{ShownIn, runs_of, shown_always}
 use Rattle.law_log.proofs.Values.{runs-are, shown-long, shown-take, values-are}
 
 -- an item of a store is the one that the table has
-item-is : (size : ℕ) (space : List ℕ) (slot : Option Slot) (h : Option Holding) (run : Option Run) → length space ≡ size → OfSlot (λ x. x.at + x.len ≤ size) slot → h ≡ held_in space slot → run ≡ option_map run_in slot
+item-is : (size : ℕ) (space : List ℕ) (slot : Option Slot) (h : Option Holding) (run : Option Run) → length space ≡ size
+    → OfSlot (λ x. x.at + x.len ≤ size) slot → h ≡ held_in space slot → run ≡ option_map run_in slot
     → IsItem slot h run
 item-is size space None h run long inside holds is = subst (λ (x : Option Holding). IsItem None x run) (sym holds) tt
 item-is size space (Some slot) h run long inside holds is =
@@ -48,7 +49,8 @@ record ShownAt (s : Dimensions) (calls : List Call) (d n m : ℕ) (store : Store
   pub shown : IsShown s d (store_from s d store (take m us)) update l
   pub fits : StoreFits s (store_from s d store (take m us))
 
-shown-at : (s : Dimensions) (calls : List Call) (d n m : ℕ) (store : Store) (us : List Update) (ls : List Logged) (l : Logged) → StoreFits s store → AreSteps s calls d n store us → AreShown s d store us ls → slice_get ls m ≡ Some l
+shown-at : (s : Dimensions) (calls : List Call) (d n m : ℕ) (store : Store) (us : List Update) (ls : List Logged) (l : Logged) → StoreFits s store
+    → AreSteps s calls d n store us → AreShown s d store us ls → slice_get ls m ≡ Some l
     → ShownAt s calls d n m store us l
 shown-at s calls d n m store us [] l fits steps shown is = absurd (cc is)
 shown-at s calls d n m store [] (x ∷ xs) l fits steps shown is = absurd shown

@@ -120,7 +120,8 @@ module _ (h : History) (members : Members h.world.shape (state_of h)) (p : Proce
   seat-from-ready ready = by ready.rank p refl ready.name (members.sits p d pin lives below) where
     knows : (q : ℕ) → q < ready.rank → IsProcess h.world.shape (of_rank d q) → of_rank d q ≢ p → knows_dead (process_of h.world p).known (of_rank d q) ≡ true
     knows q low qin other = by_word (is_dead h.world (of_rank d q)) (knows_dead (process_of h.world p).known (of_rank d q)) refl refl (members.stands (of_rank d q) p qin pin other lives) where
-      by_word : (dead known : Bool) → is_dead h.world (of_rank d q) ≡ dead → knows_dead (process_of h.world p).known (of_rank d q) ≡ known → Stands (of_rank d q) dead known (link h.world (of_rank d q) p) → knows_dead (process_of h.world p).known (of_rank d q) ≡ true
+      by_word : (dead known : Bool) → is_dead h.world (of_rank d q) ≡ dead → knows_dead (process_of h.world p).known (of_rank d q) ≡ known
+          → Stands (of_rank d q) dead known (link h.world (of_rank d q) p) → knows_dead (process_of h.world p).known (of_rank d q) ≡ true
       by_word dead true isdead isknown stands = isknown
       by_word false false isdead isknown stands = absurd (cc (isdead, ready.heads.lowest q low))
       by_word true false isdead isknown stands = absurd (ready.taken_over q (of_rank d q) low qin (λ same. other (same ∙ sym ready.name))
@@ -226,10 +227,16 @@ module _ (h : History) (framed : FramedHistory h) (members : Members h.world.sha
       )
     where
       not_down : (node_of w p).down ≡ false → ¬ (IsDown w)
-      not_down none down = let told : nat_lt w.shape.m (dead_nodes w.nodes) ≡ false = sym (framed.down p pin) ∙ none in let few : dead_nodes w.nodes ≤ w.shape.m = grind (arith, common_steps) in absurd (omega (arith, few, down))
+      not_down none down =
+          let told : nat_lt w.shape.m (dead_nodes w.nodes) ≡ false = sym (framed.down p pin) ∙ none in
+          let few : dead_nodes w.nodes ≤ w.shape.m = grind (arith, common_steps) in
+          absurd (omega (arith, few, down))
   by_words false false isdown isdead a is = by_head (head_at (process_of w p) (home_in w op)) refl not_down isdead a is where
     not_down : ¬ (IsDown w)
-    not_down down = let told : nat_lt w.shape.m (dead_nodes w.nodes) ≡ false = sym (framed.down p pin) ∙ isdown in let few : dead_nodes w.nodes ≤ w.shape.m = grind (arith, common_steps) in absurd (omega (arith, few, down))
+    not_down down =
+        let told : nat_lt w.shape.m (dead_nodes w.nodes) ≡ false = sym (framed.down p pin) ∙ isdown in
+        let few : dead_nodes w.nodes ≤ w.shape.m = grind (arith, common_steps) in
+        absurd (omega (arith, few, down))
 
   pub away : SentAway h.world caller op p
   away = let all = by_words (node_of w p).down (node_of w p).dead refl refl (step w (Ask caller op p)).turn.answer refl in record { down = all.0; lost = all.1; moved = all.2 }

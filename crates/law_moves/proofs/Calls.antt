@@ -177,7 +177,8 @@ module _ (s : Dimensions) where
 
   step-retry : (p : Process) (x : ProcessId) (block d r : ℕ) (o : Option Oldest) → Seated s p x → IsParity x → d < s.k → seat_of p d ≡ Some r → Step Owes s.k p (retry_block s block o p).step
   step-retry p x block d r (Some o) seated parity below seat = step-quiet Owes s.k p p (core-refl p)
-  step-retry p x block d r None seated parity below seat = step-when Owes s.k (not (list_any (λ g. g.block == block) p.as_leader.sessions)) p (start_session s block p) (step-session p x block d r seated parity below seat)
+  step-retry p x block d r None seated parity below seat =
+      step-when Owes s.k (not (list_any (λ g. g.block == block) p.as_leader.sessions)) p (start_session s block p) (step-session p x block d r seated parity below seat)
 
   -- a head issues an update
   step-issued : (p : Process) (d : ℕ) (h : Head) (u : Update) → d < s.k → head_at p d ≡ Some h → Step Owes s.k p (issued s d h u p)

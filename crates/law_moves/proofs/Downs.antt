@@ -47,7 +47,8 @@ more-dead e (x ∷ xs) zero y dead = by x.dead where
   by : (b : Bool) → (if b then 1 else 0) + count_dead (map (λ (n : Node). n.dead) xs) ≤ (if y.dead then 1 else 0) + count_dead (map (λ (n : Node). n.dead) xs)
   by b = let one : ◌≡◌ {A = ℕ} (if y.dead then 1 else 0) 1 = ap (λ (c : Bool). if c then 1 else 0) dead in few b (omega (arith, one))
     where
-      few : (b : Bool) → 1 + count_dead (map (λ (n : Node). n.dead) xs) ≤ (if y.dead then 1 else 0) + count_dead (map (λ (n : Node). n.dead) xs) → (if b then 1 else 0) + count_dead (map (λ (n : Node). n.dead) xs) ≤ (if y.dead then 1 else 0) + count_dead (map (λ (n : Node). n.dead) xs)
+      few : (b : Bool) → 1 + count_dead (map (λ (n : Node). n.dead) xs) ≤ (if y.dead then 1 else 0) + count_dead (map (λ (n : Node). n.dead) xs)
+          → (if b then 1 else 0) + count_dead (map (λ (n : Node). n.dead) xs) ≤ (if y.dead then 1 else 0) + count_dead (map (λ (n : Node). n.dead) xs)
       few true most = most
       few false most = omega (arith, most)
 more-dead e (x ∷ xs) (suc i) y dead = let rest = more-dead e xs i y dead in omega (arith, rest)
@@ -90,7 +91,9 @@ module _ (w : World) (settled : List (List Update)) (framed : Framed w.shape w.n
   answers-down node t true is = record { answer = refl; quiet = refl; node_same = refl }
   answers-down node t false is = cc is
 
-  one : (e : Event) (p : ProcessId) (t : NodeStep) → IsProcess w.shape p → (group_step w e) ≡ record { nodes = with_node w.shape p t.node w.nodes; answer = t.answer; settled = t.settled } → AnswersDown (node_of w p) t → Nothing e
+  one : (e : Event) (p : ProcessId) (t : NodeStep) → IsProcess w.shape p
+      → (group_step w e) ≡ record { nodes = with_node w.shape p t.node w.nodes; answer = t.answer; settled = t.settled } → AnswersDown (node_of w p) t
+      → Nothing e
   one e p t pin is answers = record {
     answer = ap (λ (g : GroupStep). g.answer) is ∙ answers.answer;
     quiet = ap (λ (g : GroupStep). g.settled) is ∙ answers.quiet;
@@ -100,7 +103,8 @@ module _ (w : World) (settled : List (List Update)) (framed : Framed w.shape w.n
   stands : (e : Event) → MayCome w e → StandsStill w e
   stands (Ask caller op p) may = still (Ask caller op p) (one (Ask caller op p) p _ may.1 refl (answers-down (node_of w p) (treated w.shape (node_of w p) (ask_process w.shape (next_name w caller) op (node_of w p).process)) (node_of w p).down (told p may.1)))
   stands (Collect caller call p) may = still (Collect caller call p) (one (Collect caller call p) p _ may.1 refl (answers-down (node_of w p) (treated w.shape (node_of w p) (collect_from caller call (node_of w p).process (range_with_len 0 w.shape.k))) (node_of w p).down (told p may.1)))
-  stands (Flush p) may = still (Flush p) (one (Flush p) p _ may refl (answers-down (node_of w p) (treated w.shape (node_of w p) (flush_process w.shape (node_of w p).process)) (node_of w p).down (told p may)))
+  stands (Flush p) may =
+      still (Flush p) (one (Flush p) p _ may refl (answers-down (node_of w p) (treated w.shape (node_of w p) (flush_process w.shape (node_of w p).process)) (node_of w p).down (told p may)))
   stands (Trace caller call d p) may = still (Trace caller call d p) (one (Trace caller call d p) p _ may.3 refl (answers-down (node_of w p) (unchanged (fate_of w.shape caller call d.0 (node_of w p).process (head_at (node_of w p).process d.0)) (node_of w p)) (node_of w p).down (told p may.3)))
   stands (Deliver from to) may = still (Deliver from to) (by (node_of w to).down (told to may.1)) where
     answers : (b : Bool) → b ≡ true → (t : DeliveryStep) → t ≡ delivered b (node_of w to).dead w.shape from to (node_of w from) (node_of w to) (at [] (node_of w from).links (index_of w.shape to))

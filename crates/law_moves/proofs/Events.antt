@@ -109,7 +109,8 @@ module _ (s : Dimensions) (nodes : List Node) (settled : List (List Update)) (fr
   }
 
   -- a process answers and stays as it is
-  pub comes_answered : (p : ProcessId) → IsProcess s p → (node : NodeStep) → node.node ≡ node_in s nodes p → node.settled ≡ [] → Comes (with_node s p node.node nodes) (settled_after node.settled (range_with_len 0 s.k) settled)
+  pub comes_answered : (p : ProcessId) → IsProcess s p → (node : NodeStep) → node.node ≡ node_in s nodes p → node.settled ≡ []
+      → Comes (with_node s p node.node nodes) (settled_after node.settled (range_with_len 0 s.k) settled)
   comes_answered p pin node same none =
       subst (λ (t : List Settlement). Comes (with_node s p node.node nodes) (settled_after t (range_with_len 0 s.k) settled)) (sym none)
       (comes_same (with_node s p node.node nodes) (ap (λ (n : Node). with_node s p n nodes) same ∙ node-back s nodes p pin framed.nodes_many))

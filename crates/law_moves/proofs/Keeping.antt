@@ -231,7 +231,8 @@ module _ (s : Dimensions) where
     at_p P q qin (inl same) here there = subst (λ (y : ProcessId). P (w.process y) y) (sym same) (subst (λ (y : Process). P y p) (sym change.process) here)
     at_p P q qin (inr other) here there = subst (λ (y : Process). P y q) (sym (change.others q qin other)) (there other)
 
-    stands_by : (x q : ProcessId) → IsProcess s x → IsProcess s q → x ≢ q → w.dead q ≡ false → (x ≡ p) ⊎ (x ≢ p) → (q ≡ p) ⊎ (q ≢ p) → Stands x (w.dead x) (knows_dead (w.process q).known x) (w.link x q)
+    stands_by : (x q : ProcessId) → IsProcess s x → IsProcess s q → x ≢ q → w.dead q ≡ false → (x ≡ p) ⊎ (x ≢ p) → (q ≡ p) ⊎ (q ≢ p)
+        → Stands x (w.dead x) (knows_dead (w.process q).known x) (w.link x q)
     stands_by x q xin qin apart here (inl xp) (inl qp) = absurd (apart (xp ∙ sym qp))
     stands_by x q xin qin apart here (inr other) (inl qp) =
         subst (λ (b : Bool). Stands x b (knows_dead (w.process q).known x) (w.link x q)) (sym (change.dead x xin))
@@ -416,7 +417,8 @@ module _ (s : Dimensions) (shaped : IsShape s) where
     process_other q qin other = acts.others q qin other ∙ pops.processes q qin
 
   -- a message that isn't a notice
-  receives_plain : (v u w : State) (x p : ProcessId) (m : Message) → IsProcess s x → IsProcess s p → x ≢ p → v.dead p ≡ false → Members s v → Popped s v u x p m → Acted s u w p (receive s x m (v.process p)) → is_notice m ≡ false → Members s w
+  receives_plain : (v u w : State) (x p : ProcessId) (m : Message) → IsProcess s x → IsProcess s p → x ≢ p → v.dead p ≡ false → Members s v → Popped s v u x p m
+      → Acted s u w p (receive s x m (v.process p)) → is_notice m ≡ false → Members s w
   receives_plain v u w x p m xin pin apart lives members pops acts plain = changed s (DueTo x m) v w p t pin lives members (record {
     process = acts.process;
     others = process_other v u w x p m t xin pin apart pops acts;
@@ -456,11 +458,14 @@ module _ (s : Dimensions) (shaped : IsShape s) where
 
     may_in : (y : ProcessId) → IsProcess s y → y ≢ p → (y ≡ x) ⊎ (y ≢ x) → Each (MayStand s v y p) (w.link y p)
     may_in y yin other (inr yother) = subst (Each (MayStand s v y p)) (sym (link_else v u w x p m t xin pin apart pops acts y p yin pin other (inl yother))) (members.may y p yin pin other lives)
-    may_in y yin other (inl same) = subst (λ (z : ProcessId). Each (MayStand s v z p) (w.link z p)) (sym same) (subst (Each (MayStand s v x p)) (sym (link_here v u w x p m t xin pin apart pops acts)) may_first.1)
+    may_in y yin other (inl same) =
+        subst (λ (z : ProcessId). Each (MayStand s v z p) (w.link z p)) (sym same) (subst (Each (MayStand s v x p)) (sym (link_here v u w x p m t xin pin apart pops acts)) may_first.1)
 
     owed_by : (n : Message) → MayStand s v x p n → (to : ProcessId) (r d : ℕ) → DueTo x n to r d → IsFrom s v to d r
-    owed_by (tells.Update r d u stable) may to rank part due = subst (λ (y : ProcessId). IsFrom s v y part rank) (sym due.0) (subst (λ (e : ℕ). IsFrom s v x e rank) (sym due.2) (subst (λ (e : ℕ). IsFrom s v x d.0 e) (sym due.1) may.0))
-    owed_by (tells.Adopt r d base list) may to rank part due = subst (λ (y : ProcessId). IsFrom s v y part rank) (sym due.0) (subst (λ (e : ℕ). IsFrom s v x e rank) (sym due.2) (subst (λ (e : ℕ). IsFrom s v x d.0 e) (sym due.1) may.0))
+    owed_by (tells.Update r d u stable) may to rank part due =
+        subst (λ (y : ProcessId). IsFrom s v y part rank) (sym due.0) (subst (λ (e : ℕ). IsFrom s v x e rank) (sym due.2) (subst (λ (e : ℕ). IsFrom s v x d.0 e) (sym due.1) may.0))
+    owed_by (tells.Adopt r d base list) may to rank part due =
+        subst (λ (y : ProcessId). IsFrom s v y part rank) (sym due.0) (subst (λ (e : ℕ). IsFrom s v x e rank) (sym due.2) (subst (λ (e : ℕ). IsFrom s v x d.0 e) (sym due.1) may.0))
     owed_by (tells.Ack r d n) may to rank part due = absurd due
     owed_by (tells.Stable r d n) may to rank part due = absurd due
     owed_by (tells.ReadBlock session block rows) may to rank part due = absurd due
@@ -504,7 +509,9 @@ module _ (s : Dimensions) (shaped : IsShape s) where
       by (inr low) (inl same) = absurd (apart (from ∙ ap (of_rank d) same ∙ sym is))
       by (inr low) (inr other) = omega (arith, low, other)
 
-    sits_by : (y : ProcessId) → p ≡ y → (d : ℕ) → (at 0 t.process.ranks d ≡ at 0 (v.process p).ranks d) ⊎ Brings m d (at 0 (v.process p).ranks d) (at 0 t.process.ranks d) → Sits (v.process p) d y → Sits t.process d y
+    sits_by : (y : ProcessId) → p ≡ y → (d : ℕ)
+        → (at 0 t.process.ranks d ≡ at 0 (v.process p).ranks d) ⊎ Brings m d (at 0 (v.process p).ranks d) (at 0 t.process.ranks d) → Sits (v.process p) d y
+        → Sits t.process d y
     sits_by (DataNode e) is d (inl same) sits = (got.seats d ∙ sits.0, same ∙ sits.1)
     sits_by (DataNode e) is d (inr brings) sits = absurd (subst IsParity is (brings_by m may_first.0 d (at 0 (v.process p).ranks d) (at 0 t.process.ranks d) brings).2)
     sits_by (ParityNode i) is d (inl same) sits =
@@ -529,7 +536,8 @@ module _ (s : Dimensions) (shaped : IsShape s) where
     sits_at d below = sits_by p refl d (got.ranks d) (members.sits p d pin lives below)
 
   -- a notice
-  receives_notice : (v u w : State) (x p dead : ProcessId) → IsProcess s x → IsProcess s p → x ≢ p → v.dead p ≡ false → Members s v → Popped s v u x p (tells.Notice dead) → Acted s u w p (receive s x (tells.Notice dead) (v.process p)) → Members s w
+  receives_notice : (v u w : State) (x p dead : ProcessId) → IsProcess s x → IsProcess s p → x ≢ p → v.dead p ≡ false → Members s v
+      → Popped s v u x p (tells.Notice dead) → Acted s u w p (receive s x (tells.Notice dead) (v.process p)) → Members s w
   receives_notice v u w x p dead xin pin apart lives members pops acts = changed s Owes v w p t pin lives members (record {
     process = acts.process;
     others = process_other v u w x p (tells.Notice dead) t xin pin apart pops acts;
@@ -570,21 +578,25 @@ module _ (s : Dimensions) (shaped : IsShape s) where
         (subst (λ (b : Bool). Stands x true b (w.link x p)) (sym (ap (λ (known : Membership). knows_dead known x) got.known ∙ ap (knows_dead (with_dead (v.process p).known dead)) (sym facts.2) ∙ knows-with_dead (v.process p).known dead))
         (link_here v u w x p (tells.Notice dead) t xin pin apart pops acts ∙ facts.3)))
 
-    ranks_by : (d : ℕ) → d < s.k → (at 0 t.process.ranks d ≡ at 0 (v.process p).ranks d) ⊎ (seat_of t.process d ≡ Some (at 0 t.process.ranks d)) → Reigns s v d (at 0 t.process.ranks d) ⊎ (seat_of t.process d ≡ Some (at 0 t.process.ranks d))
+    ranks_by : (d : ℕ) → d < s.k → (at 0 t.process.ranks d ≡ at 0 (v.process p).ranks d) ⊎ (seat_of t.process d ≡ Some (at 0 t.process.ranks d))
+        → Reigns s v d (at 0 t.process.ranks d) ⊎ (seat_of t.process d ≡ Some (at 0 t.process.ranks d))
     ranks_by d below (inl same) = inl (subst (λ (r : ℕ). Reigns s v d r) (sym same) (members.ranks p d pin lives below))
     ranks_by d below (inr seat) = inr seat
 
     may_in : (y : ProcessId) → IsProcess s y → y ≢ p → (y ≡ x) ⊎ (y ≢ x) → Each (MayStand s v y p) (w.link y p)
-    may_in y yin other (inr yother) = subst (Each (MayStand s v y p)) (sym (link_else v u w x p (tells.Notice dead) t xin pin apart pops acts y p yin pin other (inl yother))) (members.may y p yin pin other lives)
+    may_in y yin other (inr yother) =
+        subst (Each (MayStand s v y p)) (sym (link_else v u w x p (tells.Notice dead) t xin pin apart pops acts y p yin pin other (inl yother))) (members.may y p yin pin other lives)
     may_in y yin other (inl same) = subst (λ (z : ProcessId). Each (MayStand s v z p) (w.link z p)) (sym same) (subst (Each (MayStand s v x p)) (sym (link_here v u w x p (tells.Notice dead) t xin pin apart pops acts ∙ facts.3)) tt)
 
-  receives : (v u w : State) (x p : ProcessId) (m : Message) → IsProcess s x → IsProcess s p → x ≢ p → IsUp s v → v.dead p ≡ false → Members s v → Popped s v u x p m → Acted s u w p (receive s x m (v.process p)) → Members s w
+  receives : (v u w : State) (x p : ProcessId) (m : Message) → IsProcess s x → IsProcess s p → x ≢ p → IsUp s v → v.dead p ≡ false → Members s v
+      → Popped s v u x p m → Acted s u w p (receive s x m (v.process p)) → Members s w
   receives v u w x p (tells.Notice dead) xin pin apart up lives members pops acts = receives_notice v u w x p dead xin pin apart lives members pops acts
   receives v u w x p (tells.Update r d un stable) xin pin apart up lives members pops acts = receives_plain v u w x p (tells.Update r d un stable) xin pin apart lives members pops acts refl
   receives v u w x p (tells.Ack r d n) xin pin apart up lives members pops acts = receives_plain v u w x p (tells.Ack r d n) xin pin apart lives members pops acts refl
   receives v u w x p (tells.Stable r d n) xin pin apart up lives members pops acts = receives_plain v u w x p (tells.Stable r d n) xin pin apart lives members pops acts refl
   receives v u w x p (tells.Adopt r d base list) xin pin apart up lives members pops acts = receives_plain v u w x p (tells.Adopt r d base list) xin pin apart lives members pops acts refl
-  receives v u w x p (tells.ReadBlock session block rows) xin pin apart up lives members pops acts = receives_plain v u w x p (tells.ReadBlock session block rows) xin pin apart lives members pops acts refl
+  receives v u w x p (tells.ReadBlock session block rows) xin pin apart up lives members pops acts =
+      receives_plain v u w x p (tells.ReadBlock session block rows) xin pin apart lives members pops acts refl
   receives v u w x p (tells.Block session bytes n) xin pin apart up lives members pops acts = receives_plain v u w x p (tells.Block session bytes n) xin pin apart lives members pops acts refl
   receives v u w x p (tells.Mark session r block d n) xin pin apart up lives members pops acts = receives_plain v u w x p (tells.Mark session r block d n) xin pin apart lives members pops acts refl
   receives v u w x p (tells.Row session bytes stamp) xin pin apart up lives members pops acts = receives_plain v u w x p (tells.Row session bytes stamp) xin pin apart lives members pops acts refl

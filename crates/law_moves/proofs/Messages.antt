@@ -97,7 +97,8 @@ module _ (s : Dimensions) (x : ProcessId) where
         inr (same, now, omega (arith, now, before, risen))
 
   -- a leader asks for a block, and gets it and the marks
-  read : (m : Message) (p : Process) (y : ProcessId) (session : Session) (block : ℕ) (rows : List ℕ) → p.name ≡ y → IsProcess s y → Seated s p y → IsParity session.leader → Received s.k x m p (read_comes s session block rows p y)
+  read : (m : Message) (p : Process) (y : ProcessId) (session : Session) (block : ℕ) (rows : List ℕ) → p.name ≡ y → IsProcess s y → Seated s p y
+      → IsParity session.leader → Received s.k x m p (read_comes s session block rows p y)
   read m p (ParityNode i) session block rows name inside seated leader = still m p p (core-refl p)
   read m p (DataNode d) session block rows name inside seated leader = by-step m p (read_comes s session block rows p (DataNode d)) (record {
     same = core-refl p;

@@ -153,7 +153,8 @@ module _ (s : Dimensions) (i : ℕ) where
       (by (is_some (seat_of p d)) (knows_lower p.known d i) refl refl)
     where
       by : (had lower : Bool) → is_some (seat_of p d) ≡ had → knows_lower p.known d i ≡ lower → TakesOver s i p (when (not had && lower) p (taken_over s d p)) d
-      by true lower ishad islower = quiet-takes p d (subst (λ (b : Bool). AfterTake b (knows_lower p.known d i) i (seat_of p d) (at 0 p.ranks d) (seat_of p d) (at 0 p.ranks d)) (sym ishad) (refl, refl))
+      by true lower ishad islower =
+          quiet-takes p d (subst (λ (b : Bool). AfterTake b (knows_lower p.known d i) i (seat_of p d) (at 0 p.ranks d) (seat_of p d) (at 0 p.ranks d)) (sym ishad) (refl, refl))
       by false false ishad islower = quiet-takes p d
           (subst (λ (b : Bool). AfterTake b (knows_lower p.known d i) i (seat_of p d) (at 0 p.ranks d) (seat_of p d) (at 0 p.ranks d)) (sym ishad)
           (subst (λ (b : Bool). AfterTake false b i (seat_of p d) (at 0 p.ranks d) (seat_of p d) (at 0 p.ranks d)) (sym islower) (refl, refl)))

@@ -65,7 +65,8 @@ pub link-cut : (s : Dimensions) (x : ProcessId) (keep : ℕ) (links : List (List
 link-cut s x keep links q qin = at-indices s [] (λ y. take keep (at [] links y) ++ tells.Notice x ∷ []) q qin
 
 -- the link to a process, after the one to another was emptied
-pub link-others : (s : Dimensions) (dead : ProcessId) (links : List (List Message)) (q : ProcessId) → IsProcess s q → q ≢ dead → at [] (links_without s dead links) (index_of s q) ≡ at [] links (index_of s q)
+pub link-others : (s : Dimensions) (dead : ProcessId) (links : List (List Message)) (q : ProcessId) → IsProcess s q → q ≢ dead
+    → at [] (links_without s dead links) (index_of s q) ≡ at [] links (index_of s q)
 link-others s dead links q qin other =
     at-indices s [] (λ x. if same_process (process_at s x) dead then [] else at [] links x) q qin
     ∙ ap (λ (x : ProcessId). if same_process x dead then [] else at [] links (index_of s q)) (process_at-index s q qin)

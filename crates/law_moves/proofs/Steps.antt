@@ -119,11 +119,15 @@ module _ (s : Dimensions) (nodes : List Node) (size : length nodes ≡ s.k + s.m
 
     same_process : (q : ProcessId) → IsProcess s q → (q ≡ x) ⊎ (q ≢ x) → (node_in s (with_node s x sender nodes) q).process ≡ (node_in s nodes q).process
     same_process q qin (inr other) = ap (λ (n : Node). n.process) (there q qin other)
-    same_process q qin (inl same) = ap (λ (z : ProcessId). (node_in s (with_node s x sender nodes) z).process) same ∙ ap (λ (n : Node). n.process) here ∙ ap (λ (z : ProcessId). (node_in s nodes z).process) (sym same)
+    same_process q qin (inl same) =
+        ap (λ (z : ProcessId). (node_in s (with_node s x sender nodes) z).process) same ∙ ap (λ (n : Node). n.process) here
+        ∙ ap (λ (z : ProcessId). (node_in s nodes z).process) (sym same)
 
     same_dead : (q : ProcessId) → IsProcess s q → (q ≡ x) ⊎ (q ≢ x) → (node_in s (with_node s x sender nodes) q).dead ≡ (node_in s nodes q).dead
     same_dead q qin (inr other) = ap (λ (n : Node). n.dead) (there q qin other)
-    same_dead q qin (inl same) = ap (λ (z : ProcessId). (node_in s (with_node s x sender nodes) z).dead) same ∙ ap (λ (n : Node). n.dead) here ∙ ap (λ (z : ProcessId). (node_in s nodes z).dead) (sym same)
+    same_dead q qin (inl same) =
+        ap (λ (z : ProcessId). (node_in s (with_node s x sender nodes) z).dead) same ∙ ap (λ (n : Node). n.dead) here
+        ∙ ap (λ (z : ProcessId). (node_in s nodes z).dead) (sym same)
 
   -- a process dies
   pub died : (settled : List (List Update)) (p : ProcessId) (keep : ℕ) → IsProcess s p → (node_in s nodes p).dead ≡ false
@@ -158,4 +162,6 @@ module _ (s : Dimensions) (nodes : List Node) (size : length nodes ≡ s.k + s.m
 
     same_process : (q : ProcessId) → IsProcess s q → (q ≡ p) ⊎ (q ≢ p) → (node_in s (map (with_down down) cut) q).process ≡ (node_in s nodes q).process
     same_process q qin (inr other) = ap (λ (n : Node). n.process) (there q qin other)
-    same_process q qin (inl same) = ap (λ (z : ProcessId). (node_in s (map (with_down down) cut) z).process) same ∙ ap (λ (n : Node). n.process) here ∙ ap (λ (z : ProcessId). (node_in s nodes z).process) (sym same)
+    same_process q qin (inl same) =
+        ap (λ (z : ProcessId). (node_in s (map (with_down down) cut) z).process) same ∙ ap (λ (n : Node). n.process) here
+        ∙ ap (λ (z : ProcessId). (node_in s nodes z).process) (sym same)

@@ -70,7 +70,8 @@ module _ (i upto : ℕ) (p : Process) where
     same : (c : Copy) → is_copy l n c ≡ true → not (c.leader == i && nat_le c.number upto) ≡ not (l == i && nat_le n upto)
     same c is = let parts = copy-parts l n c is in ap₂ (λ (a b : ℕ). not (a == i && nat_le b upto)) parts.0 parts.1
 
-    by : ((l ≡ i) × (n ≤ upto)) ⊎ (not (l == i && nat_le n upto) ≡ true × (l ≡ i → upto < n)) → ((l ≡ i) × (n ≤ upto) × (marks_in without l n ≡ None)) ⊎ ((marks_in without l n ≡ marks_in p l n) × (l ≡ i → upto < n))
+    by : ((l ≡ i) × (n ≤ upto)) ⊎ (not (l == i && nat_le n upto) ≡ true × (l ≡ i → upto < n))
+        → ((l ≡ i) × (n ≤ upto) × (marks_in without l n ≡ None)) ⊎ ((marks_in without l n ≡ marks_in p l n) × (l ≡ i → upto < n))
     by (inr both) = inr (ap (option_map (λ c. c.marks)) (found-filter (is_copy l n) (λ c. not (c.leader == i && nat_le c.number upto)) true p.as_row.copies (λ c is. same c is ∙ both.0)), both.1)
     by (inl both) =
         let low : nat_le n upto ≡ true = le-test n upto both.1 in
@@ -108,7 +109,10 @@ module _ (s : Dimensions) (i : ℕ) (p : Process) (upto : ℕ) where
   came = tells.Cease upto ∷ []
 
   heard-it : (l n : ℕ) → l ≡ i → Has (IsCease n) came → n ≤ at 0 (copies_ceased i upto p).as_row.ceased l
-  heard-it l n same (inl low) = let own = ceased-own i upto p in let here : at 0 (copies_ceased i upto p).as_row.ceased l ≡ at 0 (copies_ceased i upto p).as_row.ceased i = ap (at 0 (copies_ceased i upto p).as_row.ceased) same in omega (arith, own, low, here)
+  heard-it l n same (inl low) =
+      let own = ceased-own i upto p in
+      let here : at 0 (copies_ceased i upto p).as_row.ceased l ≡ at 0 (copies_ceased i upto p).as_row.ceased i = ap (at 0 (copies_ceased i upto p).as_row.ceased) same in
+      omega (arith, own, low, here)
   heard-it l n same (inr none) = absurd none
 
   -- a close notice comes to a row
@@ -126,6 +130,7 @@ module _ (s : Dimensions) (i : ℕ) (p : Process) (upto : ℕ) where
     leader = same-leader s (ParityNode i) came p (quiet (copies_ceased i upto p)) refl refl refl (λ l n r name from has. nothing has) (λ l n d name from has. nothing has);
     sent = calm-sent s (ParityNode i) came p (quiet (copies_ceased i upto p)) (λ l n r e name has. nothing has) (λ l n e name has. nothing has) tt;
   } where
-    by : (l n r e : ℕ) → Marked e (marks_in (copies_ceased i upto p) l n) ⊎ (n ≤ at 0 (copies_ceased i upto p).as_row.ceased l) → After s (ParityNode i) (tells.Cease upto ∷ []) p (quiet (copies_ceased i upto p)) l n r e
+    by : (l n r e : ℕ) → Marked e (marks_in (copies_ceased i upto p) l n) ⊎ (n ≤ at 0 (copies_ceased i upto p).as_row.ceased l)
+        → After s (ParityNode i) (tells.Cease upto ∷ []) p (quiet (copies_ceased i upto p)) l n r e
     by l n r e (inl stays) = sides.Stays stays
     by l n r e (inr low) = sides.Ceased low

@@ -24,7 +24,8 @@ use Rattle.law_moves.proofs.Reading.{node-here, node-other, size-with_node}
 
 module _ (s : Dimensions) where
   -- one node changes, and is as dead as before
-  one-dead : (nodes : List Node) (p q : ProcessId) (node : Node) → length nodes ≡ s.k + s.m → IsProcess s p → IsProcess s q → node.dead ≡ (node_in s nodes p).dead → (node_in s (with_node s p node nodes) q).dead ≡ (node_in s nodes q).dead
+  one-dead : (nodes : List Node) (p q : ProcessId) (node : Node) → length nodes ≡ s.k + s.m → IsProcess s p → IsProcess s q
+      → node.dead ≡ (node_in s nodes p).dead → (node_in s (with_node s p node nodes) q).dead ≡ (node_in s nodes q).dead
   one-dead nodes p q node many pin qin same = by (same-cases q p) where
     by : (q ≡ p) ⊎ (q ≢ p) → (node_in s (with_node s p node nodes) q).dead ≡ (node_in s nodes q).dead
     by (inl is) = subst (λ (y : ProcessId). (node_in s (with_node s p node nodes) y).dead ≡ (node_in s nodes y).dead) (sym is) (ap (λ (n : Node). n.dead) (node-here s nodes p node) ∙ same)

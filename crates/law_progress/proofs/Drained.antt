@@ -119,7 +119,8 @@ deliveries_are_left s es run up = drained-or-delivers (after s es) (words_always
 -- as many are dead after a delivery as before it
 module _ (s : Dimensions) (nodes : List Node) (size : length nodes ≡ s.k + s.m) where
   put-dead : (p : ProcessId) (node : Node) → IsProcess s p → node.dead ≡ (node_in s nodes p).dead → dead_nodes (with_node s p node nodes) ≡ dead_nodes nodes
-  put-dead p node pin same = ap count_dead (map-put (λ (n : Node). n.dead) (opening_node s p) (opening_node s p) nodes (index_of s p) node (let low = index-below s p pin in omega (arith, low, size)) same)
+  put-dead p node pin same =
+      ap count_dead (map-put (λ (n : Node). n.dead) (opening_node s p) (opening_node s p) nodes (index_of s p) node (let low = index-below s p pin in omega (arith, low, size)) same)
 
 two-dead : (s : Dimensions) (nodes : List Node) → length nodes ≡ s.k + s.m → (x p : ProcessId) → IsProcess s x → IsProcess s p → x ≢ p → (b : DeliveryStep)
     → (b.sender.dead ≡ (node_in s nodes x).dead) × (b.receiver.node.dead ≡ (node_in s nodes p).dead) → dead_nodes (with_node s p b.receiver.node (with_node s x b.sender nodes)) ≡ dead_nodes nodes

@@ -46,9 +46,11 @@ module _ (s : Dimensions) (v w : State) (p : ProcessId) (keep : ℕ) (pin : IsPr
         cut (inr (inr none)) = absurd none
 
   died-rows : (l n r d : ℕ) → l < s.m → r < s.m → d < s.k → w.dead (ParityNode l) ≡ false → w.dead (ParityNode r) ≡ false → WantsRow r (opened (w.process (ParityNode l)) n)
-      → (knows_dead (w.process (ParityNode l)).known (DataNode d) ≡ true) ⊎ (w.dead (DataNode d) ≡ false) → (knows_dead (v.process (ParityNode l)).known (DataNode d) ≡ true → v.dead (DataNode d) ≡ true) → RowComes s w l n r d
+      → (knows_dead (w.process (ParityNode l)).known (DataNode d) ≡ true) ⊎ (w.dead (DataNode d) ≡ false)
+      → (knows_dead (v.process (ParityNode l)).known (DataNode d) ≡ true → v.dead (DataNode d) ≡ true) → RowComes s w l n r d
   died-rows l n r d lin rin low l_lives r_lives wants may known_dead = on (old.waited.rows l n r d lin rin low (lived (ParityNode l) lin l_lives) (lived (ParityNode r) rin r_lives) (subst (λ (y : Process). WantsRow r (opened y n)) (process-is (ParityNode l) lin) wants) (may_v may)) where
-    may_v : (knows_dead (w.process (ParityNode l)).known (DataNode d) ≡ true) ⊎ (w.dead (DataNode d) ≡ false) → (knows_dead (v.process (ParityNode l)).known (DataNode d) ≡ true) ⊎ (v.dead (DataNode d) ≡ false)
+    may_v : (knows_dead (w.process (ParityNode l)).known (DataNode d) ≡ true) ⊎ (w.dead (DataNode d) ≡ false)
+        → (knows_dead (v.process (ParityNode l)).known (DataNode d) ≡ true) ⊎ (v.dead (DataNode d) ≡ false)
     may_v (inl known) = inl (ap (λ (y : Process). knows_dead y.known (DataNode d)) (sym (process-is (ParityNode l) lin)) ∙ known)
     may_v (inr living) = inr (lived (DataNode d) low living)
 
@@ -99,7 +101,8 @@ module _ (s : Dimensions) (v w : State) (p : ProcessId) (keep : ℕ) (pin : IsPr
     blocks l n d lin low l_lives d_lives (inl has) = inl (subst (Has (IsRead l n)) (sym (link-is (ParityNode l) (DataNode d) lin low (not-p (ParityNode l) l_lives))) has)
     blocks l n d lin low l_lives d_lives (inr has) = inr (subst (Has (IsBlock l n)) (sym (link-is (DataNode d) (ParityNode l) low lin (not-p (DataNode d) d_lives))) has)
 
-    on : (l n r : ℕ) → l < s.m → r < s.m → w.dead (ParityNode l) ≡ false → WantsRow r (opened (v.process (ParityNode l)) n) ⊎ Ended v l n r → WantsRow r (opened (w.process (ParityNode l)) n) ⊎ Ended w l n r
+    on : (l n r : ℕ) → l < s.m → r < s.m → w.dead (ParityNode l) ≡ false → WantsRow r (opened (v.process (ParityNode l)) n) ⊎ Ended v l n r
+        → WantsRow r (opened (w.process (ParityNode l)) n) ⊎ Ended w l n r
     on l n r lin rin l_lives (inl wants) = inl (subst (λ (y : Process). WantsRow r (opened y n)) (sym (process-is (ParityNode l) lin)) wants)
     on l n r lin rin l_lives (inr (inl low)) = inr (inl (subst (λ (y : Process). n ≤ at 0 y.as_row.ceased l) (sym (process-is (ParityNode r) rin)) low))
     on l n r lin rin l_lives (inr (inr (apart, has))) = inr (inr (apart, subst (Has (IsCease n)) (sym (link-is (ParityNode l) (ParityNode r) lin rin (not-p (ParityNode l) l_lives))) has))

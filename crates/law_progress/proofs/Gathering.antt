@@ -65,7 +65,8 @@ module _ (s : Dimensions) where
     is n = ap (λ (l : LeaderState). open_session l n) same
 
   -- the session is open
-  some-gathers : (p q : Process) (number : ℕ) (row block : ℕ → Type 0) (g h : Gathering) → opened p number ≡ Some g → Grows g h row block → q.as_leader ≡ gathered s h p.as_leader → q.as_leader.last_session ≡ p.as_leader.last_session → Gathers p q number row block
+  some-gathers : (p q : Process) (number : ℕ) (row block : ℕ → Type 0) (g h : Gathering) → opened p number ≡ Some g → Grows g h row block
+      → q.as_leader ≡ gathered s h p.as_leader → q.as_leader.last_session ≡ p.as_leader.last_session → Gathers p q number row block
   some-gathers p q number row block g h opens grows leader last = record {
     rows = λ n r wants. rows n r wants (cases_eq n number);
     blocks = λ n d wants. blocks n d wants (cases_eq n number);
@@ -102,7 +103,9 @@ module _ (s : Dimensions) where
     left n r wants (inl same) = by (subst (WantsRow r) (ap (opened p) same ∙ opens) wants) where
       kept : (b : Bool) → is_complete s h ≡ b → Has (λ i. i ≡ r) h.rows → at None h.rows_in r ≡ None → WantsRow r (if b then None else Some h)
       kept false is among none = (among, none)
-      kept true is among none = let some = one-of-all (λ i. is_some (at None h.rows_in i)) h.rows r (and-split _ (list_all (λ i. is_some (at None h.rows_in i)) h.rows) is).1 among in cc (sym some ∙ ap is_some none)
+      kept true is among none =
+          let some = one-of-all (λ i. is_some (at None h.rows_in i)) h.rows r (and-split _ (list_all (λ i. is_some (at None h.rows_in i)) h.rows) is).1 among in
+          cc (sym some ∙ ap is_some none)
 
       by : Has (λ i. i ≡ r) g.rows × (at None g.rows_in r ≡ None) → WantsRow r (opened q n) ⊎ ((n ≡ number) × row r)
       by before = turn (grows.rows_after r before.1) where

@@ -49,7 +49,8 @@ pub record Move (s : Dimensions) (v u w : State) (x p : ProcessId) (came : List 
   pub first : v.link x p ≡ came ++ u.link x p
   pub acts : Acted s u w p t
   pub fair : Fair s x came (v.process p) t
-  pub accepted : (l n d r : ℕ) → p ≡ ParityNode r → l < s.m → v.dead (ParityNode l) ≡ false → v.dead x ≡ false → at 0 (v.process p).as_row.ceased l < n → Has (IsMark l n d) came → Each (Accepts (v.process p)) came
+  pub accepted : (l n d r : ℕ) → p ≡ ParityNode r → l < s.m → v.dead (ParityNode l) ≡ false → v.dead x ≡ false → at 0 (v.process p).as_row.ceased l < n
+      → Has (IsMark l n d) came → Each (Accepts (v.process p)) came
   pub within : (l n d : ℕ) → Has (IsMark l n d) came → d < s.k
   pub reader : (l n r : ℕ) → Has (IsAsk l n r) came → (x ≡ ParityNode l) × ((e : ℕ) × (p ≡ DataNode e))
   pub spent : (k : Token) → k.partition < s.k → Has (λ m. is_token k x p m ≡ true) came → tokens s u k ≤ 0

@@ -71,7 +71,8 @@ module _ (s : Dimensions) (v : State) (carried : Carried s v) where
 
 -- a process treats something
 module _ (s : Dimensions) (shaped : IsShape s) (v w : State) (p : ProcessId) (t : ProcessStep) (pin : IsProcess s p) (lives : v.dead p ≡ false) (held : Held s v) (after : Members s w) (treats : Treats s (v.process p) t) (acts : Acted s v w p t) where
-  treated-free : (l : ℕ) → p ≡ ParityNode l → (at 0 (v.process p).as_row.ceased l < suc (v.process p).as_leader.last_session) × (marks_in (v.process p) l (suc (v.process p).as_leader.last_session) ≡ None)
+  treated-free : (l : ℕ) → p ≡ ParityNode l
+      → (at 0 (v.process p).as_row.ceased l < suc (v.process p).as_leader.last_session) × (marks_in (v.process p) l (suc (v.process p).as_leader.last_session) ≡ None)
   treated-free l is = subst (λ (y : ProcessId). (at 0 (v.process y).as_row.ceased l < suc (v.process y).as_leader.last_session) × (marks_in (v.process y) l (suc (v.process y).as_leader.last_session) ≡ None)) (sym is)
       ((held.ending.ceased l l (suc (v.process (ParityNode l)).as_leader.last_session) lin lin l_lives l_lives (inr (omega arith))).0, by (marks_in (v.process (ParityNode l)) l (suc (v.process (ParityNode l)).as_leader.last_session)) refl)
     where
@@ -81,7 +82,8 @@ module _ (s : Dimensions) (shaped : IsShape s) (v w : State) (p : ProcessId) (t 
       l_lives : v.dead (ParityNode l) ≡ false
       l_lives = ap v.dead (sym is) ∙ lives
 
-      by : (o : Option (List (Option ℕ))) → marks_in (v.process (ParityNode l)) l (suc (v.process (ParityNode l)).as_leader.last_session) ≡ o → marks_in (v.process (ParityNode l)) l (suc (v.process (ParityNode l)).as_leader.last_session) ≡ None
+      by : (o : Option (List (Option ℕ))) → marks_in (v.process (ParityNode l)) l (suc (v.process (ParityNode l)).as_leader.last_session) ≡ o
+          → marks_in (v.process (ParityNode l)) l (suc (v.process (ParityNode l)).as_leader.last_session) ≡ None
       by None there = there
       by (Some marks) there =
           let mark = (held.ending.rows (ParityNode l) lin l_lives l (suc (v.process (ParityNode l)).as_leader.last_session) marks there).some in
@@ -142,7 +144,9 @@ module _ (s : Dimensions) (v u w : State) (x p : ProcessId) (m : Message) (xin :
     by (inr other) = living-unknown (ParityNode l) (v.dead (ParityNode l)) (knows_dead (v.process p).known (ParityNode l)) (v.link (ParityNode l) p) (held.members.stands (ParityNode l) p lin pin other lives) l_lives
 
   -- a mark of a living process has the rank that the row stands under
-  rank-is : (session : Session) (r block d n i : ℕ) → p ≡ ParityNode i → v.link x p ≡ tells.Mark session (record { 0 = r }) block (record { 0 = d }) n ∷ u.link x p → v.dead x ≡ false → IsFrom s v x d r → r ≡ at 0 (v.process p).ranks d
+  rank-is : (session : Session) (r block d n i : ℕ) → p ≡ ParityNode i
+      → v.link x p ≡ tells.Mark session (record { 0 = r }) block (record { 0 = d }) n ∷ u.link x p → v.dead x ≡ false → IsFrom s v x d r
+      → r ≡ at 0 (v.process p).ranks d
   rank-is session r block d n i is first x_lives from = subst (λ (y : ProcessId). r ≡ at 0 (v.process y).ranks d) (sym is) ((goes_along.0 live).rank) where
     low : d < s.k
     low = from.1.partition
@@ -167,7 +171,8 @@ module _ (s : Dimensions) (v u w : State) (x p : ProcessId) (m : Message) (xin :
       reaches : (a : ℕ) → a ≤ r → nat_le a r ≡ true
       reaches a less = grind (arith, common_steps)
 
-  accepted-it : (k : Message) → v.link x p ≡ k ∷ u.link x p → MayStand s v x p k → (l n d r : ℕ) → p ≡ ParityNode r → l < s.m → v.dead (ParityNode l) ≡ false → v.dead x ≡ false → at 0 (v.process p).as_row.ceased l < n → IsMark l n d k → Accepts (v.process p) k
+  accepted-it : (k : Message) → v.link x p ≡ k ∷ u.link x p → MayStand s v x p k → (l n d r : ℕ) → p ≡ ParityNode r → l < s.m → v.dead (ParityNode l) ≡ false
+      → v.dead x ≡ false → at 0 (v.process p).as_row.ceased l < n → IsMark l n d k → Accepts (v.process p) k
   accepted-it (tells.Mark session r block d number) first stands l n e i is lin l_lives x_lives above mark =
       subst (λ (y : ProcessId). accepts_mark (v.process p) (parity_number y) session.number r.0 d.0 ≡ true) (sym mark.0.0)
       (subst (λ (j : ℕ). accepts_mark (v.process p) l j r.0 d.0 ≡ true) (sym mark.0.1)
@@ -242,7 +247,8 @@ module _ (s : Dimensions) (v u w : State) (x p : ProcessId) (m : Message) (xin :
   }) held.ending
 
 -- who is known dead is
-known-dead : (s : Dimensions) (v : State) → Members s v → (l d : ℕ) → l < s.m → d < s.k → v.dead (ParityNode l) ≡ false → knows_dead (v.process (ParityNode l)).known (DataNode d) ≡ true → v.dead (DataNode d) ≡ true
+known-dead : (s : Dimensions) (v : State) → Members s v → (l d : ℕ) → l < s.m → d < s.k → v.dead (ParityNode l) ≡ false
+    → knows_dead (v.process (ParityNode l)).known (DataNode d) ≡ true → v.dead (DataNode d) ≡ true
 known-dead s v members l d lin low lives known = known-is-dead (DataNode d) (v.dead (DataNode d)) (knows_dead (v.process (ParityNode l)).known (DataNode d)) (v.link (DataNode d) (ParityNode l)) (members.stands (DataNode d) (ParityNode l) low lin (λ same. cc same) lives) known
 
 pub keeps-held : (s : Dimensions) → IsShape s → Keeps s (Held s)

@@ -118,7 +118,8 @@ module _ (s : Dimensions) where
     same = copy-mark s q.name d us begun.copy (λ (marks : List (Option ℕ)). marks ≡ begun.copy.marks) refl
 
   -- sessions that were the same before
-  gathers-from : (p q r : Process) (number : ℕ) (row block : ℕ → Type 0) → q.as_leader.sessions ≡ p.as_leader.sessions → q.as_leader.last_session ≡ p.as_leader.last_session → Gathers s q r number row block → Gathers s p r number row block
+  gathers-from : (p q r : Process) (number : ℕ) (row block : ℕ → Type 0) → q.as_leader.sessions ≡ p.as_leader.sessions
+      → q.as_leader.last_session ≡ p.as_leader.last_session → Gathers s q r number row block → Gathers s p r number row block
   gathers-from p q r number row block sessions last onward = record {
     rows = λ n i wants. let old = onward.rows n i wants in (subst (WantsRow i) (same n) old.0, old.1);
     blocks = λ n i wants. let old = onward.blocks n i wants in (subst (WantsBlock i) (same n) old.0, old.1);

@@ -79,7 +79,8 @@ pub mild-self : (p : Process) → Mild p (quiet p)
 mild-self p = record { alike = alike-self p; calm = tt }
 
 pub mild-then : (p : Process) (a : ProcessStep) (f : Process → ProcessStep) → Mild p a → Mild a.process (f a.process) → Mild p (and_then a f)
-mild-then p a f first next = record { alike = alike-then p a.process (f a.process).process first.alike next.alike; calm = each-append (λ z. Calm z.message) a.sent (f a.process).sent first.calm next.calm }
+mild-then p a f first next =
+    record { alike = alike-then p a.process (f a.process).process first.alike next.alike; calm = each-append (λ z. Calm z.message) a.sent (f a.process).sent first.calm next.calm }
 
 pub mild-each : (xs : List ℕ) (f : ℕ → Process → ProcessStep) (p : Process) → ((x : ℕ) (q : Process) → Mild q (f x q)) → Mild p (for_each xs f p)
 mild-each [] f p all = mild-self p
@@ -91,7 +92,8 @@ mild-when false p t mild = mild-self p
 
 -- a message to all others
 pub calm-others : (s : Dimensions) (p : Process) (m : Message) → Calm m → CalmSent (to_others s p m)
-calm-others s p m calm = each-map (λ z. Calm z.message) (λ i. record { to = ParityNode i; message = m }) (other_parities s.m p.name p.known) (each-all (λ i. Calm m) (λ i. calm) (other_parities s.m p.name p.known))
+calm-others s p m calm =
+    each-map (λ z. Calm z.message) (λ i. record { to = ParityNode i; message = m }) (other_parities s.m p.name p.known) (each-all (λ i. Calm m) (λ i. calm) (other_parities s.m p.name p.known))
 
 mod-below : (n k : ℕ) → 0 < k → n % k < k
 mod-below n k some = omega (arith, some)
@@ -124,16 +126,19 @@ module _ (s : Dimensions) where
   Treated p t = Mild p t ⊎ ((block l : ℕ) × (p.name ≡ ParityNode l) × HeadsOne p × (t ≡ start_session s block p))
 
   module _ (p : Process) (x : ProcessId) (name : p.name ≡ x) (inside : IsProcess s x) (living : knows_dead p.known x ≡ false) where
-    opens : (block : ℕ) → HeadsOne p → SentWell Owes s.k (start_session s block p).process (start_session s block p).sent → (start_session s block p).process.name ≡ p.name → Treated p (start_session s block p)
+    opens : (block : ℕ) → HeadsOne p → SentWell Owes s.k (start_session s block p).process (start_session s block p).sent
+        → (start_session s block p).process.name ≡ p.name → Treated p (start_session s block p)
     opens block heads well same = by x name inside living where
       by : (y : ProcessId) → p.name ≡ y → IsProcess s y → knows_dead p.known y ≡ false → Treated p (start_session s block p)
       by (ParityNode l) is within lives = inr (block, l, is, heads, refl)
       by (DataNode e) is within lives = absurd (never-asks s e block p is within lives well same)
 
-    retries : (block : ℕ) (o : Option Oldest) → HeadsOne p → SentWell Owes s.k (retry_block s block o p).step.process (retry_block s block o p).step.sent → (retry_block s block o p).step.process.name ≡ p.name → Treated p (retry_block s block o p).step
+    retries : (block : ℕ) (o : Option Oldest) → HeadsOne p → SentWell Owes s.k (retry_block s block o p).step.process (retry_block s block o p).step.sent
+        → (retry_block s block o p).step.process.name ≡ p.name → Treated p (retry_block s block o p).step
     retries block (Some o) heads well same = inl (mild-self p)
     retries block None heads well same = by (not (list_any (λ g. g.block == block) p.as_leader.sessions)) well same where
-      by : (b : Bool) → SentWell Owes s.k (when b p (start_session s block p)).process (when b p (start_session s block p)).sent → (when b p (start_session s block p)).process.name ≡ p.name → Treated p (when b p (start_session s block p))
+      by : (b : Bool) → SentWell Owes s.k (when b p (start_session s block p)).process (when b p (start_session s block p)).sent
+          → (when b p (start_session s block p)).process.name ≡ p.name → Treated p (when b p (start_session s block p))
       by true sent is = opens block heads sent is
       by false sent is = inl (mild-self p)
 
@@ -146,7 +151,8 @@ module _ (s : Dimensions) where
     mild-ticketed true d u t mild = mild
     mild-ticketed false d u t mild = record { alike = alike-then p t.process (holding d u t.process) mild.alike (alike-same t.process (holding d u t.process) refl refl refl); calm = mild.calm }
 
-    acts : (call : CallName) (op : Asked) (d : ℕ) (h : Head) (decision : Decision) → HeadsOne p → SentWell Owes s.k (act_on s call op d h p decision).step.process (act_on s call op d h p decision).step.sent
+    acts : (call : CallName) (op : Asked) (d : ℕ) (h : Head) (decision : Decision) → HeadsOne p
+        → SentWell Owes s.k (act_on s call op d h p decision).step.process (act_on s call op d h p decision).step.sent
         → (act_on s call op d h p decision).step.process.name ≡ p.name → Treated p (act_on s call op d h p decision).step
     acts call op d h (decides.Answer r) heads well same = inl (mild-self p)
     acts call op d h (decides.Retry n) heads well same = inl (mild-self p)
@@ -198,4 +204,5 @@ module _ (s : Dimensions) where
     }
 
   pub fair-treated : (x : ProcessId) (p : Process) (t : ProcessStep) → Mild p t → Fair s x [] p t
-  fair-treated x p t mild = fair-mild x [] p t mild (λ l n r d name has accepted. has) (λ l n from has. has) (λ l n r name from has. has) (λ l n d name from has. has) (λ l n r e name has. has) (λ l n e name has. has)
+  fair-treated x p t mild =
+      fair-mild x [] p t mild (λ l n r d name has accepted. has) (λ l n from has. has) (λ l n r name from has. has) (λ l n d name from has. has) (λ l n r e name has. has) (λ l n e name has. has)

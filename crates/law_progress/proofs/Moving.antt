@@ -64,17 +64,19 @@ module _ (s : Dimensions) (v u w : State) (x p : ProcessId) (came : List Message
     by : (a ≡ x) ⊎ (a ≢ x) → (b ≡ p) ⊎ (b ≢ p) → ((a ≡ x) × (b ≡ p) × Has P came) ⊎ Has P (u.link a b)
     by (inr other) _ = inr (subst (Has P) (sym (move.links a b ain bin (inl other))) has)
     by (inl is) (inr other) = inr (subst (Has P) (sym (move.links a b ain bin (inr other))) has)
-    by (inl is) (inl here) = split (has-either P came (u.link x p) (subst (Has P) move.first (subst (λ (y : ProcessId). Has P (v.link x y)) here (subst (λ (y : ProcessId). Has P (v.link y b)) is has)))) where
-      split : Has P came ⊎ Has P (u.link x p) → ((a ≡ x) × (b ≡ p) × Has P came) ⊎ Has P (u.link a b)
-      split (inl taken) = inl (is, here, taken)
-      split (inr left) = inr (subst (λ (y : ProcessId). Has P (u.link y b)) (sym is) (subst (λ (y : ProcessId). Has P (u.link x y)) (sym here) left))
+    by (inl is) (inl here) =
+        split (has-either P came (u.link x p) (subst (Has P) move.first (subst (λ (y : ProcessId). Has P (v.link x y)) here (subst (λ (y : ProcessId). Has P (v.link y b)) is has)))) where
+          split : Has P came ⊎ Has P (u.link x p) → ((a ≡ x) × (b ≡ p) × Has P came) ⊎ Has P (u.link a b)
+          split (inl taken) = inl (is, here, taken)
+          split (inr left) = inr (subst (λ (y : ProcessId). Has P (u.link y b)) (sym is) (subst (λ (y : ProcessId). Has P (u.link x y)) (sym here) left))
 
   was-v : (P : Message → Type 0) (a b : ProcessId) → IsProcess s a → IsProcess s b → Has P (u.link a b) → Has P (v.link a b)
   was-v P a b ain bin has = by (same-cases a x) (same-cases b p) where
     by : (a ≡ x) ⊎ (a ≢ x) → (b ≡ p) ⊎ (b ≢ p) → Has P (v.link a b)
     by (inr other) _ = subst (Has P) (move.links a b ain bin (inl other)) has
     by (inl is) (inr other) = subst (Has P) (move.links a b ain bin (inr other)) has
-    by (inl is) (inl here) = subst (λ (y : ProcessId). Has P (v.link y b)) (sym is) (subst (λ (y : ProcessId). Has P (v.link x y)) (sym here) (subst (Has P) (sym move.first) (has-right P came (u.link x p)
+    by (inl is) (inl here) =
+        subst (λ (y : ProcessId). Has P (v.link y b)) (sym is) (subst (λ (y : ProcessId). Has P (v.link x y)) (sym here) (subst (Has P) (sym move.first) (has-right P came (u.link x p)
         (subst (λ (y : ProcessId). Has P (u.link x y)) here (subst (λ (y : ProcessId). Has P (u.link y b)) is has)))))
 
   grown : (b : ProcessId) → IsProcess s b → v.dead b ≡ false → w.link p b ≡ u.link p b ++ sent_to b t.sent
@@ -182,7 +184,8 @@ module _ (s : Dimensions) (v u w : State) (x p : ProcessId) (came : List Message
 
     finish : ParityNode r ≡ p → After s x came (v.process p) t l n r d → RowComes s w l n r d
     finish is (sides.Stays held) = Copied (subst (λ (y : Process). Marked d (marks_in y l n)) (sym (now-p (ParityNode r) is)) held)
-    finish is (sides.Goes apart sends) = Given (λ same. apart (sym same)) (subst (λ (y : ProcessId). Has (IsRow l n) (w.link y (ParityNode l))) (sym is) (sent-there (IsRow l n) (ParityNode l) lin l_lived sends))
+    finish is (sides.Goes apart sends) =
+        Given (λ same. apart (sym same)) (subst (λ (y : ProcessId). Has (IsRow l n) (w.link y (ParityNode l))) (sym is) (sent-there (IsRow l n) (ParityNode l) lin l_lived sends))
     finish is (sides.Unwanted same never) = absurd (never (subst (λ (y : Process). WantsRow r (opened y n)) (now-p (ParityNode l) (ap ParityNode same ∙ is)) wants))
     finish is (sides.Unknown known) = absurd (cc (sym known ∙ knows-not (ParityNode l) lin l_lived))
     finish is (sides.Ceased under) = absurd
@@ -216,7 +219,9 @@ module _ (s : Dimensions) (v u w : State) (x p : ProcessId) (came : List Message
       old-rows : WantsRow r (opened (v.process (ParityNode l)) n) → (knows_dead (v.process (ParityNode l)).known (DataNode d) ≡ true) ⊎ (v.dead (DataNode d) ≡ false) → RowComes s v l n r d
       old-rows wanted may_v = old.waited.rows l n r d lin rin low l_lived r_lived wanted may_v
 
-      may-v : (w.process (ParityNode l)).known ≡ (v.process (ParityNode l)).known → (knows_dead (w.process (ParityNode l)).known (DataNode d) ≡ true) ⊎ (w.dead (DataNode d) ≡ false) → (knows_dead (v.process (ParityNode l)).known (DataNode d) ≡ true) ⊎ (v.dead (DataNode d) ≡ false)
+      may-v : (w.process (ParityNode l)).known ≡ (v.process (ParityNode l)).known
+          → (knows_dead (w.process (ParityNode l)).known (DataNode d) ≡ true) ⊎ (w.dead (DataNode d) ≡ false)
+          → (knows_dead (v.process (ParityNode l)).known (DataNode d) ≡ true) ⊎ (v.dead (DataNode d) ≡ false)
       may-v same (inl known) = inl (ap (λ k. knows_dead k (DataNode d)) (sym same) ∙ known)
       may-v same (inr living) = inr (lives-v living)
 
@@ -225,7 +230,8 @@ module _ (s : Dimensions) (v u w : State) (x p : ProcessId) (came : List Message
           (subst (λ (y : ProcessId). Has (IsMark l n d) (w.link y (ParityNode r))) (sym is) (sent-there (IsMark l n d) (ParityNode r) rin r_lived sends))
       new is (sides.Own same held) may_w = Copied (subst (λ (y : Process). Marked d (marks_in y l n)) (sym (now-p (ParityNode r) (ap ParityNode same ∙ is))) held)
       new is (sides.Left unknown_d sends) (inl known) = absurd (cc (sym known ∙ ap (λ (y : Process). knows_dead y.known (DataNode d)) (now-p (ParityNode l) is) ∙ unknown_d))
-      new is (sides.Left unknown_d sends) (inr living) = Asked living (subst (λ (y : ProcessId). Has (IsAsk l n r) (w.link y (DataNode d))) (sym is) (sent-there (IsAsk l n r) (DataNode d) low (lives-v living) sends))
+      new is (sides.Left unknown_d sends) (inr living) =
+          Asked living (subst (λ (y : ProcessId). Has (IsAsk l n r) (w.link y (DataNode d))) (sym is) (sent-there (IsAsk l n r) (DataNode d) low (lives-v living) sends))
 
       by : (ParityNode l ≡ p) ⊎ (ParityNode l ≢ p) → RowComes s w l n r d
       by (inr other) = carry (λ from is has. absurd (other is)) (old-rows (subst (λ (y : Process). WantsRow r (opened y n)) (other-same (ParityNode l) lin other) wants) (may-v (ap (λ (y : Process). y.known) (other-same (ParityNode l) lin other)) may))
@@ -332,13 +338,14 @@ module _ (s : Dimensions) (v u w : State) (x p : ProcessId) (came : List Message
 
     -- where no token of the row is left nothing is, but what the session still waits for
     unless-none : ParityNode l ≡ p → ((d : ℕ) → d < s.k → tokens s u (token l n d (Row r)) ≤ 0) → ParityNode r ≢ p → Pending s w l n r → Goal
-    unless-none is none other (CopyThere some) = absurd (by (marks_in (v.process (ParityNode r)) l n) refl (ap is_some (ap (λ (y : Process). marks_in y l n) (sym (other-same (ParityNode r) rin other))) ∙ some)) where
-      by : (o : Option (List (Option ℕ))) → marks_in (v.process (ParityNode r)) l n ≡ o → is_some o ≡ true → ⊥
-      by None there is_there = cc is_there
-      by (Some marks) there is_there =
-          let mark = (old.rows (ParityNode r) rin r_was l n marks there).some in
-          no-copy s l n r u mark.0 (none mark.0 mark.1) rin (u-lives (ParityNode r) rin r_was) u-name
-          (subst (λ (y : Process). Marked mark.0 (marks_in y l n)) (sym (move.same (ParityNode r) rin)) (subst (Marked mark.0) (sym there) mark.2))
+    unless-none is none other (CopyThere some) =
+        absurd (by (marks_in (v.process (ParityNode r)) l n) refl (ap is_some (ap (λ (y : Process). marks_in y l n) (sym (other-same (ParityNode r) rin other))) ∙ some)) where
+          by : (o : Option (List (Option ℕ))) → marks_in (v.process (ParityNode r)) l n ≡ o → is_some o ≡ true → ⊥
+          by None there is_there = cc is_there
+          by (Some marks) there is_there =
+              let mark = (old.rows (ParityNode r) rin r_was l n marks there).some in
+              no-copy s l n r u mark.0 (none mark.0 mark.1) rin (u-lives (ParityNode r) rin r_was) u-name
+              (subst (λ (y : Process). Marked mark.0 (marks_in y l n)) (sym (move.same (ParityNode r) rin)) (subst (Marked mark.0) (sym there) mark.2))
     unless-none is none other (MarkThere a d ain apart has) = by (was-u (IsMark l n d) a (ParityNode r) ain rin r_was has) where
       by : Has (IsMark l n d) (u.link a (ParityNode r)) ⊎ ((a ≡ p) × Sends (IsMark l n d) (ParityNode r) t.sent) → Goal
       by (inl there) = absurd (no-mark s l n r u d (none d (mark-within a d ain apart there)) a ain rin apart (u-lives (ParityNode r) rin r_was) there)
@@ -352,13 +359,15 @@ module _ (s : Dimensions) (v u w : State) (x p : ProcessId) (came : List Message
       by (inr (from, sends)) = wants-now is (move.fair.sent.asks l n r e low sends).1
 
     -- the leader's own row was finished: nothing is left of it
-    unless-own : ParityNode l ≡ p → r ≡ l → marks_in t.process l n ≡ None → (d : ℕ) → Has (IsMark l n d) came → ((e : ℕ) → e < s.k → e ≢ d → Marked e (marks_in (v.process p) l n)) → Pending s w l n r → Goal
+    unless-own : ParityNode l ≡ p → r ≡ l → marks_in t.process l n ≡ None → (d : ℕ) → Has (IsMark l n d) came
+        → ((e : ℕ) → e < s.k → e ≢ d → Marked e (marks_in (v.process p) l n)) → Pending s w l n r → Goal
     unless-own is own gone d marked others pend = by pend where
       here : ParityNode r ≡ p
       here = ap ParityNode own ∙ is
 
       -- each partition has its mark, or had it
-      none-there : (e : ℕ) → e < s.k → (P : Message → Type 0) (a b : ProcessId) → IsProcess s a → IsProcess s b → a ≢ b → u.dead b ≡ false → ((m : Message) → P m → is_token (token l n e (Row r)) a b m ≡ true) → Has P (u.link a b) → ⊥
+      none-there : (e : ℕ) → e < s.k → (P : Message → Type 0) (a b : ProcessId) → IsProcess s a → IsProcess s b → a ≢ b → u.dead b ≡ false
+          → ((m : Message) → P m → is_token (token l n e (Row r)) a b m ≡ true) → Has P (u.link a b) → ⊥
       none-there e low P a b ain bin apart b_lives turn has = which (cases_eq e d) where
         which : (e ≡ d) ⊎ (e ≢ d) → ⊥
         which (inl same) = each-not P (λ m. is_token (token l n e (Row r)) a b m ≡ true) turn (u.link a b)

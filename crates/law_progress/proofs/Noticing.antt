@@ -125,7 +125,8 @@ module _ (s : Dimensions) (x dead : ProcessId) (p : Process) where
     marks_by l n (inl gone) = inr (gone.2, let own = ceased-own i last ended in let low = gone.1 in let here : at 0 (copies_ceased i last ended).as_row.ceased l ≡ at 0 (copies_ceased i last ended).as_row.ceased i = ap (at 0 (copies_ceased i last ended).as_row.ceased) gone.0 in omega (arith, own, low, here))
 
     above_by : (l n : ℕ) (marks : List (Option ℕ)) → marks_in (copies_ceased i last ended) l n ≡ Some marks → at 0 ended.as_row.ceased l < n
-        → ((l ≡ i) × (n ≤ last) × (marks_in (copies_ceased i last ended) l n ≡ None)) ⊎ ((marks_in (copies_ceased i last ended) l n ≡ marks_in ended l n) × (l ≡ i → last < n)) → at 0 (copies_ceased i last ended).as_row.ceased l < n
+        → ((l ≡ i) × (n ≤ last) × (marks_in (copies_ceased i last ended) l n ≡ None)) ⊎ ((marks_in (copies_ceased i last ended) l n ≡ marks_in ended l n) × (l ≡ i → last < n))
+        → at 0 (copies_ceased i last ended).as_row.ceased l < n
     above_by l n marks found low (inr same) = ceased-below i last ended l n low same.1
     above_by l n marks found low (inl gone) = absurd (cc (sym gone.2 ∙ found))
 
@@ -233,7 +234,8 @@ module _ (s : Dimensions) (x dead : ProcessId) (p : Process) where
       ends = let it = some_low (opened p n) refl wants in closed.ends n it.0 it.1
 
       among : (i : ℕ) → i < s.m → i ≢ l → knows_dead noticed.process.known (ParityNode i) ≡ false → Has (λ j. j ≡ i) (other_parities s.m told.name told.known)
-      among i low other unknown = has-filter (λ j. not (same_process told.name (ParityNode j)) && not (knows_dead told.known (ParityNode j))) i (range_with_len 0 s.m) (has-range i 0 s.m (omega arith) (omega (arith, low)))
+      among i low other unknown =
+          has-filter (λ j. not (same_process told.name (ParityNode j)) && not (knows_dead told.known (ParityNode j))) i (range_with_len 0 s.m) (has-range i 0 s.m (omega arith) (omega (arith, low)))
           (ap₂ (λ (a b : Bool). not a && not b)
           (same-ne told.name (ParityNode i) (λ same. other (parity-one i l (sym same ∙ knows-dead.name ∙ name))))
           (ap (λ known. knows_dead known (ParityNode i)) (sym (rest.known ∙ closed.known)) ∙ unknown))
@@ -275,4 +277,6 @@ module _ (s : Dimensions) (x dead : ProcessId) (p : Process) where
         → (marks_in noticed.process l n ≡ marks_in p l n) ⊎ ((marks_in noticed.process l n ≡ None) × ((knows_dead noticed.process.known (ParityNode l) ≡ true) ⊎ (n ≤ at 0 noticed.process.as_row.ceased l)))
         → CopyFine s noticed.process l n marks
     fine_by fine l n marks is (inr gone) = absurd (cc (sym gone.0 ∙ is))
-    fine_by fine l n marks is (inl same) = let old = fine l n marks (sym same ∙ is) in record { lacks = old.lacks; above = (let under = closed.above l n marks (sym (rest.marks l n) ∙ is) old.above in let c = ceased-now l in omega (arith, c, under)); some = old.some }
+    fine_by fine l n marks is (inl same) =
+        let old = fine l n marks (sym same ∙ is) in
+        record { lacks = old.lacks; above = (let under = closed.above l n marks (sym (rest.marks l n) ∙ is) old.above in let c = ceased-now l in omega (arith, c, under)); some = old.some }

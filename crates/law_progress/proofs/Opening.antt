@@ -132,7 +132,8 @@ module _ (s : Dimensions) (x : ProcessId) (p : Process) (block l : ℕ) (inside 
 
     each_lost : (es : List ℕ) → Has (λ i. i ≡ d) es → Has (λ e. Has (λ z. (z.to ≡ ParityNode r) × IsMark l number d z.message) (leader_marks s l number block p e)) es
     each_lost [] has = absurd has
-    each_lost (e ∷ es) (inl same) = inl (has-map (λ z. (z.to ≡ ParityNode r) × IsMark l number d z.message) (mark_of e) (filter (λ i. not (i == l)) (rows_of s p)) (each_of e same (filter (λ i. not (i == l)) (rows_of s p)) rows))
+    each_lost (e ∷ es) (inl same) =
+        inl (has-map (λ z. (z.to ≡ ParityNode r) × IsMark l number d z.message) (mark_of e) (filter (λ i. not (i == l)) (rows_of s p)) (each_of e same (filter (λ i. not (i == l)) (rows_of s p)) rows))
     each_lost (e ∷ es) (inr there) = inr (each_lost es there)
 
   -- what is sent comes of this session alone
@@ -142,7 +143,8 @@ module _ (s : Dimensions) (x : ProcessId) (p : Process) (block l : ℕ) (inside 
     Q : Sent → Type 0
     Q z = (z.to ≡ y) × P z.message
 
-    each_lost : (es : List ℕ) → Has (λ e. Has (λ z. (z.to ≡ y) × P z.message) (leader_marks s l number block p e)) es → Has (λ e. Has (λ i. (ParityNode i ≡ y) × P (mark_of e i).message) (filter (λ i. not (i == l)) (rows_of s p))) es
+    each_lost : (es : List ℕ) → Has (λ e. Has (λ z. (z.to ≡ y) × P z.message) (leader_marks s l number block p e)) es
+        → Has (λ e. Has (λ i. (ParityNode i ≡ y) × P (mark_of e i).message) (filter (λ i. not (i == l)) (rows_of s p))) es
     each_lost [] has = absurd has
     each_lost (e ∷ es) (inl here) = inl (map-has (λ z. (z.to ≡ y) × P z.message) (mark_of e) (filter (λ i. not (i == l)) (rows_of s p)) here)
     each_lost (e ∷ es) (inr there) = inr (each_lost es there)
@@ -227,14 +229,16 @@ module _ (s : Dimensions) (x : ProcessId) (p : Process) (block l : ℕ) (inside 
     fresh = λ n fresh. fresh_by n fresh (cases_eq n number);
     fine = λ fine. runs.fine opening-fine;
   } where
-    rows : (k n r : ℕ) → p.name ≡ ParityNode k → WantsRow r (opened ran.process n) → (n ≡ number) ⊎ (n ≢ number) → (WantsRow r (opened p n) × (x ≡ ParityNode r → ⊥ → ⊥)) ⊎ ((d : ℕ) → d < s.k → NewRow s x [] p step k n r d)
+    rows : (k n r : ℕ) → p.name ≡ ParityNode k → WantsRow r (opened ran.process n) → (n ≡ number) ⊎ (n ≢ number)
+        → (WantsRow r (opened p n) × (x ≡ ParityNode r → ⊥ → ⊥)) ⊎ ((d : ℕ) → d < s.k → NewRow s x [] p step k n r d)
     rows k n r is wants (inr other) = inl (subst (WantsRow r) (opened-old n other) (runs.rows n r wants), λ from has. has)
     rows k n r is wants (inl same) =
         let here : WantsRow r (opened ran.process number) = subst (λ (i : ℕ). WantsRow r (opened ran.process i)) same wants in
         let before = subst (WantsRow r) opened-new (runs.rows number r here) in
         inr (λ d low. subst (λ (i : ℕ). NewRow s x [] p step i n r d) (parity-one l k (sym name ∙ is)) (subst (λ (i : ℕ). NewRow s x [] p step l i r d) (sym same) (new-row r d low before.0 here)))
 
-    blocks : (k n d : ℕ) → p.name ≡ ParityNode k → d < s.k → WantsBlock d (opened ran.process n) → (n ≡ number) ⊎ (n ≢ number) → (WantsBlock d (opened p n) × (x ≡ DataNode d → ⊥ → ⊥)) ⊎ NewBlock s x [] p step k n d
+    blocks : (k n d : ℕ) → p.name ≡ ParityNode k → d < s.k → WantsBlock d (opened ran.process n) → (n ≡ number) ⊎ (n ≢ number)
+        → (WantsBlock d (opened p n) × (x ≡ DataNode d → ⊥ → ⊥)) ⊎ NewBlock s x [] p step k n d
     blocks k n d is low wants (inr other) = inl (subst (WantsBlock d) (opened-old n other) (runs.blocks n d wants), λ from has. has)
     blocks k n d is low wants (inl same) = inr (subst (λ (i : ℕ). NewBlock s x [] p step i n d) (parity-one l k (sym name ∙ is)) (subst (λ (i : ℕ). NewBlock s x [] p step l i d) (sym same) (by (knows_dead p.known (DataNode d)) refl))) where
       by : (b : Bool) → knows_dead p.known (DataNode d) ≡ b → NewBlock s x [] p step l number d
@@ -282,19 +286,24 @@ module _ (s : Dimensions) (x : ProcessId) (p : Process) (block l : ℕ) (inside 
     no_data r (d ∷ ds) C (inl here) = cc here.0
     no_data r (d ∷ ds) C (inr there) = no_data r ds C there
 
-    mark_here : (k n r d e : ℕ) → Has (λ i. (ParityNode i ≡ ParityNode r) × (OfSession k n (session_of l number) × (e ≡ d))) (filter (λ i. not (i == l)) (rows_of s p)) → (p.name ≡ ParityNode k) × WantsRow r (opened ran.process n)
+    mark_here : (k n r d e : ℕ)
+        → Has (λ i. (ParityNode i ≡ ParityNode r) × (OfSession k n (session_of l number) × (e ≡ d))) (filter (λ i. not (i == l)) (rows_of s p))
+        → (p.name ≡ ParityNode k) × WantsRow r (opened ran.process n)
     mark_here k n r d e has =
         let it = has-both (λ i. ParityNode i ≡ ParityNode r) (OfSession k n (session_of l number) × (e ≡ d)) (filter (λ i. not (i == l)) (rows_of s p)) has in
         let is = named k n it.0.0 in
         let row = filter-has (λ i. not (i == l)) r (rows_of s p) (ones r (filter (λ i. not (i == l)) (rows_of s p)) it.1) in
         (name ∙ ap ParityNode is.0, subst (λ (j : ℕ). WantsRow r (opened ran.process j)) is.1 (waits-other r (λ same. cc (sym row.1 ∙ ap not (eq-eqb r l same))) row.0))
 
-    mark_among : (k n r d : ℕ) (es : List ℕ) → Has (λ e. Has (λ i. (ParityNode i ≡ ParityNode r) × (OfSession k n (session_of l number) × (e ≡ d))) (filter (λ i. not (i == l)) (rows_of s p))) es → (p.name ≡ ParityNode k) × WantsRow r (opened ran.process n)
+    mark_among : (k n r d : ℕ) (es : List ℕ)
+        → Has (λ e. Has (λ i. (ParityNode i ≡ ParityNode r) × (OfSession k n (session_of l number) × (e ≡ d))) (filter (λ i. not (i == l)) (rows_of s p))) es
+        → (p.name ≡ ParityNode k) × WantsRow r (opened ran.process n)
     mark_among k n r d [] has = absurd has
     mark_among k n r d (e ∷ es) (inl here) = mark_here k n r d e here
     mark_among k n r d (e ∷ es) (inr there) = mark_among k n r d es there
 
-    marks : (k n r d : ℕ) → Has (λ e. (DataNode e ≡ ParityNode r) × ⊥) (left_of s p) ⊎ Has (λ e. Has (λ i. (ParityNode i ≡ ParityNode r) × (OfSession k n (session_of l number) × (e ≡ d))) (filter (λ i. not (i == l)) (rows_of s p))) (lost_of s p)
+    marks : (k n r d : ℕ)
+        → Has (λ e. (DataNode e ≡ ParityNode r) × ⊥) (left_of s p) ⊎ Has (λ e. Has (λ i. (ParityNode i ≡ ParityNode r) × (OfSession k n (session_of l number) × (e ≡ d))) (filter (λ i. not (i == l)) (rows_of s p))) (lost_of s p)
         → (p.name ≡ ParityNode k) × WantsRow r (opened ran.process n)
     marks k n r d (inl wrong) = absurd (no_data r (left_of s p) ⊥ wrong)
     marks k n r d (inr has) = mark_among k n r d (lost_of s p) has
@@ -314,7 +323,8 @@ module _ (s : Dimensions) (x : ProcessId) (p : Process) (block l : ℕ) (inside 
     datas e (d ∷ ds) (inl here) = inl (data-one d e here)
     datas e (d ∷ ds) (inr there) = inr (datas e ds there)
 
-    asks : (k n r e : ℕ) → e < s.k → Has (λ d. (DataNode d ≡ DataNode e) × (OfSession k n (session_of l number) × Has (λ i. i ≡ r) (rows_of s p))) (left_of s p) ⊎ Has (λ d. Has (λ i. (ParityNode i ≡ DataNode e) × ⊥) (filter (λ i. not (i == l)) (rows_of s p))) (lost_of s p)
+    asks : (k n r e : ℕ) → e < s.k
+        → Has (λ d. (DataNode d ≡ DataNode e) × (OfSession k n (session_of l number) × Has (λ i. i ≡ r) (rows_of s p))) (left_of s p) ⊎ Has (λ d. Has (λ i. (ParityNode i ≡ DataNode e) × ⊥) (filter (λ i. not (i == l)) (rows_of s p))) (lost_of s p)
         → (p.name ≡ ParityNode k) × WantsRow r (opened ran.process n)
     asks k n r e low (inr wrong) = absurd (no_marks e (lost_of s p) wrong)
     asks k n r e low (inl has) =

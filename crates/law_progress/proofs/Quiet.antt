@@ -192,13 +192,15 @@ module _ (s : Dimensions) (es : List Event) (run : IsRun s es) (drained : IsDrai
   empty-here = subst (λ (t : Dimensions). IsEmpty t (state_of h)) shape (λ from to fin tin living apart. subst IsDrained (sym same) drained from to fin (tin, living) apart)
 
   sessions-here : (i : ℕ) → Lives h.world (ParityNode i) → (process_of h.world (ParityNode i)).as_leader.sessions ≡ []
-  sessions-here i lives = no-sessions s (state_of h) some-here (held-always s es run) (sessions_always_fit s es run) empty-here i (subst (λ (t : Dimensions). IsProcess t (ParityNode i)) shape lives.0) lives.1
+  sessions-here i lives =
+      no-sessions s (state_of h) some-here (held-always s es run) (sessions_always_fit s es run) empty-here i (subst (λ (t : Dimensions). IsProcess t (ParityNode i)) shape lives.0) lives.1
 
   forgets-here : DeadForgotten h.world
   forgets-here = subst DeadForgotten (sym same) (forgotten_always s es run drained)
 
   copies-here : (i : ℕ) → Lives h.world (ParityNode i) → (process_of h.world (ParityNode i)).as_row.copies ≡ []
-  copies-here i lives = no-copies s (state_of h) some-here (held-always s es run) (sessions_always_fit s es run) empty-here i (subst (λ (t : Dimensions). IsProcess t (ParityNode i)) shape lives.0) lives.1
+  copies-here i lives =
+      no-copies s (state_of h) some-here (held-always s es run) (sessions_always_fit s es run) empty-here i (subst (λ (t : Dimensions). IsProcess t (ParityNode i)) shape lives.0) lives.1
       (λ l lin dead. forgets-here i l lives (subst (λ (t : Dimensions). IsProcess t (ParityNode l)) (sym shape) lin) dead)
 
 pub quiet_always : QuietAlways

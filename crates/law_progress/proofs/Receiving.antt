@@ -59,11 +59,14 @@ module _ (s : Dimensions) (x : ProcessId) (p : Process) where
   idle-fair (tells.Notice _) t idle mild = absurd idle
 
   pub receive-fair : (m : Message) → Fact m → ComesTo x m p.name → Goes x m p.name → Fair s x (m ∷ []) p (receive s x m p)
-  receive-fair (tells.Update r d u stable) fact comes goes = idle-fair (tells.Update r d u stable) _ tt (mild-when (nat_le (at 0 p.ranks d.0) r.0) p (ack_to x r.0 d.0 u.number (update_taken s d.0 u stable p))
+  receive-fair (tells.Update r d u stable) fact comes goes =
+      idle-fair (tells.Update r d u stable) _ tt (mild-when (nat_le (at 0 p.ranks d.0) r.0) p (ack_to x r.0 d.0 u.number (update_taken s d.0 u stable p))
       (let q : Process = apply_to s d.0 stable p in
       record { alike = alike-then p q (with_replica d.0 (with_update u (replica_of q d.0)) q) (alike-apply s d.0 stable p) (alike-same q (with_replica d.0 (with_update u (replica_of q d.0)) q) refl refl refl); calm = (tt, tt) }))
-  receive-fair (tells.Stable r d n) fact comes goes = idle-fair (tells.Stable r d n) _ tt (mild-when (nat_le (at 0 p.ranks d.0) r.0) p (quiet (apply_to s d.0 n p)) (record { alike = alike-apply s d.0 n p; calm = tt }))
-  receive-fair (tells.Adopt r d base list) fact comes goes = idle-fair (tells.Adopt r d base list) _ tt (mild-when (nat_le (at 0 p.ranks d.0) r.0) p (ack_to x r.0 d.0 (base + length list) (log_adopted s r.0 d.0 base list p))
+  receive-fair (tells.Stable r d n) fact comes goes =
+      idle-fair (tells.Stable r d n) _ tt (mild-when (nat_le (at 0 p.ranks d.0) r.0) p (quiet (apply_to s d.0 n p)) (record { alike = alike-apply s d.0 n p; calm = tt }))
+  receive-fair (tells.Adopt r d base list) fact comes goes =
+      idle-fair (tells.Adopt r d base list) _ tt (mild-when (nat_le (at 0 p.ranks d.0) r.0) p (ack_to x r.0 d.0 (base + length list) (log_adopted s r.0 d.0 base list p))
       (let ranked : Process = with_rank d.0 r.0 p in
       let q : Process = apply_to s d.0 base ranked in
       record {
@@ -87,7 +90,8 @@ module _ (s : Dimensions) (x : ProcessId) (p : Process) where
     by (ParityNode i) is parity = row-fair s x p i session bytes stamp is comes
     by (DataNode e) is parity = elim parity [ ]
   receive-fair (tells.Mark session r block d n) fact comes goes = by p.name refl goes session.leader refl fact where
-    by : (y : ProcessId) → p.name ≡ y → IsParity y → (z : ProcessId) → session.leader ≡ z → IsParity z → Fair s x (tells.Mark session r block d n ∷ []) p (mark_comes s (parity_number session.leader) session.number r.0 block d.0 n p)
+    by : (y : ProcessId) → p.name ≡ y → IsParity y → (z : ProcessId) → session.leader ≡ z → IsParity z
+        → Fair s x (tells.Mark session r block d n ∷ []) p (mark_comes s (parity_number session.leader) session.number r.0 block d.0 n p)
     by (ParityNode i) is parity (ParityNode l) leads leader = mark-fair s x p i is l session leads r.0 block d.0 n
     by (ParityNode i) is parity (DataNode e) leads leader = elim leader [ ]
     by (DataNode e) is parity z leads leader = elim parity [ ]

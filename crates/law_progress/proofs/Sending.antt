@@ -156,7 +156,9 @@ module _ (s : Dimensions) (shaped : IsShape s) where
   receive-sends (DataNode e) (tells.Ack r d n) p few = omega arith
   receive-sends (ParityNode i) (tells.Ack r d n) p few = let none = acknowledge-sends s i r.0 d.0 n (head_at p d.0) p in omega (arith, none)
   receive-sends x (tells.Stable r d n) p few = let less = sent-when (nat_le (at 0 p.ranks d.0) r.0) p (quiet (apply_to s d.0 n p)) in omega (arith, less)
-  receive-sends x (tells.Adopt r d base list) p few = let less = sent-when (nat_le (at 0 p.ranks d.0) r.0) p (ack_to x r.0 d.0 (base + length list) (log_adopted s r.0 d.0 base list p)) in omega (arith, less)
+  receive-sends x (tells.Adopt r d base list) p few =
+      let less = sent-when (nat_le (at 0 p.ranks d.0) r.0) p (ack_to x r.0 d.0 (base + length list) (log_adopted s r.0 d.0 base list p)) in
+      omega (arith, less)
   receive-sends x (tells.ReadBlock session block rows) p few = read-sends s session block rows p p.name few
   receive-sends (DataNode e) (tells.Block session bytes n) p few = omega arith
   receive-sends (ParityNode i) (tells.Block session bytes n) p few = omega arith

@@ -166,7 +166,9 @@ module _ (s : Dimensions) where
   find-stays : (n : ℕ) (gs : List Gathering) (h g : Gathering) → find (λ x. x.number == n) gs ≡ Some g → find (λ x. x.number == n) (gs ++ h ∷ []) ≡ Some g
   find-stays n [] h g is = cc is
   find-stays n (x ∷ xs) h g is = by (x.number == n) is (λ later. find-stays n xs h g later) where
-    by : (b : Bool) → cond b (Some x) (find (λ y. y.number == n) xs) ≡ Some g → (find (λ y. y.number == n) xs ≡ Some g → find (λ y. y.number == n) (xs ++ h ∷ []) ≡ Some g) → cond b (Some x) (find (λ y. y.number == n) (xs ++ h ∷ [])) ≡ Some g
+    by : (b : Bool) → cond b (Some x) (find (λ y. y.number == n) xs) ≡ Some g
+        → (find (λ y. y.number == n) xs ≡ Some g → find (λ y. y.number == n) (xs ++ h ∷ []) ≡ Some g)
+        → cond b (Some x) (find (λ y. y.number == n) (xs ++ h ∷ [])) ≡ Some g
     by true here later = here
     by false here later = later here
 
@@ -192,7 +194,8 @@ module _ (s : Dimensions) where
   receive-serves x (tells.Update r d u stable) p plain = serves-alike p _ (mild-when (nat_le (at 0 p.ranks d.0) r.0) p (ack_to x r.0 d.0 u.number (update_taken s d.0 u stable p))
       (let q : Process = apply_to s d.0 stable p in
       record { alike = alike-then p q (with_replica d.0 (with_update u (replica_of q d.0)) q) (alike-apply s d.0 stable p) (alike-same q (with_replica d.0 (with_update u (replica_of q d.0)) q) refl refl refl); calm = (tt, tt) })).alike
-  receive-serves x (tells.Stable r d n) p plain = serves-alike p _ (mild-when (nat_le (at 0 p.ranks d.0) r.0) p (quiet (apply_to s d.0 n p)) (record { alike = alike-apply s d.0 n p; calm = tt })).alike
+  receive-serves x (tells.Stable r d n) p plain =
+      serves-alike p _ (mild-when (nat_le (at 0 p.ranks d.0) r.0) p (quiet (apply_to s d.0 n p)) (record { alike = alike-apply s d.0 n p; calm = tt })).alike
   receive-serves x (tells.Adopt r d base list) p plain = when-serves (nat_le (at 0 p.ranks d.0) r.0) p (ack_to x r.0 d.0 _ (log_adopted s r.0 d.0 base list p))
       (let ranked : Process = with_rank d.0 r.0 p in
       let q : Process = apply_to s d.0 base ranked in

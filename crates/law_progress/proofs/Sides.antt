@@ -183,7 +183,9 @@ module _ (s : Dimensions) (x : ProcessId) (came : List Message) (p : Process) (t
   }
 
   -- a step that leaves copies
-  pub same-row : t.process.as_row.ceased ≡ p.as_row.ceased → ((l n : ℕ) → marks_in t.process l n ≡ marks_in p l n) → ((l n r d : ℕ) → p.name ≡ ParityNode r → Has (IsMark l n d) came → Each (Accepts p) came → ⊥) → ((l n : ℕ) → x ≡ ParityNode l → Has (IsCease n) came → ⊥) → RowSide
+  pub same-row : t.process.as_row.ceased ≡ p.as_row.ceased → ((l n : ℕ) → marks_in t.process l n ≡ marks_in p l n)
+      → ((l n r d : ℕ) → p.name ≡ ParityNode r → Has (IsMark l n d) came → Each (Accepts p) came → ⊥)
+      → ((l n : ℕ) → x ≡ ParityNode l → Has (IsCease n) came → ⊥) → RowSide
   same-row ceased marks no_mark no_cease = record {
     kept = λ l n r d name is. Stays (subst (Marked d) (sym (marks l n)) is);
     took = λ l n r d name low has accepted. absurd (no_mark l n r d name has accepted);

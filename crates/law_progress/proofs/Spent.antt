@@ -63,11 +63,13 @@ module _ (s : Dimensions) (l n r : ℕ) where
 
   module _ (v : State) where
     -- a marked copy is a token
-    pub marked-token : (d : ℕ) → (v.process (ParityNode r)).name ≡ ParityNode r → Marked d (marks_in (v.process (ParityNode r)) l n) → in_copy (token l n d (Row r)) (Row r) (v.process (ParityNode r)) ≡ true
-    marked-token d name held = and-join _ _ (ap (λ (y : ProcessId). same_process y (ParityNode r)) name ∙ same-refl (ParityNode r)) (by (copy_in (v.process (ParityNode r)).as_row.copies l n) refl held) where
-      by : (o : Option Copy) → copy_in (v.process (ParityNode r)).as_row.copies l n ≡ o → Marked d (option_map (λ c. c.marks) o) → is_marked_in d o ≡ true
-      by None is marked = absurd marked
-      by (Some c) is marked = marked
+    pub marked-token : (d : ℕ) → (v.process (ParityNode r)).name ≡ ParityNode r → Marked d (marks_in (v.process (ParityNode r)) l n)
+        → in_copy (token l n d (Row r)) (Row r) (v.process (ParityNode r)) ≡ true
+    marked-token d name held =
+        and-join _ _ (ap (λ (y : ProcessId). same_process y (ParityNode r)) name ∙ same-refl (ParityNode r)) (by (copy_in (v.process (ParityNode r)).as_row.copies l n) refl held) where
+          by : (o : Option Copy) → copy_in (v.process (ParityNode r)).as_row.copies l n ≡ o → Marked d (option_map (λ c. c.marks) o) → is_marked_in d o ≡ true
+          by None is marked = absurd marked
+          by (Some c) is marked = marked
 
     -- where there is none
     module _ (d : ℕ) (none : tokens s v (token l n d (Row r)) ≤ 0) where

@@ -35,15 +35,17 @@ once test a (suc n) = by (test a) (once test (a + 1) n) where
   by false rest = rest
 
 -- the first that passes
-pub first-passing : (test : ℕ → Bool) (l a n k : ℕ) → a ≤ l → l < a + n → ((j : ℕ) → a ≤ j → j < l → test j ≡ false) → test l ≡ true → Has (λ i. i ≡ l) (take (suc k) (filter test (range_with_len a n)))
+pub first-passing : (test : ℕ → Bool) (l a n k : ℕ) → a ≤ l → l < a + n → ((j : ℕ) → a ≤ j → j < l → test j ≡ false) → test l ≡ true
+    → Has (λ i. i ≡ l) (take (suc k) (filter test (range_with_len a n)))
 first-passing test l a zero k low high lower passes = absurd (omega (arith, low, high))
-first-passing test l a (suc n) k low high lower passes = by (cases_eq a l) (test a) refl (λ above. first-passing test l (a + 1) n k above (omega (arith, high)) (λ j over under. lower j (omega (arith, over)) under) passes) where
-  by : (a ≡ l) ⊎ (a ≢ l) → (b : Bool) → test a ≡ b → (a + 1 ≤ l → Has (λ i. i ≡ l) (take (suc k) (filter test (range_with_len (a + 1) n))))
-      → Has (λ i. i ≡ l) (take (suc k) (cond b (a ∷ filter test (range_with_len (a + 1) n)) (filter test (range_with_len (a + 1) n))))
-  by (inl same) true is later = inl same
-  by (inl same) false is later = cc (sym is ∙ ap test same ∙ passes)
-  by (inr other) true is later = cc (sym is ∙ lower a (omega arith) (omega (arith, low, other)))
-  by (inr other) false is later = later (omega (arith, low, other))
+first-passing test l a (suc n) k low high lower passes =
+    by (cases_eq a l) (test a) refl (λ above. first-passing test l (a + 1) n k above (omega (arith, high)) (λ j over under. lower j (omega (arith, over)) under) passes) where
+      by : (a ≡ l) ⊎ (a ≢ l) → (b : Bool) → test a ≡ b → (a + 1 ≤ l → Has (λ i. i ≡ l) (take (suc k) (filter test (range_with_len (a + 1) n))))
+          → Has (λ i. i ≡ l) (take (suc k) (cond b (a ∷ filter test (range_with_len (a + 1) n)) (filter test (range_with_len (a + 1) n))))
+      by (inl same) true is later = inl same
+      by (inl same) false is later = cc (sym is ∙ ap test same ∙ passes)
+      by (inr other) true is later = cc (sym is ∙ lower a (omega arith) (omega (arith, low, other)))
+      by (inr other) false is later = later (omega (arith, low, other))
 
 module _ (s : Dimensions) (l number block : ℕ) where
   -- marks that a leader makes in its own row, one after the other
@@ -61,8 +63,10 @@ module _ (s : Dimensions) (l number block : ℕ) where
     pub copy : RowFine s q → RowFine s t.process
     pub keeps : (e : ℕ) → Marked e (marks_in q l number) ⊎ (WantsRow l (opened q number) → ⊥) → Marked e (marks_in t.process l number) ⊎ (WantsRow l (opened t.process number) → ⊥)
     pub done : (e : ℕ) → Has (λ i. i ≡ e) ls → Marked e (marks_in t.process l number) ⊎ (WantsRow l (opened t.process number) → ⊥)
-    pub apart : (d : ℕ) → d < s.k → (Has (λ i. i ≡ d) ls → ⊥) → (Marked d (marks_in q l number) → ⊥) → (Marked d (marks_in t.process l number) → ⊥) × (WantsRow l (opened q number) → WantsRow l (opened t.process number))
-    pub holds : NoRepeat ls → ((e : ℕ) → Has (λ i. i ≡ e) ls → Marked e (marks_in q l number) → ⊥) → WantsRow l (opened q number) → is_some (marks_in t.process l number) ≡ true → WantsRow l (opened t.process number)
+    pub apart : (d : ℕ) → d < s.k → (Has (λ i. i ≡ d) ls → ⊥) → (Marked d (marks_in q l number) → ⊥)
+        → (Marked d (marks_in t.process l number) → ⊥) × (WantsRow l (opened q number) → WantsRow l (opened t.process number))
+    pub holds : NoRepeat ls → ((e : ℕ) → Has (λ i. i ≡ e) ls → Marked e (marks_in q l number) → ⊥) → WantsRow l (opened q number)
+        → is_some (marks_in t.process l number) ≡ true → WantsRow l (opened t.process number)
 
   runs-none : (q : Process) → Runs [] q (quiet q)
   runs-none q = record {
@@ -162,7 +166,8 @@ module _ (s : Dimensions) (l number block : ℕ) where
       never wants = (gathers.rows number l wants).1 refl refl
 
   -- and the others
-  more-marks : (e : ℕ) (es : List ℕ) (q : Process) (a : ProcessStep) (f : Process → ProcessStep) → Each (λ d. d < s.k) es → (es ≡ [] → (f a.process).process ≡ a.process) → Runs (e ∷ []) q a → Runs es a.process (f a.process) → Runs (e ∷ es) q (and_then a f)
+  more-marks : (e : ℕ) (es : List ℕ) (q : Process) (a : ProcessStep) (f : Process → ProcessStep) → Each (λ d. d < s.k) es
+      → (es ≡ [] → (f a.process).process ≡ a.process) → Runs (e ∷ []) q a → Runs es a.process (f a.process) → Runs (e ∷ es) q (and_then a f)
   more-marks e es q a f low ends one rest = record {
     known = rest.known ∙ one.known;
     ceased = rest.ceased ∙ one.ceased;
@@ -192,7 +197,8 @@ module _ (s : Dimensions) (l number block : ℕ) where
     done d (inl same) = rest.keeps d (one.done d (inl same))
     done d (inr there) = rest.done d there
 
-    holds : (ds : List ℕ) → es ≡ ds → NoRepeat (e ∷ es) → ((d : ℕ) → Has (λ i. i ≡ d) (e ∷ es) → Marked d (marks_in q l number) → ⊥) → WantsRow l (opened q number) → is_some (marks_in (f a.process).process l number) ≡ true → WantsRow l (opened (f a.process).process number)
+    holds : (ds : List ℕ) → es ≡ ds → NoRepeat (e ∷ es) → ((d : ℕ) → Has (λ i. i ≡ d) (e ∷ es) → Marked d (marks_in q l number) → ⊥)
+        → WantsRow l (opened q number) → is_some (marks_in (f a.process).process l number) ≡ true → WantsRow l (opened (f a.process).process number)
     holds [] is differ free wants some =
         subst (λ (y : Process). WantsRow l (opened y number)) (sym (ends is))
         (one.holds ((λ wrong. wrong), tt) (λ d here held. free d (front d here) held) wants (ap (λ (y : Process). is_some (marks_in y l number)) (sym (ends is)) ∙ some))
@@ -212,7 +218,8 @@ module _ (s : Dimensions) (l number block : ℕ) where
         back i (inr wrong) there = absurd wrong
 
   -- the leader's own row accepts its marks
-  own-step : (e : ℕ) (q : Process) → knows_dead q.known (ParityNode l) ≡ false → at 0 q.as_row.ceased l < number → own_mark s l number block e q ≡ mark_taken s l number block e (replica_of q e).applied q
+  own-step : (e : ℕ) (q : Process) → knows_dead q.known (ParityNode l) ≡ false → at 0 q.as_row.ceased l < number
+      → own_mark s l number block e q ≡ mark_taken s l number block e (replica_of q e).applied q
   own-step e q living above = ap (λ (b : Bool). when b q (mark_taken s l number block e (replica_of q e).applied q)) accepted where
     low : nat_lt (at 0 q.as_row.ceased l) number ≡ true
     low = grind (arith, common_steps)
@@ -220,7 +227,8 @@ module _ (s : Dimensions) (l number block : ℕ) where
     accepted : accepts_mark q l number (at 0 q.ranks e) e ≡ true
     accepted = and-join _ _ (and-join _ _ (eq-eqb (at 0 q.ranks e) (at 0 q.ranks e) refl) (ap not living)) low
 
-  pub loop : (ls : List ℕ) (q : Process) → Each (λ e. e < s.k) ls → q.name ≡ ParityNode l → knows_dead q.known (ParityNode l) ≡ false → at 0 q.as_row.ceased l < number → Runs ls q (for_each ls (own_mark s l number block) q)
+  pub loop : (ls : List ℕ) (q : Process) → Each (λ e. e < s.k) ls → q.name ≡ ParityNode l → knows_dead q.known (ParityNode l) ≡ false
+      → at 0 q.as_row.ceased l < number → Runs ls q (for_each ls (own_mark s l number block) q)
   loop [] q low name living above = runs-none q
   loop (e ∷ es) q low name living above = more-marks e es q (own_mark s l number block e q) (for_each es (own_mark s l number block)) low.1 (ends es) one
       (loop es (own_mark s l number block e q).process low.1 (takes.name ∙ name) (ap (λ known. knows_dead known (ParityNode l)) takes.known ∙ living) (let c = ap (λ (ns : List ℕ). at 0 ns l) takes.ceased in omega (arith, c, above)))

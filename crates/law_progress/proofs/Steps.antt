@@ -76,7 +76,8 @@ pub record Leaves (s : Dimensions) (v w : State) : Type 0 where
 
 module _ (s : Dimensions) (shaped : IsShape s) (v w : State) (members : Members s v) (known : AllKnown s v) (dead : (q : ProcessId) → IsProcess s q → w.dead q ≡ v.dead q) where
   -- one process acts
-  acting : (u : State) (p : ProcessId) (t : ProcessStep) → IsProcess s p → ((q : ProcessId) → IsProcess s q → u.process q ≡ v.process q) → Acted s u w p t → Serves s (v.process p) t.process → Leaves s v w
+  acting : (u : State) (p : ProcessId) (t : ProcessStep) → IsProcess s p → ((q : ProcessId) → IsProcess s q → u.process q ≡ v.process q) → Acted s u w p t
+      → Serves s (v.process p) t.process → Leaves s v w
   acting u p t pin same acts serves = record {
     known = λ q x qin xin other living isdead. knows q x qin (same-cases q p) (known q x qin xin other (sym (dead q qin) ∙ living) (sym (dead x xin) ∙ isdead));
     served = λ q b qin living is. serve q b qin (same-cases q p) is;
@@ -88,7 +89,9 @@ module _ (s : Dimensions) (shaped : IsShape s) (v w : State) (members : Members 
     others q qin other = acts.others q qin other ∙ same q qin
 
     knows : (q x : ProcessId) → IsProcess s q → (q ≡ p) ⊎ (q ≢ p) → knows_dead (v.process q).known x ≡ true → knows_dead (w.process q).known x ≡ true
-    knows q x qin (inl is) before = ap (λ (y : Process). knows_dead y.known x) (now q is) ∙ ap (λ k. knows_dead k x) serves.known ∙ ap (λ (y : ProcessId). knows_dead (v.process y).known x) (sym is) ∙ before
+    knows q x qin (inl is) before =
+        ap (λ (y : Process). knows_dead y.known x) (now q is) ∙ ap (λ k. knows_dead k x) serves.known
+        ∙ ap (λ (y : ProcessId). knows_dead (v.process y).known x) (sym is) ∙ before
     knows q x qin (inr other) before = ap (λ (y : Process). knows_dead y.known x) (others q qin other) ∙ before
 
     serve : (q : ProcessId) (b : ℕ) → IsProcess s q → (q ≡ p) ⊎ (q ≢ p) → Served s b (v.process q) → Served s b (w.process q)
@@ -98,19 +101,21 @@ module _ (s : Dimensions) (shaped : IsShape s) (v w : State) (members : Members 
   pub move-leaves : Moves s v w → Leaves s v w
   move-leaves (Stays same) = record { known = subst (AllKnown s) (sym same) known; served = λ q b qin living is. subst (λ (y : State). Served s b (y.process q)) (sym same) is }
   move-leaves (Failed p keep pin dies) = absurd (cc (sym dies.lived ∙ sym (dead p pin) ∙ dies.dead))
-  move-leaves (Treated p t pin up lives treats acts) = acting v p t pin (λ q qin. refl) acts (by (makes s (v.process p) p (members.named p pin) pin (members.not_self p pin lives) t treats seated)) where
-    seated : Seated s (v.process p) p
-    seated = record { name = members.named p pin; some = (let first = shaped.k in omega (arith, first)); sits = λ d low. members.sits p d pin lives low }
+  move-leaves (Treated p t pin up lives treats acts) =
+      acting v p t pin (λ q qin. refl) acts (by (makes s (v.process p) p (members.named p pin) pin (members.not_self p pin lives) t treats seated)) where
+        seated : Seated s (v.process p) p
+        seated = record { name = members.named p pin; some = (let first = shaped.k in omega (arith, first)); sits = λ d low. members.sits p d pin lives low }
 
-    by : Makes s (v.process p) t → Serves s (v.process p) t.process
-    by (inl mild) = serves-alike s (v.process p) t.process mild.alike
-    by (inr (block, l, name, heads, is)) = subst (λ (y : ProcessStep). Serves s (v.process p) y.process) (sym is) (start-serves s block (v.process p))
+        by : Makes s (v.process p) t → Serves s (v.process p) t.process
+        by (inl mild) = serves-alike s (v.process p) t.process mild.alike
+        by (inr (block, l, name, heads, is)) = subst (λ (y : ProcessStep). Serves s (v.process p) y.process) (sym is) (start-serves s block (v.process p))
   move-leaves (Received u x p m xin pin apart up lives pops acts) = acting u p (receive s x m (v.process p)) pin pops.processes acts
       (receive-serves s x m (v.process p) (plain-first x (v.dead x) (knows_dead (v.process p).known x) m (u.link x p) (λ isdead. known p x pin xin apart lives isdead)
       (subst (Stands x (v.dead x) (knows_dead (v.process p).known x)) pops.first (members.stands x p xin pin apart lives))))
 
 -- a call that has to wait for a block needs it
-act-block : (s : Dimensions) (name : CallName) (op : Asked) (d : ℕ) (h : Head) (p : Process) (b : ℕ) (decision : Decision) → (act_on s name op d h p decision).answer ≡ says.Retry (cause.Block b) → decision ≡ decides.NeedBlock b
+act-block : (s : Dimensions) (name : CallName) (op : Asked) (d : ℕ) (h : Head) (p : Process) (b : ℕ) (decision : Decision)
+    → (act_on s name op d h p decision).answer ≡ says.Retry (cause.Block b) → decision ≡ decides.NeedBlock b
 act-block s name op d h p b (decides.Answer r) is = cc is
 act-block s name op d h p b (decides.Retry n) is = cc is
 act-block s name op d h p b decides.NoSpace is = cc is
@@ -119,7 +124,9 @@ act-block s name op d h p b (decides.NeedBlock c) is = by (oldest_inherited p _)
   by None same = let one : c ≡ b = cc same in ap decides.NeedBlock one
   by (Some o) same = cc same
 act-block s name op d h p b (decides.Issue body outcome) is = by _ is where
-  by : (c : Bool) → (ticketed c d (update_of name op d body outcome p) (issued s d h (update_of name op d body outcome p) p)).answer ≡ says.Retry (cause.Block b) → decides.Issue body outcome ≡ decides.NeedBlock b
+  by : (c : Bool)
+      → (ticketed c d (update_of name op d body outcome p) (issued s d h (update_of name op d body outcome p) p)).answer ≡ says.Retry (cause.Block b)
+      → decides.Issue body outcome ≡ decides.NeedBlock b
   by true same = cc same
   by false same = cc same
 
@@ -213,13 +220,15 @@ module _ (s : Dimensions) (es : List Event) (run : IsRun s es) where
     decided : (h : Head) × (head_at ((state_of here).process p) home ≡ Some h)
         × (decide (space_of here.world.shape) h.inherited (replica_of ((state_of here).process p) home) op (found_at here.world.shape home ((state_of here).process p) ((state_of here).process p).name) ≡ decides.NeedBlock b)
     decided = by (node_of here.world p).down (node_of here.world p).dead waits where
-      headed : (o : Option Head) → head_at ((state_of here).process p) home ≡ o → (ask_head here.world.shape (next_name here.world caller) op home ((state_of here).process p) o).answer ≡ says.Retry (cause.Block b)
+      headed : (o : Option Head) → head_at ((state_of here).process p) home ≡ o
+          → (ask_head here.world.shape (next_name here.world caller) op home ((state_of here).process p) o).answer ≡ says.Retry (cause.Block b)
           → (h : Head) × (head_at ((state_of here).process p) home ≡ Some h)
           × (decide (space_of here.world.shape) h.inherited (replica_of ((state_of here).process p) home) op (found_at here.world.shape home ((state_of here).process p) ((state_of here).process p).name) ≡ decides.NeedBlock b)
       headed None heads is = cc is
       headed (Some h) heads is = (h, heads, act-block here.world.shape (next_name here.world caller) op home h ((state_of here).process p) b _ is)
 
-      by : (down dead : Bool) → (if_up down dead (node_of here.world p) (treated here.world.shape (node_of here.world p) (ask_process here.world.shape (next_name here.world caller) op (node_of here.world p).process))).answer ≡ says.Retry (cause.Block b)
+      by : (down dead : Bool)
+          → (if_up down dead (node_of here.world p) (treated here.world.shape (node_of here.world p) (ask_process here.world.shape (next_name here.world caller) op (node_of here.world p).process))).answer ≡ says.Retry (cause.Block b)
           → (h : Head) × (head_at ((state_of here).process p) home ≡ Some h)
           × (decide (space_of here.world.shape) h.inherited (replica_of ((state_of here).process p) home) op (found_at here.world.shape home ((state_of here).process p) ((state_of here).process p).name) ≡ decides.NeedBlock b)
       by true dead is = cc is
@@ -267,7 +276,8 @@ module _ (s : Dimensions) (es : List Event) (run : IsRun s es) where
         opens : opened ((state_of (prolonged here (Ask caller op p))).process p) awaited.session.number ≡ Some awaited.session
         opens = found-rising ((state_of (prolonged here (Ask caller op p))).process p).as_leader.sessions awaited.session (rows.sessions p pin living).rises awaited.opened
       by (inr one) = inr (λ d low known. rebuilt d low (rebuilt_block ((state_of (prolonged here (Ask caller op p))).process p).as_leader 0 b) refl one.1) where
-        rebuilt : (d : ℕ) → d < s.k → (o : Option (List ℕ)) → rebuilt_block ((state_of (prolonged here (Ask caller op p))).process p).as_leader 0 b ≡ o → rebuilt_block ((state_of (prolonged here (Ask caller op p))).process p).as_leader 0 b ≢ None
+        rebuilt : (d : ℕ) → d < s.k → (o : Option (List ℕ)) → rebuilt_block ((state_of (prolonged here (Ask caller op p))).process p).as_leader 0 b ≡ o
+            → rebuilt_block ((state_of (prolonged here (Ask caller op p))).process p).as_leader 0 b ≢ None
             → is_some (rebuilt_block ((state_of (prolonged here (Ask caller op p))).process p).as_leader d b) ≡ true
         rebuilt d low None is some = absurd (some is)
         rebuilt d low (Some bytes) is some =

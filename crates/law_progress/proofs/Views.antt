@@ -94,7 +94,8 @@ has-filter test x (y ∷ ys) has passes = by (test y) refl has (λ there. has-fi
 pub filter-has : (test : ℕ → Bool) (x : ℕ) (xs : List ℕ) → Has (λ i. i ≡ x) (filter test xs) → Has (λ i. i ≡ x) xs × (test x ≡ true)
 filter-has test x [] has = absurd has
 filter-has test x (y ∷ ys) has = by (test y) refl has (λ there. filter-has test x ys there) where
-  by : (b : Bool) → test y ≡ b → Has (λ i. i ≡ x) (cond b (y ∷ filter test ys) (filter test ys)) → (Has (λ i. i ≡ x) (filter test ys) → Has (λ i. i ≡ x) ys × (test x ≡ true)) → Has (λ i. i ≡ x) (y ∷ ys) × (test x ≡ true)
+  by : (b : Bool) → test y ≡ b → Has (λ i. i ≡ x) (cond b (y ∷ filter test ys) (filter test ys))
+      → (Has (λ i. i ≡ x) (filter test ys) → Has (λ i. i ≡ x) ys × (test x ≡ true)) → Has (λ i. i ≡ x) (y ∷ ys) × (test x ≡ true)
   by true is (inl here) later = (inl here, ap test (sym here) ∙ is)
   by true is (inr there) later = let rest = later there in (inr rest.0, rest.1)
   by false is there later = let rest = later there in (inr rest.0, rest.1)

@@ -103,7 +103,9 @@ module _ (s : Dimensions) (p : ProcessId) (before : List Event) (run : IsRun s b
       below = λ c has. below c has;
       served = inr (leaves.known, here-pin, same-dead s before run e may goes p here-pin ∙ here-lives, λ c has. all c has count.served);
     } where
-      new : Has (λ i. i ≡ b) bs → (bs ≡ []) ⊎ (AllKnown s (state_of (history_of s before)) × IsProcess s p × ((state_of (history_of s before)).dead p ≡ false) × ((c : ℕ) → Has (λ i. i ≡ c) bs → Served s c ((state_of (history_of s before)).process p))) → ⊥
+      new : Has (λ i. i ≡ b) bs
+          → (bs ≡ []) ⊎ (AllKnown s (state_of (history_of s before)) × IsProcess s p × ((state_of (history_of s before)).dead p ≡ false) × ((c : ℕ) → Has (λ i. i ≡ c) bs → Served s c ((state_of (history_of s before)).process p)))
+          → ⊥
       new has (inl none) = subst (Has (λ i. i ≡ b)) none has
       new has (inr (known, inside_p, living, served)) = not-yet (served b has)
 
@@ -111,7 +113,8 @@ module _ (s : Dimensions) (p : ProcessId) (before : List Event) (run : IsRun s b
       below c (inl same) = let low = inside s before run caller op p b may-ask drained waits in omega (arith, low, same)
       below c (inr there) = count.below c there
 
-      all : (c : ℕ) → (b ≡ c) ⊎ Has (λ i. i ≡ c) bs → (bs ≡ []) ⊎ (AllKnown s (state_of (history_of s before)) × IsProcess s p × ((state_of (history_of s before)).dead p ≡ false) × ((x : ℕ) → Has (λ i. i ≡ x) bs → Served s x ((state_of (history_of s before)).process p)))
+      all : (c : ℕ) → (b ≡ c) ⊎ Has (λ i. i ≡ c) bs
+          → (bs ≡ []) ⊎ (AllKnown s (state_of (history_of s before)) × IsProcess s p × ((state_of (history_of s before)).dead p ≡ false) × ((x : ℕ) → Has (λ i. i ≡ x) bs → Served s x ((state_of (history_of s before)).process p)))
           → Served s c ((state_of (prolonged (history_of s before) e)).process p)
       all c (inl same) _ = subst (λ (x : ℕ). Served s x ((state_of (prolonged (history_of s before) e)).process p)) same new-served
       all c (inr there) (inl none) = absurd (subst (Has (λ i. i ≡ c)) none there)
@@ -119,7 +122,8 @@ module _ (s : Dimensions) (p : ProcessId) (before : List Event) (run : IsRun s b
 
 module _ (s : Dimensions) (p : ProcessId) where
   -- the count after events
-  counted : (es before : List Event) (run : IsRun s before) → IsRunFrom (history_of s before).world es → AskedDrained (history_of s before).world es → (bs : List ℕ) → Counted s (history_of s before) p bs → length bs + block_waits p (turns_from (history_of s before).world es) ≤ s.blocks
+  counted : (es before : List Event) (run : IsRun s before) → IsRunFrom (history_of s before).world es → AskedDrained (history_of s before).world es
+      → (bs : List ℕ) → Counted s (history_of s before) p bs → length bs + block_waits p (turns_from (history_of s before).world es) ≤ s.blocks
   counted [] before run comes asked bs count = let few = few-below s.blocks bs count.differ count.below in omega (arith, few)
   counted (e ∷ es) before run comes asked bs count = by (no-wait p e (step (history_of s before).world e).turn.answer)
       (λ more now. subst (λ (x : History). length more + block_waits p (turns_from x.world es) ≤ s.blocks) (history-append (no_history s) before e)
@@ -133,7 +137,10 @@ module _ (s : Dimensions) (p : ProcessId) where
           → ((more : List ℕ) → Counted s (prolonged (history_of s before) e) p more → length more + block_waits p (turns_from (step (history_of s before).world e).world es) ≤ s.blocks)
           → length bs + block_waits p (turns_from (history_of s before).world (e ∷ es)) ≤ s.blocks
       by (inl none) later = let sum = split in let rest = later bs (leaves-count s p before run e bs comes.0 asked.0 count) in omega (arith, sum, none, rest)
-      by (inr (one, (caller, op, b, is, answered))) later = let sum = split in let rest = later (b ∷ bs) (one-more s p before run e bs comes.0 asked.0 count caller op b is answered asked.1) in omega (arith, sum, one, rest)
+      by (inr (one, (caller, op, b, is, answered))) later =
+          let sum = split in
+          let rest = later (b ∷ bs) (one-more s p before run e bs comes.0 asked.0 count caller op b is answered asked.1) in
+          omega (arith, sum, one, rest)
 
 pub few_waits_always : FewWaitsAlways
 few_waits_always s es run later p comes asked =

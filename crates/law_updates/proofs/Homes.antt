@@ -27,7 +27,8 @@ module _ (P : List ℕ → Type 0) where
   keys-put : (key : List ℕ) (slot : Slot) (items : Items) → P key → Each (λ x. P x.0) items → Each (λ x. P x.0) (entries.put (slice_cmp nat_cmp) key slot items)
   keys-put key slot [] here all = (here, tt)
   keys-put key slot (e ∷ es) here all = by (slice_cmp nat_cmp key e.0) (keys-put key slot es here all.1) where
-    by : (o : Ordering) → Each (λ x. P x.0) (entries.put (slice_cmp nat_cmp) key slot es) → Each (λ x. P x.0) (by_order o ((key, slot) ∷ e ∷ es) ((e.0, slot) ∷ es) (e ∷ entries.put (slice_cmp nat_cmp) key slot es))
+    by : (o : Ordering) → Each (λ x. P x.0) (entries.put (slice_cmp nat_cmp) key slot es)
+        → Each (λ x. P x.0) (by_order o ((key, slot) ∷ e ∷ es) ((e.0, slot) ∷ es) (e ∷ entries.put (slice_cmp nat_cmp) key slot es))
     by Less rest = (here, all)
     by Equal rest = (all.0, all.1)
     by Greater rest = (all.0, rest)

@@ -95,10 +95,12 @@ module _ (size : ℕ) (free : ℕ → Bool) (want : ℕ) where
   keep_short s c (Some r) o ended short to = (to.0, to.1, omega (arith, to.2), λ b l q within fits. short_some s c b l r short to q fits (reach s c b l o ended q within))
 
   -- a run that is long enough is taken where it is shorter
-  take_found : (s c : ℕ) → Open s c → (s + c < size → free (s + c) ≡ false) → 1 ≤ want → want ≤ c → ((b l : ℕ) → IsFreeRun size free b l → want ≤ l → Stands s c b l → Better (found s c) b l) → BestTo (s + c + 1) (Some (found s c))
+  take_found : (s c : ℕ) → Open s c → (s + c < size → free (s + c) ≡ false) → 1 ≤ want → want ≤ c
+      → ((b l : ℕ) → IsFreeRun size free b l → want ≤ l → Stands s c b l → Better (found s c) b l) → BestTo (s + c + 1) (Some (found s c))
   take_found s c o ended one fits better = (ended_run s c o (omega arith) ended, fits, omega arith, λ b l q within long. better b l q long (reach s c b l o ended q within))
 
-  shorter_best : (s c : ℕ) (r : Run) → Open s c → (s + c < size → free (s + c) ≡ false) → 1 ≤ want → want ≤ c → BestTo s (Some r) → (t : Bool) → nat_lt c r.len ≡ t → BestTo (s + c + 1) (if t then Some (found s c) else Some r)
+  shorter_best : (s c : ℕ) (r : Run) → Open s c → (s + c < size → free (s + c) ≡ false) → 1 ≤ want → want ≤ c → BestTo s (Some r) → (t : Bool)
+      → nat_lt c r.len ≡ t → BestTo (s + c + 1) (if t then Some (found s c) else Some r)
   shorter_best s c r o ended one fits to true less = take_found s c o ended one fits (λ b l q long stands. found_shorter s c b l r (ltb-true c r.len less) to q long stands)
   shorter_best s c r o ended one fits to false more = (to.0, to.1, omega (arith, to.2), λ b l q within long. kept_best s c b l r (ltb-false c r.len more) to q long (reach s c b l o ended q within))
 
@@ -113,7 +115,8 @@ module _ (size : ℕ) (free : ℕ → Bool) (want : ℕ) where
   closed-long : (a c : ℕ) (best : Option Run) → 1 ≤ want → want ≤ c → closed want a c best ≡ shorter best (record { at = a - c; len = c })
   closed-long a c best one fits = grind (arith, common_steps)
 
-  closed_is_best : (a s c : ℕ) (best : Option Run) → a ≡ s + c → Open s c → (s + c < size → free (s + c) ≡ false) → 1 ≤ want → BestTo s best → (c < want) ⊎ (want ≤ c) → BestTo (s + c + 1) (closed want a c best)
+  closed_is_best : (a s c : ℕ) (best : Option Run) → a ≡ s + c → Open s c → (s + c < size → free (s + c) ≡ false) → 1 ≤ want → BestTo s best
+      → (c < want) ⊎ (want ≤ c) → BestTo (s + c + 1) (closed want a c best)
   closed_is_best a s c best here o ended one to (inl short) = subst (BestTo (s + c + 1)) (sym (closed-short a c best one short)) (keep_short s c best o ended short to)
   closed_is_best a s c best here o ended one to (inr fits) =
       let from : s ≡ a - c = omega arith in
@@ -141,7 +144,8 @@ module _ (size : ℕ) (free : ℕ → Bool) (want : ℕ) where
     inside = omega arith;
   }
 
-  walk_step : (n a s c : ℕ) (best : Option Run) (f : Bool) → WalksOn n → free a ≡ f → 1 ≤ want → a ≡ s + c → a + suc n ≡ size → Open s c → BestTo s best → BestTo (size + 1) (walk free want n (suc a) (counted f c) (best_so_far f want a c best))
+  walk_step : (n a s c : ℕ) (best : Option Run) (f : Bool) → WalksOn n → free a ≡ f → 1 ≤ want → a ≡ s + c → a + suc n ≡ size → Open s c → BestTo s best
+      → BestTo (size + 1) (walk free want n (suc a) (counted f c) (best_so_far f want a c best))
   walk_step n a s c best true on f one here size_is o to = on (suc a) s (suc c) best (omega arith) (omega arith) (opened a s c f here (omega arith) o) to
   walk_step n a s c best false on f one here size_is o to =
       let before : BestTo (s + c + 1) (closed want a c best) = closed_is_best a s c best here o (λ more. ap free (sym here) ∙ f) one to (cases_lt c want) in
