@@ -5,9 +5,7 @@
 #![tactic(auto)]
 
 use edge_io::{MemoryListener, ReadEdge, SystemClock, WriteEdge, write_all};
-use group_program::{help_at, run_program};
-use scenario_play::Status;
-use scenario_play::tell::tell;
+use group_program::{Status, help_at, run_program, tell};
 use std::alloc::AllocError;
 use std::process::ExitCode;
 use std::{env, io};

@@ -9,3 +9,5 @@ mod serving;
 
 pub use help::help_at;
 pub use program::run_program;
+pub use scenario_play::Status;
+pub use scenario_play::tell::tell;

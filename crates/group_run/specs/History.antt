@@ -1,6 +1,6 @@
 -- A run with what laws speak of and the group does not keep: the settled updates of each partition,
 -- whole, and the calls that were asked.
-use Rattle.std.specs.Prelude.{ℕ, ◌++◌, List, [], ◌∷◌, length, option_to_list, replicate}
+use Rattle.std.specs.Prelude.{ℕ, ◌++◌, List, [], ◌∷◌, length, option_to_list, replicate, take}
 use Rattle.std.specs.List.{range_with_len}
 use Rattle.group_types.specs.Dimensions.{Dimensions}
 use Rattle.group_types.specs.Lists.{at, put}
@@ -8,6 +8,7 @@ use Rattle.group_message.specs.declared.update.Update.{Update}
 use Rattle.group_calls.specs.declared.event.Event.{Event}
 use Rattle.group_run.specs.Applying.{Settlement}
 use Rattle.group_run.specs.World.{World, Call, call_of, group_step, new_ones, opening, settled_in, step}
+use Rattle.group_run.specs.Replica.{Replica}
 
 -- a group, the settled updates of each of its partitions, and the calls that were asked
 pub record History : Type 0 where
@@ -44,3 +45,7 @@ history_from h (e ∷ es) = history_from (prolonged h e) es
 -- the history of a run
 abbrev pub history_of : Dimensions → List Event → History
 history_of s es = history_from (no_history s) es
+
+-- the history of a replica: what it has applied of the settled updates, and then its log
+abbrev pub history : List Update → Replica → List Update
+history settled replica = take replica.applied settled ++ replica.log

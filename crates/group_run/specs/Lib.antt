@@ -19,3 +19,4 @@ pub mod Recovery
 pub mod Progress
 pub mod Causes
 pub mod Keeping
+pub mod Shown

@@ -149,10 +149,6 @@ pub record IsUnfinished (w : World) (p : ProcessId) (d n : ℕ) (h : Head) : Typ
   pub within : n ≤ last_of (replica_of (process_of w p) d)
   pub waits : (i : ℕ) × (i < w.shape.m) × (ParityNode i ≢ p) × (knows_dead (process_of w p).known (ParityNode i) ≡ false) × (¬ (HasAcked h i n))
 
--- update n stood in the log when the head took over
-abbrev pub IsInherited : Head → ℕ → Type 0
-IsInherited h n = n ≤ h.inherited
-
 -- drained: every link into a living process is empty
 abbrev pub IsDrained : World → Type 0
 IsDrained w = (from to : ProcessId) → IsProcess w.shape from → Lives w to → from ≢ to → link w from to ≡ []

@@ -5,3 +5,4 @@ pub mod Hash
 pub mod Pieces
 pub mod Lists
 pub mod Names
+pub mod Each

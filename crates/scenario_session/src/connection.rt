@@ -5,10 +5,9 @@ ghost use Rattle.scenario_session.specs.Session.{HasEnded, IsServed};
 use crate::end::{SessionEnd, end_of};
 use edge_io::{Clock, Sink, Source};
 use front_end::{ConnectionFault, End, serve_connection};
-use group_core::World;
 use group_types::Shape;
 use std::alloc::Global;
-use world_caller::WorldCaller;
+use world_caller::{World, WorldCaller};
 
 /// Makes a group, and serves one connection over it.
 pub fn session<S: Source, K: Sink, T: Clock>(

@@ -14,4 +14,5 @@ mod serving;
 mod stage;
 
 pub use caller::WorldCaller;
+pub use group_core::World;
 pub use stage::{Next, Stage};

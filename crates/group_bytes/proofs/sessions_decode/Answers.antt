@@ -1,5 +1,0 @@
-use Rattle.group_bytes.proofs.Decode.{sessions_decode}
-use Rattle.group_bytes.proofs.sessions_decode.Goals as goal
-
-pub returns : goal.returns
-returns c = sessions_decode

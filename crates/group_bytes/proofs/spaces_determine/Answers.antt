@@ -1,5 +1,0 @@
-use Rattle.group_bytes.proofs.Survivors.{spaces_determine}
-use Rattle.group_bytes.proofs.spaces_determine.Goals as goal
-
-pub returns : goal.returns
-returns c = spaces_determine

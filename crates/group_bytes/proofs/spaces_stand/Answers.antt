@@ -1,5 +1,0 @@
-use Rattle.group_bytes.proofs.Decode.{spaces_stand}
-use Rattle.group_bytes.proofs.spaces_stand.Goals as goal
-
-pub returns : goal.returns
-returns c = spaces_stand

@@ -1,9 +1,0 @@
-pub mod Holds
-pub mod Calls
-pub mod Held
-pub mod Told
-pub mod Clean
-pub mod Gone
-pub mod Kept
-pub mod Matches
-pub mod Headline

@@ -1,4 +1,0 @@
-pub mod Held
-pub mod Gone
-pub mod Kept
-pub mod Headline

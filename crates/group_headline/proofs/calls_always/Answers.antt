@@ -1,5 +1,0 @@
-use Rattle.group_headline.proofs.Headlines.{calls_always}
-use Rattle.group_headline.proofs.calls_always.Goals as goal
-
-pub returns : goal.returns
-returns c = calls_always

@@ -1,5 +1,0 @@
-use Rattle.group_headline.proofs.Headlines.{copies_always}
-use Rattle.group_headline.proofs.copies_always.Goals as goal
-
-pub returns : goal.returns
-returns c = copies_always

@@ -1,4 +1,0 @@
-pub mod Folds
-pub mod Lanes
-pub mod Histories
-pub mod Applies

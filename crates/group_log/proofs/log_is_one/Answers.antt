@@ -1,5 +1,0 @@
-use Rattle.group_log.proofs.Ones.{log_is_one}
-use Rattle.group_log.proofs.log_is_one.Goals as goal
-
-pub returns : goal.returns
-returns c = log_is_one

@@ -1,4 +1,0 @@
-pub mod Reach
-pub mod Issuing
-pub mod Numbers
-pub mod Fits

@@ -1,4 +1,0 @@
-pub mod Numbers
-pub mod Steps
-pub mod Kept
-pub mod Sessions

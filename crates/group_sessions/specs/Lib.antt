@@ -1,4 +1,0 @@
-pub mod Tokens
-pub mod Fresh
-pub mod Exact
-pub mod Leading

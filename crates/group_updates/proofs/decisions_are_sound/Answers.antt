@@ -1,5 +1,0 @@
-use Rattle.group_updates.proofs.Decides.{decisions_are_sound}
-use Rattle.group_updates.proofs.decisions_are_sound.Goals as goal
-
-pub returns : goal.returns
-returns c = decisions_are_sound

@@ -1,6 +1,0 @@
-pub mod Each
-pub mod Store
-pub mod Right
-pub mod Decisions
-pub mod Fine
-pub mod Laws

@@ -1,5 +1,0 @@
-pub mod Cuts
-pub mod Shows
-pub mod Values
-pub mod Written
-pub mod Keeping

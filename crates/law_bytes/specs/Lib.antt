@@ -1,0 +1,5 @@
+pub mod Areas
+pub mod Decoding
+pub mod Held
+pub mod Leading
+pub mod Premises

@@ -1,0 +1,5 @@
+use Rattle.law_headline.proofs.Headlines.{rebuilt_always}
+use Rattle.law_headline.proofs.rebuilt_always.Goals as goal
+
+pub returns : goal.returns
+returns c = rebuilt_always

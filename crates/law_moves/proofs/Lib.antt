@@ -1,0 +1,17 @@
+pub mod Aways
+pub mod Calls
+pub mod Cores
+pub mod Downs
+pub mod Events
+pub mod Keeping
+pub mod Known
+pub mod Members
+pub mod Messages
+pub mod Moves
+pub mod Notices
+pub mod Reading
+pub mod Runs
+pub mod Settled
+pub mod Standing
+pub mod State
+pub mod Steps

@@ -1,0 +1,4 @@
+pub mod Away
+pub mod Down
+pub mod Moves
+pub mod State

@@ -1,0 +1,4 @@
+pub mod Drains
+pub mod Ends
+pub mod FewWaits
+pub mod Quiets

@@ -1,0 +1,15 @@
+pub mod Blind
+pub mod Clears
+pub mod Decides
+pub mod Fine
+pub mod Fines
+pub mod Histories
+pub mod Homes
+pub mod Keys
+pub mod Laws
+pub mod Placing
+pub mod Rules
+pub mod Spaces
+pub mod Steps
+pub mod Unread
+pub mod Walking

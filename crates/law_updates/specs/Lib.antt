@@ -1,0 +1,6 @@
+pub mod Decisions
+pub mod Fine
+pub mod Laws
+pub mod Placing
+pub mod Right
+pub mod Store
