@@ -5,7 +5,6 @@ use std::{fs, io};
 /// A dialogue with the program.
 #[derive(Drop)]
 pub struct Dialogue {
-    pub name: String,
     /// The words of the command line.
     pub words: Vec<String>,
     /// What is given on standard input.
@@ -25,17 +24,16 @@ impl Dialogue {
         line: &str,
     ) -> io::Result<Dialogue> {
         let mut words = line.split(' ');
-        let name = String::from_str(alloc, words.next().unwrap_or(""))?;
+        let name = words.next().unwrap_or("");
         let status = words
             .next()
             .and_then(|word| word.parse().ok())
             .unwrap_or(255);
         Ok(Dialogue {
             words: owned(alloc, words)?,
-            input: file_of(rt, alloc, &name, "in")?,
-            output: file_of(rt, alloc, &name, "out")?,
+            input: file_of(rt, alloc, name, "in")?,
+            output: file_of(rt, alloc, name, "out")?,
             status,
-            name,
         })
     }
 }
