@@ -94,12 +94,7 @@ fn logged_after(alloc: Global, before: usize, loss: Event) -> Result<Option<usiz
 }
 
 // Makes the events, with a loss before the one of this number.
-fn all_happen(
-    alloc: Global,
-    world: &mut World,
-    before: usize,
-    loss: &Event,
-) -> Result<bool, Fail> {
+fn all_happen(alloc: Global, world: &mut World, before: usize, loss: &Event) -> Result<bool, Fail> {
     for (number, &(what, at, _)) in RUN.iter().enumerate() {
         if number == before && !happens(world, loss)? {
             return Ok(false);

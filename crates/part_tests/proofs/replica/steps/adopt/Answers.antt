@@ -4,7 +4,7 @@ use Rattle.run_alloc.specs.Free.{AllFree}
 use Rattle.group_run.specs.Free.{is_free}
 use Rattle.group_run.specs.Replica.{Replica, empty_replica, with_log}
 use Rattle.group_run.specs.Fitting.{AllCanCome, CanCome}
-use Rattle.partition_replica.proofs.replica.moves.tests.steps.adopt.Goals as goal
+use Rattle.part_tests.proofs.replica.steps.adopt.Goals as goal
 
 -- where nothing is settled, the first update can come in place of the log
 first_comes : (space : ℕ) (r : Replica) (u : Update) → with_log [] r ≡ empty_replica → CanCome space empty_replica u → AllCanCome space (with_log [] r) (drop (r.applied - 0) (u ∷ []))

@@ -1,7 +1,7 @@
 use Rattle.std.proofs.Common.{length, sym, ap, ◌∙◌}
 use Rattle.std.proofs.lemmas.List.Elements.{Contains-get_or}
-use Rattle.cauchy_code.proofs.Cases.{block_long, blocks_of_zeros, blocks_written}
-use Rattle.cauchy_code.proofs.decoding.tests.data.Goals as goal
+use Rattle.part_tests.proofs.Cases.{block_long, blocks_of_zeros, blocks_written}
+use Rattle.part_tests.proofs.codes.data.Goals as goal
 
 pub numbers-init : goal.numbers-init
 numbers-init c = rw c.in_ok-list.ensures (blocks_of_zeros c.args.numbers.now)

@@ -1,8 +1,8 @@
 use Rattle.std.proofs.Common.{◌≡◌, ◌++◌, take, length}
 use Rattle.std.proofs.lemmas.List.Elements.{All-append}
 use Rattle.group_types.specs.declared.piece_list.Piece.{Piece}
-use Rattle.cauchy_code.proofs.Cases.{blocks_of_zeros, found_in_zeros, one_length}
-use Rattle.cauchy_code.proofs.decoding.tests.decodes.Goals as goal
+use Rattle.part_tests.proofs.Cases.{blocks_of_zeros, found_in_zeros, one_length}
+use Rattle.part_tests.proofs.codes.decodes.Goals as goal
 
 pub decode-requires-clause-out : goal.decode-requires-clause-out
 decode-requires-clause-out c = rw c.in_ok-out.ensures (λ k d below. found_in_zeros 16 (take c.args.f c.args.order.now) k d below)

@@ -1,6 +1,6 @@
 use Rattle.std.proofs.Common.{refl}
-use Rattle.cauchy_code.proofs.Cases.{each_from}
-use Rattle.cauchy_code.proofs.decoding.tests.order.Goals as goal
+use Rattle.part_tests.proofs.Cases.{each_from}
+use Rattle.part_tests.proofs.codes.order.Goals as goal
 
 pub returns-in-0 : goal.returns-in-0
 returns-in-0 c = each_from 4 _ refl refl refl

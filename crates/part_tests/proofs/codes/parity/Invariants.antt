@@ -1,5 +1,5 @@
-use Rattle.cauchy_code.proofs.Cases.{HoldsBlocks}
-use Rattle.cauchy_code.proofs.decoding.tests.parity.Given as goal
+use Rattle.part_tests.proofs.Cases.{HoldsBlocks}
+use Rattle.part_tests.proofs.codes.parity.Given as goal
 
 abbrev pub invariant-rows : goal.invariant-rows
 invariant-rows l = HoldsBlocks l.numbers l.list
