@@ -9,4 +9,3 @@ pub mod Keeping
 pub mod Closing
 pub mod Opening
 pub mod Coming
-pub mod Waiting

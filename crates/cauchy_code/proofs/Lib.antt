@@ -4,7 +4,6 @@ mod Fours
 pub mod Parts
 pub mod Recovery
 pub mod Solutions
-pub mod Cases
 pub mod Filling
 pub mod Progress
 pub mod Additions

@@ -39,22 +39,3 @@ fn coefficients(m: u32, i: u32, columns: &[Piece]) -> [u8; 16]
     }
     all
 }
-
-#[cfg(test)]
-mod tests {
-    use super::*;
-    use std::test::Fail;
-
-    #[test]
-    fn three_bytes_in_two_parity_processes(rt: HostRuntime) -> Result<(), Fail> {
-        let mut columns = PieceList::new(rt.alloc(), &[0, 1, 2], 1)?;
-        columns.piece_mut(0)[0] = 1;
-        columns.piece_mut(1)[0] = 2;
-        columns.piece_mut(2)[0] = 3;
-        let mut p0 = [0u8];
-        let mut p1 = [0u8];
-        add_columns(2, 0, 1, &columns, &mut p0, &mut p1);
-        assert_eq!(rt; (p0[0], p1[0]), (0xB2, 0x01));
-        Ok(())
-    }
-}

@@ -44,22 +44,3 @@ pub fn add_delta(m: u32, i: u32, d: u32, delta: &[u8], into: &mut [u8])
 {
     mul_add_into(coefficient(m, i, d), delta, into);
 }
-
-#[cfg(test)]
-mod tests {
-    use super::*;
-    use std::test::Fail;
-
-    #[test]
-    fn three_bytes_in_two_parity_processes(rt: HostRuntime) -> Result<(), Fail> {
-        let mut p0 = [0u8];
-        let mut p1 = [0u8];
-        for (d, byte) in [(0, 0x01), (1, 0x02), (2, 0x03)] {
-            add_delta(2, 0, d, &[byte], &mut p0);
-            add_delta(2, 1, d, &[byte], &mut p1);
-        }
-        assert_eq!(rt; p0, [0xB2]);
-        assert_eq!(rt; p1, [0x01]);
-        Ok(())
-    }
-}

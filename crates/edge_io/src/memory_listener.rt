@@ -74,20 +74,3 @@ impl Listener for MemoryListener {
         Ok(None)
     }
 }
-
-#[cfg(test)]
-mod tests {
-    use super::*;
-
-    #[test]
-    fn counts_listen_and_accept_together(rt: HostRuntime) -> Result<(), AllocError> {
-        let none = Vec::new(rt.alloc());
-        let mut listener = MemoryListener::new(rt.alloc(), none, &[1, 4])?;
-        assert_eq!(rt; listener.listen("here"), Err(Failed));
-        assert_eq!(rt; listener.listen("here"), Ok(()));
-        assert!(rt; matches!(listener.accept(), Ok(None)));
-        assert!(rt; matches!(listener.accept(), Err(Failed)));
-        assert!(rt; matches!(listener.accept(), Ok(None)));
-        Ok(())
-    }
-}

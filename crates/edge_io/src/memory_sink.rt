@@ -72,24 +72,3 @@ impl Sink for MemorySink {
         }
     }
 }
-
-#[cfg(test)]
-mod tests {
-    use super::*;
-
-    #[test]
-    fn takes_whole_pieces_and_fails_by_number(rt: HostRuntime) -> Result<(), AllocError> {
-        for length in [1, 7, 65_536] {
-            let mut piece = Vec::new(rt.alloc());
-            piece.resize(length, b'x')?;
-            let mut sink = MemorySink::new(rt.alloc(), &[2])?;
-            assert_eq!(rt; sink.write(&piece), Ok(length));
-            assert_eq!(rt; sink.write(&piece), Err(SinkFault::Failed));
-            assert_eq!(rt; sink.bytes(), piece.as_slice());
-            assert_eq!(rt; sink.write(b""), Ok(0));
-            assert_eq!(rt; sink.write(b"end"), Ok(3));
-            assert_eq!(rt; &sink.bytes()[length..], b"end".as_slice());
-        }
-        Ok(())
-    }
-}

@@ -1,7 +1,6 @@
 mod Calls
 mod Counts
 mod Entered
-mod Few
 mod Moved
 mod Partitions
 mod Recorded

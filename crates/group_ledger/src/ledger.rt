@@ -143,6 +143,3 @@ impl Ledger {
         (self.log.len() - before) as u64
     }
 }
-
-#[cfg(test)]
-mod tests;

@@ -60,18 +60,3 @@ impl From<ByteList> for Vec<u8> {
         list.bytes
     }
 }
-
-#[cfg(test)]
-mod tests {
-    use super::*;
-    use std::test::Fail;
-
-    #[test]
-    fn holds_the_bytes_given(rt: HostRuntime) -> Result<(), Fail> {
-        let mut list = ByteList::of(rt.alloc(), b"cart")?;
-        assert_eq!(rt; list.bytes(), b"cart".as_slice());
-        list.bytes_mut().copy_from_slice(b"lock");
-        assert_eq!(rt; list.bytes(), b"lock".as_slice());
-        Ok(())
-    }
-}

@@ -23,18 +23,3 @@ pub fn home(key: &Key, k: u32) -> Partition
 {
     Partition(fnv1a_of(key.bytes()) % k)
 }
-
-#[cfg(test)]
-mod tests {
-    use super::*;
-    use std::test::Fail;
-
-    #[test]
-    fn gives_the_published_hashes(rt: HostRuntime) -> Result<(), Fail> {
-        assert_eq!(rt; fnv1a_of(b"a"), 0xE40C_292C);
-        assert_eq!(rt; fnv1a_of(b"b"), 0xE70C_2DE5);
-        assert_eq!(rt; fnv1a_of(b"c"), 0xE60C_2C52);
-        assert_eq!(rt; fnv1a_of(b"g"), 0xE20C_2606);
-        Ok(())
-    }
-}

@@ -81,28 +81,3 @@ impl Clone for Key {
         })
     }
 }
-
-#[cfg(test)]
-mod tests {
-    use super::*;
-    use crate::hash::home;
-    use crate::process::Partition;
-    use std::test::Fail;
-
-    #[test]
-    fn reads_keys_and_finds_their_homes(rt: HostRuntime) -> Result<(), Fail> {
-        for (text, k, partition) in [
-            (b"a", 2, 0),
-            (b"b", 2, 1),
-            (b"c", 2, 0),
-            (b"g", 3, 0),
-            (b"a", 3, 1),
-            (b"c", 3, 2),
-        ] {
-            let key = Key::read(rt.alloc(), text)?.clone()?;
-            assert_eq!(rt; key.bytes(), text.as_slice());
-            assert_eq!(rt; home(&key, k), Partition(partition));
-        }
-        Ok(())
-    }
-}

@@ -69,18 +69,3 @@ impl Clone for Payload {
         })
     }
 }
-
-#[cfg(test)]
-mod tests {
-    use super::*;
-    use std::test::Fail;
-
-    #[test]
-    fn holds_the_bytes_given(rt: HostRuntime) -> Result<(), Fail> {
-        let payload = Payload::of(rt.alloc(), b"cart")?;
-        assert_eq!(rt; payload.clone()?.bytes(), b"cart".as_slice());
-        let owned = Payload::from_vec(Vec::from_slice(rt.alloc(), b"lock")?)?;
-        assert_eq!(rt; owned.bytes(), b"lock".as_slice());
-        Ok(())
-    }
-}

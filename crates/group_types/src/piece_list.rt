@@ -95,18 +95,3 @@ impl PieceList {
         unreachable!()
     }
 }
-
-#[cfg(test)]
-mod tests {
-    use super::*;
-    use std::test::Fail;
-
-    #[test]
-    fn finds_pieces_by_their_numbers(rt: HostRuntime) -> Result<(), Fail> {
-        let mut list = PieceList::new(rt.alloc(), &[3, 7], 2)?;
-        assert_eq!(rt; list.piece(7), [0u8; 2].as_slice());
-        assert_eq!(rt; list.take(3).bytes(), [0u8; 2].as_slice());
-        assert_eq!(rt; list.pieces().len(), 1);
-        Ok(())
-    }
-}

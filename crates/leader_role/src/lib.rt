@@ -7,7 +7,5 @@ pub mod cease;
 pub mod rows;
 pub mod soundness;
 pub mod start;
-#[cfg(test)]
-mod tests;
 
 pub use start::Start;

@@ -32,23 +32,3 @@ pub fn live(now: u64, held: Option<&Holding>) -> Option<&Holding>
         None => None,
     }
 }
-
-#[cfg(test)]
-mod tests {
-    use super::*;
-    use std::test::Fail;
-
-    #[test]
-    fn counts_from_the_moment_for_30_days(rt: HostRuntime) -> Result<(), Fail> {
-        for (expiry, until_then) in [
-            (-1, Some(0)),
-            (0, None),
-            (1, Some(101)),
-            (2_592_000, Some(2_592_100)),
-            (2_592_001, Some(2_592_001)),
-        ] {
-            assert_eq!(rt; until(expiry, 100), until_then);
-        }
-        Ok(())
-    }
-}

@@ -23,26 +23,3 @@ fn value(digits: &[u8]) -> Option<u64>
     }
     Some(value)
 }
-
-#[cfg(test)]
-mod tests {
-    use super::*;
-    use std::test::Fail;
-
-    #[test]
-    fn reads_up_to_20_digits_below_2_to_the_64(rt: HostRuntime) -> Result<(), Fail> {
-        for (text, value) in [
-            ("0", Some(0)),
-            ("00000000000000000012", Some(12)),
-            ("18446744073709551615", Some(u64::MAX)),
-            ("18446744073709551616", None),
-            ("000000000000000000012", None),
-            ("", None),
-            ("1 ", None),
-            ("+1", None),
-        ] {
-            assert_eq!(rt; number(text.as_bytes()), value);
-        }
-        Ok(())
-    }
-}

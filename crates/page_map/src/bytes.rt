@@ -78,32 +78,3 @@ fn add_piece(coef: Option<&Split>, src: &[u8], dst: &mut [u8])
         None => xor_into(src, dst),
     }
 }
-
-#[cfg(test)]
-mod tests {
-    use super::*;
-    use std::test::Fail;
-
-    #[test]
-    fn sums_cross_the_ends_of_pages(rt: HostRuntime) -> Result<(), Fail> {
-        let mut pages = Pages::new(rt.alloc(), 4, 16)?;
-        let ones = [1u8; 20];
-        pages.reserve(14, 20)?;
-        pages.add(14, Some(&Split::of(3)), &ones);
-        let mut read = [9u8; 64];
-        pages.read_into(0, &mut read);
-        for (at, byte) in read.iter().enumerate() {
-            assert_eq!(rt; *byte, if at < 14 || 34 <= at { 0 } else { 3 });
-        }
-        Ok(())
-    }
-
-    #[test]
-    fn a_sum_has_no_coefficient(rt: HostRuntime) -> Result<(), Fail> {
-        let mut pages = Pages::new(rt.alloc(), 4, 16)?;
-        pages.reserve(15, 2)?;
-        pages.add(15, None, &[2, 3]);
-        assert_eq!(rt; pages.range(14, 4)?.bytes(), [0, 2, 3, 0].as_slice());
-        Ok(())
-    }
-}

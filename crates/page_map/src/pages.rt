@@ -193,27 +193,3 @@ fn gap_for(pages: &[Page], number: u32) -> usize
         Err(gap) => gap,
     }
 }
-
-#[cfg(test)]
-mod tests {
-    use super::*;
-    use std::test::Fail;
-
-    #[test]
-    fn keeps_each_page_under_its_number(rt: HostRuntime) -> Result<(), Fail> {
-        let mut pages = Pages::new(rt.alloc(), 4, 16)?;
-        pages.make_room(2)?;
-        pages.place(3, ByteList::of(rt.alloc(), &[3; 16])?);
-        if !pages.has(1) {
-            pages.place(1, ByteList::of(rt.alloc(), &[1; 16])?);
-        }
-        if pages.has(3) {
-            pages.page_mut(3)[0] = 7;
-        }
-        assert_eq!(rt; pages.page(1), Some([1u8; 16].as_slice()));
-        assert_eq!(rt; pages.page(3).map(|page| (page[0], page[1])), Some((7, 3)));
-        assert!(rt; !pages.has(2));
-        assert_eq!(rt; (pages.made(), pages.blocks(), pages.block()), (2, 4, 16));
-        Ok(())
-    }
-}

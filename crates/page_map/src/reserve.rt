@@ -103,23 +103,3 @@ fn zeros(alloc: Global, len: u32) -> Result<ByteList, AllocError>
 {
     Ok(ByteList::from(vec![in alloc; 0u8; len as usize]?))
 }
-
-#[cfg(test)]
-mod tests {
-    use super::*;
-    use std::test::Fail;
-
-    #[test]
-    fn makes_the_pages_of_a_range_alone(rt: HostRuntime) -> Result<(), Fail> {
-        let mut pages = Pages::new(rt.alloc(), 5, 16)?;
-        pages.reserve(0, 0)?;
-        assert_eq!(rt; pages.made(), 0);
-        pages.reserve(20, 29)?;
-        assert_eq!(rt; pages.made(), 3);
-        assert!(rt; !pages.has(0) && pages.has(1) && pages.has(2) && pages.has(3) && !pages.has(4));
-        assert_eq!(rt; pages.page(2), Some([0u8; 16].as_slice()));
-        pages.reserve(0, 80)?;
-        assert_eq!(rt; pages.made(), 5);
-        Ok(())
-    }
-}

@@ -142,5 +142,18 @@ fn rebuilt(sessions: &Sessions, partition: Partition, run: Run) -> Result<Found,
     Ok(Found::Bytes(sessions.read(partition, run)?))
 }
 
-#[cfg(test)]
-mod tests;
+// Tests that no value is kept beside these parts: a further field, or one of another type, does not compile.
+fn keeps_no_value_beside_its_parts(bytes: &ParityBytes) {
+    let ParityBytes {
+        shape,
+        number,
+        space,
+        rows,
+        sessions,
+    } = bytes;
+    let _: &Shape = shape;
+    let _: &u32 = number;
+    let _: &ParitySpace = space;
+    let _: &Rows = rows;
+    let _: &Sessions = sessions;
+}

@@ -176,22 +176,14 @@ impl ParityProcess {
     }
 }
 
-#[cfg(test)]
-mod tests {
-    use super::*;
-    use std::test::Fail;
-
-    #[test]
-    fn keeps_no_value_beside_its_parts(rt: HostRuntime) -> Result<(), Fail> {
-        let shape = Shape::new(1, 1, 1, 16)?;
-        let ParityProcess {
-            alloc,
-            service,
-            bytes,
-        } = ParityProcess::new(rt.alloc(), shape, 0)?;
-        let _: Global = alloc;
-        let _: Service = service;
-        let _: ParityBytes = bytes;
-        Ok(())
-    }
+// Tests that no value is kept beside these parts: a further field, or one of another type, does not compile.
+fn keeps_no_value_beside_its_parts(process: &ParityProcess) {
+    let ParityProcess {
+        alloc,
+        service,
+        bytes,
+    } = process;
+    let _: &Global = alloc;
+    let _: &Service = service;
+    let _: &ParityBytes = bytes;
 }

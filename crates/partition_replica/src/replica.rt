@@ -135,28 +135,20 @@ impl Replica {
     }
 }
 
-#[cfg(test)]
-mod tests {
-    use super::*;
-    use std::test::Fail;
-
-    #[test]
-    fn keeps_no_value_beside_its_parts(rt: HostRuntime) -> Result<(), Fail> {
-        let replica = Replica::new(rt.alloc(), Shape::new(1, 0, 1, 16)?)?;
-        let Replica {
-            shape,
-            index,
-            runs,
-            log,
-            kept,
-            spare,
-        } = replica;
-        let _: Shape = shape;
-        let _: Index<Key> = index;
-        let _: FreeRuns = runs;
-        let _: Log<Updates> = log;
-        let _: Vec<Option<Kept>> = kept;
-        let _: u32 = spare;
-        Ok(())
-    }
+// Tests that no value is kept beside these parts: a further field, or one of another type, does not compile.
+fn keeps_no_value_beside_its_parts(replica: &Replica) {
+    let Replica {
+        shape,
+        index,
+        runs,
+        log,
+        kept,
+        spare,
+    } = replica;
+    let _: &Shape = shape;
+    let _: &Index<Key> = index;
+    let _: &FreeRuns = runs;
+    let _: &Log<Updates> = log;
+    let _: &Vec<Option<Kept>> = kept;
+    let _: &u32 = spare;
 }

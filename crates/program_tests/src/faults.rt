@@ -1,5 +1,5 @@
 // A connection whose reads and writes fail in turn.
-use crate::runs::run;
+use crate::runs::{owned, run};
 use scenario_play::Status;
 use std::alloc::{AllocError, Global};
 use std::fmt::Write;
@@ -40,6 +40,7 @@ fn answers(alloc: Global) -> Result<String, AllocError> {
 
 #[test]
 fn a_connection_is_told_each_failing_read(rt: HostRuntime) -> Result<(), Fail> {
+    let words = owned(rt.alloc(), &WORDS)?;
     let input = requests(rt.alloc())?;
     let rows = [
         (1, "fault: read\n"),
@@ -49,7 +50,7 @@ fn a_connection_is_told_each_failing_read(rt: HostRuntime) -> Result<(), Fail> {
         (5, "STORED\r\nfault: read\n"),
     ];
     for (n, written) in rows {
-        let told = run(&rt, rt.alloc(), &WORDS, input.as_bytes(), 100, &[n], &[])?;
+        let told = run(&rt, rt.alloc(), &words, input.as_bytes(), 100, &[n], &[])?;
         assert_eq!(rt; told.0, Status::ReadFault, "read {n}");
         assert_eq!(rt; told.1.as_slice(), written.as_bytes(), "read {n}");
     }
@@ -59,11 +60,12 @@ fn a_connection_is_told_each_failing_read(rt: HostRuntime) -> Result<(), Fail> {
 // There are 23 writes.
 #[test]
 fn a_connection_is_answered_up_to_its_failing_write(rt: HostRuntime) -> Result<(), Fail> {
+    let words = owned(rt.alloc(), &WORDS)?;
     let input = requests(rt.alloc())?;
     let answers = answers(rt.alloc())?;
     for piece in [1, 7, 65_536] {
         for n in 1..=24u64 {
-            let told = run(&rt, rt.alloc(), &WORDS, input.as_bytes(), piece, &[], &[n])?;
+            let told = run(&rt, rt.alloc(), &words, input.as_bytes(), piece, &[], &[n])?;
             let status = if n < 24 {
                 Status::WriteFault
             } else {

@@ -1,12 +1,10 @@
 // Whole runs of the program: what is written, and how it ends.
 ghost use Rattle.std.specs.Prelude.{◌≤◌};
 
-use crate::rows::CHAPTERS;
-use crate::sessions::SESSIONS;
-use edge_io::{FixedClock, MemoryListener, MemorySink, MemorySource};
+use edge_io::{Clock, FixedClock, MemoryListener, MemorySink, MemorySource};
 use group_program::run_program;
 use scenario_play::Status;
-use std::alloc::Global;
+use std::alloc::{AllocError, Global};
 use std::sync::Wait;
 use std::test::Fail;
 use std::thread::Threads;
@@ -16,105 +14,93 @@ const FIRST: &str = "group 2 0 4 16\nask 0 d0 set a 0 41\nask 0 d0 get a\nstop\n
 const WRITTEN: &str =
     "reply stored\n= 0.0 set a 0 41 stored\nreply value 0 1 41\n= 0.1 get a value 0 1 41\n";
 
+/// How a run ended, and what was written.
+pub(crate) type Told = (Status, Vec<u8>);
+
+pub(crate) fn owned(alloc: Global, words: &[&str]) -> Result<Vec<String>, AllocError> {
+    let mut all = Vec::new(alloc);
+    for word in words {
+        all.push(String::from_str(alloc, word)?)?;
+    }
+    Ok(all)
+}
+
 // Runs the words on a script in pieces of this size, with reads and writes that fail by their number.
 pub(crate) fn run<R: Threads + Wait + Sync>(
     rt: &R,
     alloc: Global,
-    words: &[&str],
+    words: &[String],
     script: &[u8],
     piece: usize,
     reads: &[u64],
     writes: &[u64],
-) -> Result<(Status, Vec<u8>), Fail>
+) -> Result<Told, AllocError>
     requires { 1 ≤ piece }
 {
-    let mut owned = Vec::new(alloc);
-    for word in words {
-        owned.push(String::from_str(alloc, word)?)?;
-    }
     let mut source = MemorySource::new(alloc, script, reads)?.with_piece(piece);
     let mut sink = MemorySink::new(alloc, writes)?;
-    let mut listener = MemoryListener::new(alloc, Vec::new(alloc), &[])?;
-    let clock = FixedClock::new(0);
-    let status = run_program(
+    let status = run_over(
         rt,
         alloc,
-        &owned,
+        words,
         &mut source,
         &mut sink,
-        &mut listener,
-        &clock,
-    );
+        &FixedClock::new(0),
+    )?;
     Ok((status, Vec::from_slice(alloc, sink.bytes())?))
 }
 
-#[test]
-fn plays_the_worked_scripts(rt: HostRuntime) -> Result<(), Fail> {
-    for chapter in CHAPTERS {
-        for (script, written, status) in chapter {
-            let told = run(&rt, rt.alloc(), &["play"], script.as_bytes(), 7, &[], &[])?;
-            assert_eq!(rt; told.1.as_slice(), written.as_bytes(), "{script}");
-            assert_eq!(rt; told.0, *status, "{script}");
-        }
-    }
-    Ok(())
+/// What the words write at the moments of a clock.
+pub(crate) fn run_at<R: Threads + Wait + Sync, T: Clock>(
+    rt: &R,
+    alloc: Global,
+    words: &[String],
+    input: &[u8],
+    clock: &T,
+) -> Result<Vec<u8>, AllocError> {
+    let mut source = MemorySource::new(alloc, input, &[])?;
+    let mut sink = MemorySink::new(alloc, &[])?;
+    run_over(rt, alloc, words, &mut source, &mut sink, clock)?;
+    Vec::from_slice(alloc, sink.bytes())
 }
 
-#[test]
-fn refuses_other_words(rt: HostRuntime) -> Result<(), Fail> {
-    for words in [
-        [].as_slice(),
-        &["plays"],
-        &["play", "play"],
-        &["--help"],
-        &["session", "1", "0", "4"],
-    ] {
-        let told = run(&rt, rt.alloc(), words, FIRST.as_bytes(), 7, &[], &[])?;
-        assert_eq!(rt; told.0, Status::BadWords);
-        assert_eq!(rt; told.1.as_slice(), b"fault: words\n".as_slice());
-    }
-    Ok(())
+fn run_over<R: Threads + Wait + Sync, T: Clock>(
+    rt: &R,
+    alloc: Global,
+    words: &[String],
+    source: &mut MemorySource,
+    sink: &mut MemorySink,
+    clock: &T,
+) -> Result<Status, AllocError> {
+    let mut listener = MemoryListener::new(alloc, Vec::new(alloc), &[])?;
+    Ok(run_program(rt, alloc, words, source, sink, &mut listener, clock))
 }
 
-// The lines that begin so were told by another program.
-#[test]
-fn makes_and_tries_scripts(rt: HostRuntime) -> Result<(), Fail> {
-    let made = run(&rt, rt.alloc(), &["make", "0"], &[], 1, &[], &[])?;
-    assert_eq!(rt; made.0, Status::Done);
-    assert!(rt; made.1.starts_with(b"group 3 2 64 64\ndrain\n".as_slice()));
-    let tried = run(&rt, rt.alloc(), &["trial", "0"], &[], 1, &[], &[])?;
-    assert_eq!(rt;
-        tried.1.as_slice(),
-        b"trial 0 lines 4007 logged 2489 bytes 216460\n".as_slice()
-    );
-    Ok(())
+// Plays a script.
+pub(crate) fn play<R: Threads + Wait + Sync>(
+    rt: &R,
+    alloc: Global,
+    script: &[u8],
+    piece: usize,
+    reads: &[u64],
+    writes: &[u64],
+) -> Result<Told, AllocError>
+    requires { 1 ≤ piece }
+{
+    let words = owned(alloc, &["play"])?;
+    run(rt, alloc, &words, script, piece, reads, writes)
 }
 
 #[test]
 fn tells_each_failing_read(rt: HostRuntime) -> Result<(), Fail> {
+    let script = FIRST.as_bytes();
     for (piece, reads) in [(1, 56), (7, 9), (65_536, 2)] {
         for n in 1..=reads {
-            let told = run(
-                &rt,
-                rt.alloc(),
-                &["play"],
-                FIRST.as_bytes(),
-                piece,
-                &[n],
-                &[],
-            )?;
+            let told = play(&rt, rt.alloc(), script, piece, &[n], &[])?;
             assert_eq!(rt; told.0, Status::ReadFault, "read {n}");
             assert_eq!(rt; told.1.as_slice(), b"fault: read\n".as_slice(), "read {n}");
         }
-        let told = run(
-            &rt,
-            rt.alloc(),
-            &["play"],
-            FIRST.as_bytes(),
-            piece,
-            &[reads + 1],
-            &[],
-        )?;
+        let told = play(&rt, rt.alloc(), script, piece, &[reads + 1], &[])?;
         assert_eq!(rt; told.0, Status::Done, "in pieces of {piece}");
     }
     Ok(())
@@ -122,28 +108,16 @@ fn tells_each_failing_read(rt: HostRuntime) -> Result<(), Fail> {
 
 #[test]
 fn tells_each_failing_write(rt: HostRuntime) -> Result<(), Fail> {
+    let half = "reply stored\n= 0.0 set a 0 41 stored\n";
     let rows = [
         (FIRST, 1, "", Status::WriteFault),
-        (
-            FIRST,
-            2,
-            "reply stored\n= 0.0 set a 0 41 stored\n",
-            Status::WriteFault,
-        ),
+        (FIRST, 2, half, Status::WriteFault),
         (FIRST, 3, WRITTEN, Status::Done),
         ("group", 1, "", Status::BadLine(1)),
     ];
     for (script, n, written, status) in rows {
         for piece in [1, 7, 65_536] {
-            let told = run(
-                &rt,
-                rt.alloc(),
-                &["play"],
-                script.as_bytes(),
-                piece,
-                &[],
-                &[n],
-            )?;
+            let told = play(&rt, rt.alloc(), script.as_bytes(), piece, &[], &[n])?;
             assert_eq!(rt; told.0, status, "write {n}");
             assert_eq!(rt; told.1.as_slice(), written.as_bytes(), "write {n}");
         }
@@ -155,66 +129,36 @@ fn tells_each_failing_write(rt: HostRuntime) -> Result<(), Fail> {
 fn plays_at_most_its_limit(rt: HostRuntime) -> Result<(), Fail> {
     let mut script = Vec::from_slice(rt.alloc(), b"group 1 0 1 16\n")?;
     script.resize(16_777_216, b'#')?;
-    let told = run(&rt, rt.alloc(), &["play"], &script, 65_536, &[], &[])?;
+    let told = play(&rt, rt.alloc(), &script, 65_536, &[], &[])?;
     assert_eq!(rt; told.0, Status::Done);
     script.push(b'\n')?;
-    let told = run(&rt, rt.alloc(), &["play"], &script, 65_536, &[], &[])?;
-    assert_eq!(rt; told.0, Status::TooLong);
-    assert_eq!(rt; told.0.number(), 4);
+    let told = play(&rt, rt.alloc(), &script, 65_536, &[], &[])?;
+    assert_eq!(rt; (told.0, told.0.number()), (Status::TooLong, 4));
     assert_eq!(rt; told.1.as_slice(), b"fault: length\n".as_slice());
     Ok(())
 }
 
-#[test]
-fn serves_connections(rt: HostRuntime) -> Result<(), Fail> {
-    for (words, input, written, status) in SESSIONS {
-        for piece in [1, 7, 65_536] {
-            let told = run(&rt, rt.alloc(), words, input.as_bytes(), piece, &[], &[])?;
-            assert_eq!(rt; told.1.as_slice(), written.as_bytes(), "{input}");
-            assert_eq!(rt; told.0, status, "{input}");
-        }
-    }
-    Ok(())
-}
+const THRICE: &str = "version\r\nversion\r\nversion\r\n";
 
 #[test]
 fn tells_how_a_connection_failed(rt: HostRuntime) -> Result<(), Fail> {
-    let words = ["session", "1", "0", "4", "16"];
-    let mut long = Vec::new(rt.alloc());
-    long.resize(32_769, b'a')?;
-    let thrice = b"version\r\nversion\r\nversion\r\n";
-    let rows: [(&[u8], &[u64], &[u64], &str, Status, u8); 4] = [
-        (
-            thrice,
-            &[],
-            &[3],
-            "VERSION cocytus-1\r\nVERSION cocytus-1\r\n",
-            Status::WriteFault,
-            7,
-        ),
-        (
-            &thrice[..9],
-            &[2],
-            &[],
-            "VERSION cocytus-1\r\nfault: read\n",
-            Status::ReadFault,
-            6,
-        ),
-        (
-            &long,
-            &[],
-            &[],
-            "CLIENT_ERROR line too long\r\n",
-            Status::LineTooLong,
-            11,
-        ),
-        (&thrice[..8], &[], &[], "", Status::Cut, 10),
-    ];
-    for (input, reads, writes, written, status, number) in rows {
-        let told = run(&rt, rt.alloc(), &words, input, 65_536, reads, writes)?;
-        assert_eq!(rt; told.1.as_slice(), written.as_bytes());
-        assert_eq!(rt; told.0, status);
-        assert_eq!(rt; told.0.number(), number);
-    }
+    let words = owned(rt.alloc(), &["session", "1", "0", "4", "16"])?;
+    let written = "VERSION cocytus-1\r\nVERSION cocytus-1\r\n";
+    let told = run(
+        &rt,
+        rt.alloc(),
+        &words,
+        THRICE.as_bytes(),
+        65_536,
+        &[],
+        &[3],
+    )?;
+    assert_eq!(rt; told.1.as_slice(), written.as_bytes());
+    assert_eq!(rt; (told.0, told.0.number()), (Status::WriteFault, 7));
+    let one = &THRICE.as_bytes()[..9];
+    let told = run(&rt, rt.alloc(), &words, one, 65_536, &[2], &[])?;
+    let written = "VERSION cocytus-1\r\nfault: read\n";
+    assert_eq!(rt; told.1.as_slice(), written.as_bytes());
+    assert_eq!(rt; (told.0, told.0.number()), (Status::ReadFault, 6));
     Ok(())
 }

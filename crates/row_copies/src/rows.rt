@@ -166,6 +166,3 @@ impl Rows {
         copies::add(&mut self.copies, self.shape, self.number, d, update);
     }
 }
-
-#[cfg(test)]
-mod tests;

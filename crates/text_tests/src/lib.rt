@@ -1,15 +1,11 @@
-//! What is read and what is written, row by row: the protocol of a connection, whole connections, and the
-//! lines of scripts and transcripts. They are tests of public calls alone, and stand apart from the crates
-//! that they are about since a crate is proved once more with its tests.
+//! What is read and what is written where a dialogue doesn't tell it: lines that are no script lines, texts of long
+//! values, and the ends of streams. They are tests of public calls alone, and stand apart from the crates that they
+//! are about since a crate is proved once more with its tests.
 #![tactic(auto)]
 
 #[cfg(test)]
-mod connections;
+mod edges;
 #[cfg(test)]
 mod lines;
-#[cfg(test)]
-mod replies;
-#[cfg(test)]
-mod requests;
 #[cfg(test)]
 mod transcript;

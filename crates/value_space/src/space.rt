@@ -114,10 +114,7 @@ mod tests {
 
     #[test]
     fn one_byte_makes_one_page(rt: HostRuntime) -> Result<(), Fail> {
-        let Ok(shape) = Shape::new(1, 0, 1024, 65_536) else {
-            return Err(AllocError)?;
-        };
-        let mut space = ValueSpace::new(rt.alloc(), shape)?;
+        let mut space = ValueSpace::new(rt.alloc(), Shape::new(1, 0, 1024, 65_536)?)?;
         assert_eq!(rt; space.made(), 0);
         let run = Run { at: 0, len: 1 };
         space.reserve(run)?;
@@ -127,28 +124,45 @@ mod tests {
         Ok(())
     }
 
+    const CART: Run = Run { at: 14, len: 4 };
+
+    const LOCK: Run = Run { at: 15, len: 19 };
+
+    // Four blocks of 16 bytes, and a value across the end of the first.
+    fn with_cart(alloc: Global) -> Result<ValueSpace, Fail>
+        ensures { IfOk result (λ space. space.shape ≡ record { k = 1; m = 0; blocks = 4; block = 16 }) }
+    {
+        let mut space = ValueSpace::new(alloc, Shape::new(1, 0, 4, 16)?)?;
+        space.reserve(CART)?;
+        space.apply(CART, &Payload::of(alloc, b"cart")?);
+        Ok(space)
+    }
+
     #[test]
-    fn differences_cross_the_ends_of_pages(rt: HostRuntime) -> Result<(), Fail> {
-        let Ok(shape) = Shape::new(1, 0, 4, 16) else {
-            return Err(AllocError)?;
-        };
-        let mut space = ValueSpace::new(rt.alloc(), shape)?;
-        let short = Run { at: 14, len: 4 };
-        let delta = space.delta_for(short, &Payload::of(rt.alloc(), b"cart")?)?;
-        space.reserve(short)?;
-        space.apply(short, &Payload::of(rt.alloc(), b"cart")?);
-        assert_eq!(rt; delta.bytes(), b"cart".as_slice());
-        assert_eq!(rt; space.copy(short)?.bytes(), b"cart".as_slice());
-        let long = Run { at: 15, len: 19 };
-        let delta = space.delta_for(long, &Payload::of(rt.alloc(), b"a lock of two pages")?)?;
-        space.reserve(long)?;
-        space.apply(long, &Payload::of(rt.alloc(), &[0x20; 19])?);
+    fn a_value_crosses_the_end_of_a_page(rt: HostRuntime) -> Result<(), Fail> {
+        let space = with_cart(rt.alloc())?;
+        assert_eq!(rt; space.copy(CART)?.bytes(), b"cart".as_slice());
+        Ok(())
+    }
+
+    #[test]
+    fn a_difference_is_that_of_the_bytes_which_are_there(rt: HostRuntime) -> Result<(), Fail> {
+        let space = with_cart(rt.alloc())?;
+        let delta = space.delta_for(LOCK, &Payload::of(rt.alloc(), b"a lock of two pages")?)?;
         assert!(rt;
             delta
                 .bytes()
                 .starts_with(&[0, b' ' ^ b'r', b'l' ^ b't', b'o'])
         );
-        assert!(rt; space.copy(long)?.bytes().starts_with(b"ART "));
+        Ok(())
+    }
+
+    #[test]
+    fn a_difference_is_added_across_pages(rt: HostRuntime) -> Result<(), Fail> {
+        let mut space = with_cart(rt.alloc())?;
+        space.reserve(LOCK)?;
+        space.apply(LOCK, &Payload::of(rt.alloc(), &[0x20; 19])?);
+        assert!(rt; space.copy(LOCK)?.bytes().starts_with(b"ART "));
         Ok(())
     }
 }

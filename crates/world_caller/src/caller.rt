@@ -79,6 +79,3 @@ impl Caller for WorldCaller {
         fail_one(&mut self.world, at, keep)
     }
 }
-
-#[cfg(test)]
-mod tests;

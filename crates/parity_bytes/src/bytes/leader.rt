@@ -82,25 +82,3 @@ impl ParityBytes {
         self.sessions.last()
     }
 }
-
-#[cfg(test)]
-mod tests {
-    use super::*;
-    use group_calls::Found;
-    use group_types::{Partition, Run, Shape};
-    use head_service::Beneath;
-    use std::test::Fail;
-
-    #[test]
-    fn a_session_waits_and_an_empty_run_needs_none(rt: HostRuntime) -> Result<(), Fail> {
-        let shape = Shape::new(2, 1, 2, 16)?;
-        let mut bytes = ParityBytes::new(rt.alloc(), shape, 0)?;
-        let lost = Vec::from_slice(rt.alloc(), &[1])?;
-        let rows = Vec::from_slice(rt.alloc(), &[0])?;
-        assert_eq!(rt; bytes.start(1, lost, rows)?, 1);
-        assert_eq!(rt; (bytes.is_open_for(0), bytes.is_open_for(1)), (false, true));
-        let found = bytes.find(Partition(1), Run { at: 9, len: 0 })?;
-        assert!(rt; matches!(found, Found::Bytes(_)));
-        Ok(())
-    }
-}

@@ -76,6 +76,3 @@ impl Replica {
         self.spare = 0;
     }
 }
-
-#[cfg(test)]
-mod tests;

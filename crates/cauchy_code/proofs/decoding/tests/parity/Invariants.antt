@@ -1,8 +1,0 @@
-use Rattle.cauchy_code.proofs.Cases.{HoldsBlocks}
-use Rattle.cauchy_code.proofs.decoding.tests.parity.Given as goal
-
-abbrev pub invariant-rows : goal.invariant-rows
-invariant-rows l = HoldsBlocks l.numbers l.list
-
-abbrev pub invariant-columns : goal.invariant-columns
-invariant-columns l = HoldsBlocks l.numbers l.list

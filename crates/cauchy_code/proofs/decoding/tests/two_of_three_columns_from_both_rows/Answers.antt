@@ -1,7 +1,0 @@
-use Rattle.std.proofs.Common.{ap, refl}
-use Rattle.group_types.specs.Dimensions.{Dimensions}
-use Rattle.cauchy_code.proofs.Cases.{each_from}
-use Rattle.cauchy_code.proofs.decoding.tests.two_of_three_columns_from_both_rows.Goals as goal
-
-pub decodes-requires-clause-order : goal.decodes-requires-clause-order
-decodes-requires-clause-order g c = rw (ap (λ (d : Dimensions). d.k) c.in_ok-shape.ensures.0) (each_from 3 _ refl refl refl)

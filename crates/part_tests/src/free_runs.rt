@@ -1,0 +1,17 @@
+// Free runs of a space.
+use run_alloc::{FreeRuns, NoRun};
+use std::test::Fail;
+
+#[test]
+fn takes_the_shortest_run_that_serves(rt: HostRuntime) -> Result<(), Fail> {
+    let mut space = FreeRuns::new(rt.alloc(), 16)?;
+    assert_eq!(rt; space.take(10), Ok(0));
+    assert_eq!(rt; space.take(6), Ok(10));
+    assert_eq!(rt; space.take(1), Err(NoRun));
+    space.reserve(2)?;
+    space.give(0, 10);
+    assert_eq!(rt; space.take(7), Ok(0));
+    space.take_at(8, 1);
+    assert_eq!(rt; (space.fits(1), space.fits(2)), (Some(7), None));
+    Ok(())
+}
