@@ -1,4 +1,4 @@
-ghost use Rattle.std.specs.Prelude.{◌≡◌, ◌+◌, ◌<◌, ◌≤◌, ◌^◌, ℕ, false, [], ◌↔◌, length, All, IsTrue, IfOk, OnErr};
+ghost use Rattle.std.specs.Prelude.{◌≡◌, ◌+◌, ◌<◌, ◌≤◌, ◌^◌, ℕ, false, [], ◌↔◌, length, All, IsTrue, IsSome, None, true, IfOk, OnErr};
 ghost use Rattle.std.specs.List.{range_with_len};
 ghost use Rattle.group_types.specs.Dimensions.{space_of};
 ghost use Rattle.group_types.specs.Names.{IsProcess};
@@ -6,6 +6,9 @@ ghost use Rattle.group_types.specs.declared.process.ProcessId.TheVariants.{DataN
 ghost use Rattle.membership.specs.Members.{knows_dead};
 ghost use Rattle.group_message.specs.declared.message.Message.TheVariants as tells;
 ghost use Rattle.erasure_code.specs.Spaces.{bytes_at};
+ghost use Rattle.group_types.specs.Hash.{home_of};
+ghost use Rattle.group_types.specs.Lists.{at};
+ghost use Rattle.memc_table.specs.Act.{key_of};
 ghost use Rattle.group_run.specs.Applying.{head_at, replica_of, sending};
 ghost use Rattle.group_run.specs.Asking.{ask_process, collect_from, fate_of, only};
 ghost use Rattle.group_run.specs.Process.{opening_process};
@@ -13,7 +16,9 @@ ghost use Rattle.group_run.specs.Receiving.{notice_comes, read_comes, receive};
 ghost use Rattle.group_run.specs.Replica.{callers, last_of};
 ghost use Rattle.group_run.specs.World.{flush_process};
 ghost use Rattle.head_service.specs.Acting.{name_of};
+ghost use Rattle.process_service.specs.Current.{is_current};
 ghost use Rattle.process_service.specs.Noticing.{waiting};
+ghost use Rattle.process_service.specs.Standing.{is_under};
 ghost use Rattle.process_service.specs.Steps.{called, stepped};
 ghost use Rattle.data_process.specs.Steps.{ComesToData};
 
@@ -68,6 +73,7 @@ impl DataProcess {
         requires numbers { All (λ r. last_of r < 2 ^ 62) self.old.process.replicas }
         ensures shape { self.new.shape ≡ self.old.shape }
         ensures step { IfOk result (λ step. ask_process self.old.shape (name_of call) op.now self.old.process ≡ called self.new.process step) }
+        ensures wanted { OnErr result (IsSome (at None self.old.process.heads (home_of (key_of op.now.act) self.old.shape.k))) }
         ensures err { OnErr result (self.new.process ≡ self.old.process) }
     {
         match self.service.ask(call, op, &mut self.values)? {
@@ -105,6 +111,7 @@ impl DataProcess {
         requires { ComesToData self.old.shape from message.now self.old.process }
         ensures shape { self.new.shape ≡ self.old.shape }
         ensures step { IfOk result (λ step. receive self.old.shape from message.now self.old.process ≡ stepped self.new.process step) }
+        ensures wanted { OnErr result (is_current self.old.process message.now ≡ true) }
         ensures err { OnErr result (self.new.process ≡ self.old.process) }
     {
         match message {
@@ -187,6 +194,7 @@ impl DataProcess {
         requires partition { partition.0 < self.old.shape.k }
         ensures shape { self.new.shape ≡ self.old.shape }
         ensures step { IfOk result (λ step. receive self.old.shape from (tells.Ack rank partition number) self.old.process ≡ stepped self.new.process step) }
+        ensures wanted { OnErr result (is_under rank.0 (at None self.old.process.heads partition.0) ≡ true) }
         ensures err { OnErr result (self.new.process ≡ self.old.process) }
     {
         let settled = match from {

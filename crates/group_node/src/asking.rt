@@ -6,10 +6,10 @@ ghost use Rattle.group_node.specs.Steps.{IsRefusal, made};
 
 use crate::node::{Node, NodeOut};
 use crate::sending::{make_room, send_all};
-use law_answers::sends_few;
 use group_calls::Answer;
 use group_types::Partition;
 use head_service::Call;
+use law_answers::sends_few;
 use memc_table::Op;
 use std::alloc::AllocError;
 
@@ -22,6 +22,7 @@ impl Node {
         ensures shape { self.new.shape ≡ self.old.shape }
         ensures step { IfOk result (λ out. ask_node self.old.shape (name_of call) op.now self.old.node ≡ made self.new.node out) }
         ensures refusal { IfOk result (λ out. IsRefusal out.answer → self.new ≡ self.old) }
+        ensures wanted { OnErr result ((self.old.node.down ≡ false) × (self.old.node.dead ≡ false)) }
         ensures err { OnErr result (self.new ≡ self.old) }
     {
         if let Some(answer) = self.refusal() {
@@ -52,6 +53,7 @@ impl Node {
     pub fn flush(&mut self) -> Result<NodeOut, AllocError>
         ensures shape { self.new.shape ≡ self.old.shape }
         ensures step { IfOk result (λ out. flush_node self.old.shape self.old.node ≡ made self.new.node out) }
+        ensures wanted { OnErr result ((self.old.node.down ≡ false) × (self.old.node.dead ≡ false)) }
         ensures err { OnErr result (self.new ≡ self.old) }
     {
         if let Some(answer) = self.refusal() {

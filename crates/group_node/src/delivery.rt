@@ -8,10 +8,10 @@ ghost use Rattle.group_node.specs.Steps.{made};
 
 use crate::node::{Node, NodeOut};
 use crate::sending::{index_of, make_room, send_all};
-use law_answers::sends_few;
 use group_calls::Answer;
 use group_message::Message;
 use group_types::ProcessId;
+use law_answers::sends_few;
 use std::alloc::AllocError;
 
 /// The first message from one node to another is received, where the group isn't down, the receiver lives,
@@ -25,6 +25,7 @@ pub fn deliver_between(sender: &mut Node, receiver: &mut Node) -> Result<NodeOut
     ensures receiver_shape { receiver.new.shape ≡ receiver.old.shape }
     ensures step { IfOk result (λ out. deliver_nodes receiver.old.shape sender.old.node.process.name receiver.old.node.process.name
         sender.old.node receiver.old.node ≡ record { sender = sender.new.node; receiver = made receiver.new.node out }) }
+    ensures wanted { OnErr result ((receiver.old.node.down ≡ false) × (receiver.old.node.dead ≡ false)) }
     ensures sender_err { OnErr result (sender.new ≡ sender.old) }
     ensures receiver_err { OnErr result (receiver.new ≡ receiver.old) }
 {

@@ -1,8 +1,11 @@
-ghost use Rattle.std.specs.Prelude.{◌≡◌, ◌+◌, ◌<◌, ◌≤◌, ◌^◌, [], ◌↔◌, length, map, All, IsTrue, IfOk, OnErr};
+ghost use Rattle.std.specs.Prelude.{◌≡◌, ◌+◌, ◌<◌, ◌≤◌, ◌^◌, [], ◌↔◌, length, map, All, IsTrue, IsSome, None, true, IfOk, OnErr};
 ghost use Rattle.std.specs.List.{range_with_len};
 ghost use Rattle.group_types.specs.Dimensions.{space_of};
 ghost use Rattle.group_types.specs.declared.process.ProcessId.TheVariants.{ParityNode};
 ghost use Rattle.erasure_code.specs.Spaces.{bytes_at};
+ghost use Rattle.group_types.specs.Hash.{home_of};
+ghost use Rattle.group_types.specs.Lists.{at};
+ghost use Rattle.memc_table.specs.Act.{key_of};
 ghost use Rattle.group_run.specs.Applying.{head_at, replica_of, sending};
 ghost use Rattle.group_run.specs.Asking.{ask_process, collect_from, fate_of, only};
 ghost use Rattle.group_run.specs.Fitting.{Fits};
@@ -11,6 +14,7 @@ ghost use Rattle.group_run.specs.Receiving as machine;
 ghost use Rattle.group_run.specs.Replica.{callers, last_of};
 ghost use Rattle.group_run.specs.World.{flush_process};
 ghost use Rattle.head_service.specs.Acting.{name_of};
+ghost use Rattle.process_service.specs.Current.{is_current};
 ghost use Rattle.process_service.specs.Noticing.{waiting};
 ghost use Rattle.process_service.specs.Steps.{called, stepped};
 ghost use Rattle.leader_role.specs.Sound.{IsOfGroup};
@@ -69,6 +73,7 @@ impl ParityProcess {
         requires sessions { self.old.process.as_leader.last_session < 2 ^ 62 }
         ensures shape { self.new.shape ≡ self.old.shape }
         ensures step { IfOk result (λ step. ask_process self.old.shape (name_of call) op.now self.old.process ≡ called self.new.process step) }
+        ensures wanted { OnErr result (IsSome (at None self.old.process.heads (home_of (key_of op.now.act) self.old.shape.k))) }
         ensures err { OnErr result (self.new.process ≡ self.old.process) }
     {
         match self.service.ask(call, op, &mut self.bytes)? {
@@ -108,6 +113,7 @@ impl ParityProcess {
         requires group { IsOfGroup self.old.shape message.now self.old.process }
         ensures shape { self.new.shape ≡ self.old.shape }
         ensures step { IfOk result (λ step. machine.receive self.old.shape from message.now self.old.process ≡ stepped self.new.process step) }
+        ensures wanted { OnErr result (is_current self.old.process message.now ≡ true) }
         ensures err { OnErr result (self.new.process ≡ self.old.process) }
     {
         receive(

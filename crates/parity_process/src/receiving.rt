@@ -1,10 +1,13 @@
-ghost use Rattle.std.specs.Prelude.{◌≡◌, ◌<◌, ℕ, List, IfOk, OnErr};
+ghost use Rattle.std.specs.Prelude.{◌≡◌, ◌<◌, ℕ, true, List, None, IfOk, OnErr};
+ghost use Rattle.group_types.specs.Lists.{at};
 ghost use Rattle.group_types.specs.Names.{IsProcess};
 ghost use Rattle.group_message.specs.declared.message.Message.TheVariants as tells;
 ghost use Rattle.group_run.specs.Applying.{quiet};
 ghost use Rattle.group_run.specs.Fitting.{BlockFits, Fits, RowFits};
 ghost use Rattle.group_run.specs.Receiving as machine;
 ghost use Rattle.head_service.specs.Serving.{Serving, serving};
+ghost use Rattle.process_service.specs.Current.{is_current};
+ghost use Rattle.process_service.specs.Standing.{is_under};
 ghost use Rattle.process_service.specs.Steps.{stepped};
 ghost use Rattle.parity_bytes.specs.Bytes.{Stays};
 ghost use Rattle.parity_process.specs.Standing.{IsOver, IsReadyFor};
@@ -31,6 +34,7 @@ pub fn receive(
     ensures over { IsOver service.new bytes.new }
     ensures step { IfOk result (λ step. machine.receive service.old.shape from message.now (serving service.old bytes.old.process)
         ≡ stepped (serving service.new bytes.new.process) step) }
+    ensures wanted { OnErr result (is_current (serving service.old bytes.old.process) message.now ≡ true) }
     ensures service_err { OnErr result (service.new ≡ service.old) }
     ensures bytes_err { OnErr result (bytes.new.process ≡ bytes.old.process) }
 {
@@ -114,6 +118,7 @@ fn acknowledge(
     ensures over { IsOver service.new bytes.new }
     ensures step { IfOk result (λ step. machine.receive service.old.shape from (tells.Ack rank partition number) (serving service.old bytes.old.process)
         ≡ stepped (serving service.new bytes.new.process) step) }
+    ensures wanted { OnErr result (is_under rank.0 (at None service.old.heads partition.0) ≡ true) }
     ensures service_err { OnErr result (service.new ≡ service.old) }
     ensures bytes_err { OnErr result (bytes.new.process ≡ bytes.old.process) }
 {

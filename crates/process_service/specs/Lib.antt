@@ -1,3 +1,4 @@
+pub mod Current
 pub mod Inherited
 pub mod Noticing
 pub mod Standing

@@ -6,7 +6,7 @@ use Rattle.head_service.specs.Peers.{to_all}
 use Rattle.head_service.proofs.issue.Prepared.of.Goals as goal
 
 pub returns-clause-sent : goal.returns-clause-sent
-returns-clause-sent g c = c.in_ok-tell.ensures
-    ∙ ap (λ (xs : List Sent). xs ++ to_all c.args.peers.now (tells.Update c.rank.result c.args.partition c.in_ok-copy_of.field-0 c.args.applied)) c.new-sent.ensures.items
-    ∙ ap (λ (r : ℕ). to_all c.args.peers.now (tells.Update (record { 0 = r }) c.args.partition c.in_ok-copy_of.field-0 c.args.applied)) c.rank.ensures
-    ∙ ap (λ (u : Update). to_all c.args.peers.now (tells.Update (record { 0 = c.args.head.now.rank }) c.args.partition u c.args.applied)) c.in_ok-copy_of.ensures
+returns-clause-sent c = c.in_ok-tell.ensures
+    ∙ ap (λ (xs : List Sent). xs ++ to_all c.args.peers.now (tells.Update c.rank.result c.args.partition c.in_ok-update.update c.args.applied)) c.new-sent.ensures.items
+    ∙ ap (λ (r : ℕ). to_all c.args.peers.now (tells.Update (record { 0 = r }) c.args.partition c.in_ok-update.update c.args.applied)) c.rank.ensures
+    ∙ ap (λ (u : Update). to_all c.args.peers.now (tells.Update (record { 0 = c.args.head.now.rank }) c.args.partition u c.args.applied)) c.in_ok-update.ensures
