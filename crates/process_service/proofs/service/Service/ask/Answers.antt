@@ -1,4 +1,4 @@
-use Rattle.std.proofs.Common.{ℕ, ◌≡◌, ◌<◌, false, List, [], length, map, None, sym, ap, subst, ◌∙◌, arith}
+use Rattle.std.proofs.Common.{ℕ, ◌≡◌, ◌<◌, false, List, [], length, map, None, Some, is_some, sym, ap, subst, ◌∙◌, arith}
 use Rattle.std.proofs.lemmas.List.Elements.{All-set}
 use Rattle.std.specs.Prelude.{set}
 use Rattle.group_types.specs.Dimensions.{Dimensions, space_of}
@@ -22,7 +22,7 @@ use Rattle.process_service.specs.Steps.{IsAsked}
 use Rattle.process_service.proofs.Asked.{asked-at, moved}
 use Rattle.process_service.proofs.Lent.{HasPlace, IsLent, has-replica, head-at, heads-as, lends, narrow, put-back, put-same, ready-of, same-shape, stands, written}
 use Rattle.process_service.proofs.Lists.{all-at, long-set, part-at, part-put}
-use Rattle.process_service.proofs.Results.{on-err, on-ok}
+use Rattle.process_service.proofs.Results.{on-err, on-err-any, on-ok}
 use Rattle.process_service.proofs.Standing.{AreKept, made-kept, peers-are}
 use Rattle.process_service.proofs.service.Service.ask.Given as given
 use Rattle.process_service.proofs.service.Service.ask.Goals as goal
@@ -151,3 +151,12 @@ returns-in-Some-clause-self_err g c = on-err c.ask.result (λ replica same.
     ap (λ (w : Serving). record w { held = held g c }) (put-same (lent g f) c.ask.new.replica replica)
     ∙ ap (λ (hs : List (List Held)). record v { held = hs }) (held-put g c
     ∙ ap (put [] v.held (d g f)) (same ∙ sym (held-is g f)) ∙ put-at [] [] v.held (d g f) (heads-are g f).has_held)) c.ask.ensures.replica_err c.ask.ensures.held_err
+
+pub returns-in-Some-clause-wanted : goal.returns-in-Some-clause-wanted
+returns-in-Some-clause-wanted g c =
+    let f : goal.After-ask-arg-1 g = c.before.before.before in
+    let wide : c.self.inside.shape.k ≡ c.args.self.now.shape.k = ap (λ (w : Serving). w.shape.k) c.self.view_is in
+    let home : d g f ≡ home_of (key_of c.args.op.now.act) c.args.self.now.shape.k
+    = c.home-partition.ensures.value ∙ home-same c.key.result.now c.act.result.now c.args.op.now.act c.k.result c.args.self.now.shape.k c.key.ensures c.act.ensures (c.k.ensures.value ∙ wide) in
+    let head : at None c.args.self.now.heads (d g f) ≡ Some c.in-Some.head = head-at (lent g f).place c.index.result.now c.index.ensures ∙ c.in-Some.is in
+    on-err-any c.ask.result (ap is_some (ap (at None c.args.self.now.heads) (sym home) ∙ head))
