@@ -119,7 +119,9 @@ module _ (s : Dimensions) where
         let before = if-some (λ x. (n ≤ p.as_leader.last_session) × GatheringFollows s settled plan x) (open_session p.as_leader n) gb.session gb.opens session in
         let sound_for = if-some (SoundFor known) (open_session p.as_leader n) gb.session gb.opens sound in
         let has : Contains gb.session.lost d = subst (λ (ls : List ℕ). Contains ls d) same (among-contains (more gb.session).lost d gb.decoded.lost) in
-        let at_lost = if-some (λ x. (e : ℕ) → Contains x.lost e → (plan.numbers e ≤ (replica_of p e).applied) × IfSome (head_at p e) (λ h. h.inherited ≤ plan.numbers e)) (open_session p.as_leader n) gb.session gb.opens (lost name) d has in
+        let at_lost = if-some
+        (λ x. (e : ℕ) → Contains x.lost e → (plan.numbers e ≤ (replica_of p e).applied) × IfSome (head_at p e) (λ h. h.inherited ≤ plan.numbers e))
+        (open_session p.as_leader n) gb.session gb.opens (lost name) d has in
         record {
           number = plan.numbers d;
           values = decodes-right s settled write plan (more gb.session) d b bytes shaped (sounds sound_for) (follows before.1) gb.complete gb.decoded;
@@ -133,7 +135,8 @@ module _ (s : Dimensions) where
         → rebuilt_block (row_comes s n i row p).as_leader d b ≡ Some bytes → GivenAt s settled known (row_comes s n i row p) d b bytes
     row-given i row among is d b bytes before after =
         let gb = row-gives s p.as_leader n i row d b bytes before after in
-        let given = gives d b bytes gb.session (with_row i row) gb refl (λ follows. row-more s settled l n plan i row gb.session among is follows) (λ sound_for. row-sound s settled write plan i row gb.session sound_for.sound) in
+        let given = gives d b bytes gb.session (with_row i row) gb refl (λ follows. row-more s settled l n plan i row gb.session among is follows)
+        (λ sound_for. row-sound s settled write plan i row gb.session sound_for.sound) in
         record { number = given.number; values = given.values; lost = given.lost; applied = given.applied; inherited = given.inherited }
 
     -- a block comes
@@ -158,7 +161,8 @@ module _ (s : Dimensions) where
     marking = apply_to s d k (begin_copy s leader n block p)
 
     begun-leader : (b : Bool)
-        → ((copy_begun b s leader n block p).as_leader ≡ p.as_leader) × ((copy_begun b s leader n block p).name ≡ p.name) × ((copy_begun b s leader n block p).heads ≡ p.heads) × ((copy_begun b s leader n block p).replicas ≡ p.replicas)
+        → ((copy_begun b s leader n block p).as_leader ≡ p.as_leader) × ((copy_begun b s leader n block p).name ≡ p.name) ×
+        ((copy_begun b s leader n block p).heads ≡ p.heads) × ((copy_begun b s leader n block p).replicas ≡ p.replicas)
     begun-leader true = (refl, refl, refl, refl)
     begun-leader false = (refl, refl, refl, refl)
 
@@ -166,7 +170,9 @@ module _ (s : Dimensions) where
     begun-all = begun-leader (is_some (copy_in p.as_row.copies leader n))
 
     begun-bears : Bears s n p begun
-    begun-bears = bears-same s n p begun begun-all.2 (ap (λ (x : LeaderState). x.sessions) begun-all.0) (λ e. let same = ap (λ (rs : List Replica). (at empty_replica rs e).applied) begun-all.3 in omega (arith, same))
+    begun-bears =
+        bears-same s n p begun begun-all.2 (ap (λ (x : LeaderState). x.sessions) begun-all.0)
+        (λ e. let same = ap (λ (rs : List Replica). (at empty_replica rs e).applied) begun-all.3 in omega (arith, same))
 
     marking-bears : Bears s n p marking
     marking-bears = bears-then s n p begun marking begun-bears (bears-apply s n d k begun)

@@ -67,7 +67,9 @@ module _ (F : ℕ → ℕ → List Update → Type 0) (s : Dimensions) (v w : St
 
     by : GrewBy d (v.settled d) (w.settled d) (w.process p) → GoesOn (w.settled d) (replica_of (v.process p) d)
     by (inl same) = subst (λ (us : List Update). GoesOn us (replica_of (v.process p) d)) (sym same) (goes-on (v.settled d) (replica_of (v.process p) d) was.applied was.prolongs)
-    by (inr has) = goes-grown (v.settled d) (w.settled d) (replica_of (v.process p) d) (history (w.settled d) (replica_of (w.process p) d)) was.applied ((both d below).3 has.head has.heads) now.prolongs
+    by (inr has) =
+        goes-grown (v.settled d) (w.settled d) (replica_of (v.process p) d) (history (w.settled d) (replica_of (w.process p) d)) was.applied
+        ((both d below).3 has.head has.heads) now.prolongs
 
   pub applies : AppliesSettled s w.settled (v.process p) t
   applies = record {

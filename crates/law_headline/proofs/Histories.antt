@@ -42,7 +42,8 @@ unbuilt-before d b p q stays none = by (rebuilt_block p.as_leader d b) refl wher
   by None is = is
   by (Some bytes) is = absurd (cc (sym (stays b (ap is_some is)) ∙ ap is_some none))
 
-module _ (s : Dimensions) (d : ℕ) (old new : List Update) (p q : Process) (within : (replica_of p d).applied ≤ length old) (within_now : (replica_of q d).applied ≤ length new) (stays : StaysBuilt d p q) where
+module _ (s : Dimensions) (d : ℕ) (old new : List Update) (p q : Process) (within : (replica_of p d).applied ≤ length old)
+    (within_now : (replica_of q d).applied ≤ length new) (stays : StaysBuilt d p q) where
   -- nothing was put behind the log
   pub off-long : ((h : Head) → head_at q d ≡ Some h → Long d p q)
       → ((h : Head) → head_at q d ≡ Some h → Begins (history old (replica_of p d)) (history new (replica_of q d))) → HeadOff s d old p → HeadOff s d new q

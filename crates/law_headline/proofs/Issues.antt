@@ -109,7 +109,8 @@ column-at s us d space below is =
       zero-plus : 0 + d ≡ d
       zero-plus = omega arith
 
-module _ (s : Dimensions) (shaped : IsShape s) (calls : List Call) (v : State) (members : Members s v) (reach : Reach (FineIn s calls) s v) (write : SettledWrite s v.settled) (holds : HoldsBytes s v) where
+module _ (s : Dimensions) (shaped : IsShape s) (calls : List Call) (v : State) (members : Members s v) (reach : Reach (FineIn s calls) s v)
+    (write : SettledWrite s v.settled) (holds : HoldsBytes s v) where
   module _ (p : ProcessId) (pin : IsProcess s p) (lives : v.dead p ≡ false) (d : ℕ) (below : d < s.k) (h : Head) (heads : head_at (v.process p) d ≡ Some h) where
     pub keeps : IsKeeper d p
     keeps = head-keeps (v.process p) d h p (members.sits p d pin lives below) heads

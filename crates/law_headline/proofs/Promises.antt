@@ -184,7 +184,9 @@ module _ (h : History) (calls : List Call) (shaped : IsShape h.world.shape) (who
   stamp-spaces stamp many = subst (AreSpaces h.world.shape) (stamp-columns (upto stamp) stamp many (λ d n below is. ap (λ (x : ℕ). take x (at [] h.settled d)) (number-of stamp d n is))) (record {
     many = areas.many;
     long = areas-long h.world.shape.k 0 (space_of h.world.shape) (λ d. value (upto stamp d)) (columns h.world.shape (upto stamp)) areas;
-    bytes = areas-bytes h.world.shape.k 0 (space_of h.world.shape) (λ d. value (upto stamp d)) (columns h.world.shape (upto stamp)) areas (λ d x below. value-byte h.world.shape (upto stamp d) x (writes d below));
+    bytes =
+        areas-bytes h.world.shape.k 0 (space_of h.world.shape) (λ d. value (upto stamp d)) (columns h.world.shape (upto stamp)) areas
+        (λ d x below. value-byte h.world.shape (upto stamp d) x (writes d below));
   }) where
     writes : SettledWrite h.world.shape (upto stamp)
     writes d below = each-take (WritesBytes h.world.shape) (at 0 stamp d) (at [] h.settled d) (write d below)

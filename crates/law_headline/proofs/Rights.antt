@@ -64,7 +64,8 @@ pub flushed-right : (s : Dimensions) (settled : ℕ → List Update) (p : Proces
 flushed-right s settled p = none-right s settled p p (λ d b none. none)
 
 -- a living process before a step, with what is settled after it
-module _ (s : Dimensions) (calls : List Call) (v w : State) (p : ProcessId) (pin : IsProcess s p) (lives : v.dead p ≡ false) (whole : Whole s calls v) (grows : (d : ℕ) → d < s.k → Begins (v.settled d) (w.settled d)) where
+module _ (s : Dimensions) (calls : List Call) (v w : State) (p : ProcessId) (pin : IsProcess s p) (lives : v.dead p ≡ false) (whole : Whole s calls v)
+    (grows : (d : ℕ) → d < s.k → Begins (v.settled d) (w.settled d)) where
   applied-before : IsParity (v.process p).name → (d : ℕ) → d < s.k → (replica_of (v.process p) d).applied ≤ length (v.settled d)
   applied-before parity d below = by (parity-is p (subst IsParity (whole.carried.members.named p pin) parity)) where
     by : (i : ℕ) × (p ≡ ParityNode i) → (replica_of (v.process p) d).applied ≤ length (v.settled d)

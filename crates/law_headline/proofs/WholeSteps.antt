@@ -58,7 +58,8 @@ treats-built s shaped v w p t i is pin lives treated members holds new write app
 
   holding : Holding s w.settled (rebuilt_at (v.process p)) t.process
   holding =
-      treats-hold s w.settled write (rebuilt_at (v.process p)) (v.process p) p t (record { name = members.named p pin; some = some; sits = λ e low. members.sits p e pin lives low }) pin (members.not_self p pin lives) treated
+      treats-hold s w.settled write (rebuilt_at (v.process p)) (v.process p) p t
+      (record { name = members.named p pin; some = some; sits = λ e low. members.sits p e pin lives low }) pin (members.not_self p pin lives) treated
       (parity-ready s w.settled (v.process p) i named t applies) (parity-inside s w.settled (v.process p) i named) new applies next
       (holding-from s w.settled (v.process p) (before-holds s v v w p t pin members (λ q qin. refl) (λ q qin. refl) (λ e. refl) acts lives holds))
 
@@ -96,7 +97,9 @@ module _ (s : Dimensions) (calls more : List Call) (v w : State) (p : ProcessId)
 
     by : (ParityNode i ≡ p) ⊎ (ParityNode i ≢ p) → HeadOff s d (w.settled d) (w.process (ParityNode i))
     by (inr apart) = other-off i d iin lived below apart (off i d iin lived below)
-    by (inl same) = subst (λ (y : ProcessId). HeadOff s d (w.settled d) (w.process y)) (sym same) (own i d (sym same) below (subst (λ (y : ProcessId). HeadOff s d (v.settled d) (v.process y)) same (off i d iin lived below)))
+    by (inl same) =
+        subst (λ (y : ProcessId). HeadOff s d (w.settled d) (w.process y)) (sym same)
+        (own i d (sym same) below (subst (λ (y : ProcessId). HeadOff s d (v.settled d) (v.process y)) same (off i d iin lived below)))
 
   module _ (both : LeavesEach s more v w p) (i d : ℕ) (is : p ≡ ParityNode i) (below : d < s.k) where
     pub parity-keeps : IsKeeper d p

@@ -162,7 +162,8 @@ settled-more d n settled r applied prolongs numbers more within =
     let m : ℕ = n - a in
     let new : new_ones c (settled_in d (settlements d (up_to n r))) ≡ drop (c - a) (take m r.log) =
     ap (new_ones c) (settled-in-own d (up_to n r))
-    ∙ new-behind c a (take m r.log) (numbered-front (suc a) (take m r.log) (drop m r.log) (subst (NumberedFrom (suc a)) (sym (take-append-drop m r.log)) (log-numbered settled r applied numbers))) applied in
+    ∙ new-behind c a (take m r.log)
+    (numbered-front (suc a) (take m r.log) (drop m r.log) (subst (NumberedFrom (suc a)) (sym (take-append-drop m r.log)) (log-numbered settled r applied numbers))) applied in
     let split : m ≡ (c - a) + (n - c) = omega (arith, more, applied) in
     let long = front-long settled r applied in
     let front : settled ≡ take a settled ++ take (c - a) r.log =
@@ -187,6 +188,7 @@ settled-no-more d n settled r applied prolongs numbers low =
     let taken : length (take m r.log) ≡ m = length-take-le m r.log few in
     let new : new_ones c (settled_in d (settlements d (up_to n r))) ≡ [] =
     ap (new_ones c) (settled-in-own d (up_to n r))
-    ∙ new-behind c a (take m r.log) (numbered-front (suc a) (take m r.log) (drop m r.log) (subst (NumberedFrom (suc a)) (sym (take-append-drop m r.log)) (log-numbered settled r applied numbers))) applied
+    ∙ new-behind c a (take m r.log)
+    (numbered-front (suc a) (take m r.log) (drop m r.log) (subst (NumberedFrom (suc a)) (sym (take-append-drop m r.log)) (log-numbered settled r applied numbers))) applied
     ∙ drop_all (c - a) (take m r.log) (omega (arith, taken, low)) in
     ap (λ (us : List Update). settled ++ us) new ∙ append-nil settled

@@ -227,7 +227,9 @@ module _ (F : ℕ → ℕ → List Update → Type 0) (d : ℕ) (settled : List 
   lower-next : (a b : Seen) (m : Message) → Lower a b → Lower (next d a m) (next d b m)
   lower-next a b (tells.Update r e u stable) lower =
       subst (λ (t : Bool). Lower (appended t u stable a) (appended (is_live d b e.0 r.0) u stable b)) (sym (same-live a b lower e.0 r.0)) (lower-appended (is_live d b e.0 r.0) a b u stable lower)
-  lower-next a b (tells.Adopt r e base list) lower = subst (λ (t : Bool). Lower (replaced t r.0 base list a) (replaced (is_live d b e.0 r.0) r.0 base list b)) (sym (same-live a b lower e.0 r.0)) (lower-replaced (is_live d b e.0 r.0) a b r.0 base list lower)
+  lower-next a b (tells.Adopt r e base list) lower =
+      subst (λ (t : Bool). Lower (replaced t r.0 base list a) (replaced (is_live d b e.0 r.0) r.0 base list b)) (sym (same-live a b lower e.0 r.0))
+      (lower-replaced (is_live d b e.0 r.0) a b r.0 base list lower)
   lower-next a b (tells.Stable r e n) lower =
       subst (λ (t : Bool). Lower (raised t n a) (raised (is_live d b e.0 r.0) n b)) (sym (same-live a b lower e.0 r.0)) (lower-raised (is_live d b e.0 r.0) a b n lower)
   lower-next a b (tells.Mark session r block e n) lower =
@@ -254,7 +256,9 @@ module _ (F : ℕ → ℕ → List Update → Type 0) (d : ℕ) (settled : List 
     fine = subst (λ (us : List Update). Fine F d base (take base us ++ list)) (sym lower.history) old.fine;
   }
   lower-goes a b (tells.Stable r e n) lower goes = λ live. let old = goes (sym (same-live a b lower e.0 r.0) ∙ live) in record { rank = old.rank ∙ sym lower.rank; number_settled = old.number_settled }
-  lower-goes a b (tells.Mark session r block e n) lower goes = λ live. let old = goes (sym (same-live a b lower e.0 r.0) ∙ live) in record { rank = old.rank ∙ sym lower.rank; number_settled = old.number_settled; above = let low = lower.number in let most = old.above in omega (arith, low, most) }
+  lower-goes a b (tells.Mark session r block e n) lower goes =
+      λ live. let old = goes
+      (sym (same-live a b lower e.0 r.0) ∙ live) in record { rank = old.rank ∙ sym lower.rank; number_settled = old.number_settled; above = let low = lower.number in let most = old.above in omega (arith, low, most) }
   lower-goes a b (tells.Ack r e n) lower goes = tt
   lower-goes a b (tells.ReadBlock session block rows) lower goes = tt
   lower-goes a b (tells.Block session bytes n) lower goes = tt

@@ -87,4 +87,5 @@ module _ (turns : List Turn) where
       by (inl same) = subst (IsClean turns d 0) (sym same) clean
       by (inr has) =
           let keeps = ((leaves d below).0).replicas p pin living (keeper-rank d has.head.rank p (head-from s w d members below p has.head pin living has.heads).0) in
-          clean-front d (replica_of (w.process p) d).applied 0 (w.settled d) (history (w.settled d) (replica_of (w.process p) d)) (record { longer = keeps.prolongs.reaches; same = keeps.prolongs.front }) keeps.fine.1
+          clean-front d (replica_of (w.process p) d).applied 0 (w.settled d) (history (w.settled d) (replica_of (w.process p) d))
+          (record { longer = keeps.prolongs.reaches; same = keeps.prolongs.front }) keeps.fine.1

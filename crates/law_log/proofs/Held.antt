@@ -128,7 +128,8 @@ module _ (s : Dimensions) (shaped : IsShape s) where
     );
     receives = λ v u w x p m xin pin apart up lives both pops acts. (
       (keeps_reach s shaped).receives v u w x p m xin pin apart up lives both.0 pops acts,
-      all-held v w p both.0.0 both.0.1 (receives-both Any any-laws s shaped v u w x p m xin pin apart up lives both.0.0 both.0.1 pops acts) (λ q qin other. acts.others q qin other ∙ pops.processes q qin)
+      all-held v w p both.0.0 both.0.1 (receives-both Any any-laws s shaped v u w x p m xin pin apart up lives both.0.0 both.0.1 pops acts)
+          (λ q qin other. acts.others q qin other ∙ pops.processes q qin)
           (λ q qin. acts.dead q qin ∙ pops.dead q qin)
           (λ d below. subst (Begins (v.settled d)) (sym (acts.settled d below ∙ ap (settled_with (receive s x m (v.process p)).settled d) (pops.settled d))) (settled-begins (receive s x m (v.process p)).settled d (v.settled d)))
           (λ d P all more. subst (λ (y : Process). Each P (held_at y d)) (sym acts.process) (subst (λ (held : List (List Held)). Each P (at [] held d)) (sym (holds-receive s x m (v.process p))) all)) both.1,
@@ -177,7 +178,8 @@ held-settled s v members reach stand p d x pin living below there low = by (head
       ended = of.outcome;
     }
     in_part (inr logged) =
-        let above : suc r.applied ≤ of.update.number = each-contained (λ u. suc r.applied ≤ u.number) r.log of.update (numbered-low (suc r.applied) r.log (log-numbered (v.settled d) r reaches.applied reaches.fine.0)) logged in
+        let above : suc r.applied ≤ of.update.number = each-contained (λ u. suc r.applied ≤ u.number) r.log of.update
+        (numbered-low (suc r.applied) r.log (log-numbered (v.settled d) r reaches.applied reaches.fine.0)) logged in
         let number = of.number in
         absurd (omega (arith, above, number, low))
 
@@ -219,13 +221,17 @@ held-at d settled r head fits x of = record {
       let number = numbered-at 1 settled (x.number - 1) u numbered is in
       let above = each-contained (λ v. 1 ≤ v.number) (history settled r) of.update (numbered-low 1 (history settled r) fits.fine.0) of.there in
       let named = of.number in
-      same u (begins-contains settled (history settled r) (record { longer = fits.prolongs.reaches; same = fits.prolongs.front }) u (get-contained settled (x.number - 1) u is)) (omega (arith, number, above, named));
+      same u
+      (begins-contains settled (history settled r) (record { longer = fits.prolongs.reaches; same = fits.prolongs.front }) u (get-contained settled (x.number - 1) u is))
+      (omega (arith, number, above, named));
   waits = λ u high is.
       let number = numbered-at (suc r.applied) r.log (x.number - r.applied - 1) u (log-numbered settled r fits.applied fits.fine.0) is in
       same u (Contains-append_right (take r.applied settled) r.log u (get-contained r.log (x.number - r.applied - 1) u is)) (omega (arith, number, high));
 } where
   numbered : NumberedFrom 1 settled
-  numbered = subst (NumberedFrom 1) fits.prolongs.front (numbered-front 1 (take (length settled) (history settled r)) (drop (length settled) (history settled r)) (subst (NumberedFrom 1) (sym (take-append-drop (length settled) (history settled r))) fits.fine.0))
+  numbered =
+      subst (NumberedFrom 1) fits.prolongs.front
+      (numbered-front 1 (take (length settled) (history settled r)) (drop (length settled) (history settled r)) (subst (NumberedFrom 1) (sym (take-append-drop (length settled) (history settled r))) fits.fine.0))
 
   same : (u : Update) → Contains (history settled r) u → u.number ≡ x.number → IsHeldFrom x u
   same u there number =

@@ -100,7 +100,8 @@ module _ (s : Dimensions) where
       })
       by (inl here) =
           let it : awaits.session ≡ g = cc (sym awaits.opens ∙ ap (opened p) here ∙ opens) in
-          closes complete b (ap (λ (x : Gathering). x.block) (sym it) ∙ awaits.block) (ap (λ (x : Gathering). x.lost) (sym it) ∙ awaits.lost) (gathered-here s h g p.as_leader number opens is-number complete)
+          closes complete b (ap (λ (x : Gathering). x.block) (sym it) ∙ awaits.block) (ap (λ (x : Gathering). x.lost) (sym it) ∙ awaits.lost)
+          (gathered-here s h g p.as_leader number opens is-number complete)
 
   row-serves : (number i : ℕ) (bytes : List ℕ) (p : Process) → Serves p (row_comes s number i bytes p)
   row-serves number i bytes p = by (opened p number) refl where
@@ -155,7 +156,8 @@ module _ (s : Dimensions) where
       kept : (b : Bool) (c : Copy) (z : Process) → Serves z (copy_kept b s c z).process
       kept true c z =
           let y : Process = with_copies (without_copy c.leader c.number z.as_row.copies) z in
-          serves-then z y (row_finished (same_process z.name (ParityNode c.leader)) s c y).process (copies-serve (without_copy c.leader c.number z.as_row.copies) z) (finished (same_process z.name (ParityNode c.leader)) c y)
+          serves-then z y (row_finished (same_process z.name (ParityNode c.leader)) s c y).process
+          (copies-serve (without_copy c.leader c.number z.as_row.copies) z) (finished (same_process z.name (ParityNode c.leader)) c y)
       kept false c z = copies-serve _ z
 
       found : (o : Option Copy) → Serves (apply_to s d n (begin_copy s l number block p)) (copy_marked s d n o (apply_to s d n (begin_copy s l number block p))).process

@@ -147,13 +147,15 @@ module _ (space inherited : ℕ) (r : Replica) (store : Store) (op : Asked) (rea
     needed-found (Missing b) found = tt
     needed-found (Bytes bytes) found =
         let same : bytes ≡ own = reads (run_in slot) bytes within found in
-        sound-ruled (ruling_on slot bytes) (ruling_on slot own) (alike-same (is_touch op.act) (ruling_on slot bytes) (ruling_on slot own) (ap (ruling_on slot) same)) (unread.real-on r store op slot is)
+        sound-ruled (ruling_on slot bytes) (ruling_on slot own)
+        (alike-same (is_touch op.act) (ruling_on slot bytes) (ruling_on slot own) (ap (ruling_on slot) same)) (unread.real-on r store op slot is)
 
     needed : (b : Bool) → (reads_bytes op.act && is_live op.moment slot.until && nat_lt 0 slot.len) ≡ b
         → IsSound space inherited r store op (decide_found space r op read (Some slot) (item_found read (Some slot) (if b then Some (run_in slot) else None)))
     needed true need = needed-found (read (run_in slot)) refl
     needed false none =
-        sound-ruled (ruling_on slot (unseen (Some slot))) (ruling_on slot own) (unread.unneeded r store op slot is within (reads_bytes op.act) (is_live op.moment slot.until) refl none) (unread.real-on r store op slot is)
+        sound-ruled (ruling_on slot (unseen (Some slot))) (ruling_on slot own)
+        (unread.unneeded r store op slot is within (reads_bytes op.act) (is_live op.moment slot.until) refl none) (unread.real-on r store op slot is)
 
     item : (blind : Option Reply) → blind_reply slot.len (ruling_on slot (unseen (Some slot))) ≡ blind
         → IsSound space inherited r store op (decide_blind space r op read (Some slot) blind)
