@@ -29,9 +29,8 @@ use Rattle.group_run.specs.Process.{Copy, Gathering, Head, Held, LeaderState, Pr
 use Rattle.group_run.specs.Receiving.{death_known, enthroned, notice_comes, read_comes, receive, take_over_if, taken_over, takes_over}
 use Rattle.group_run.specs.Replica.{with_update}
 use Rattle.group_run.specs.Rows.{accepts_mark, begin_copy, copy_begun, copy_in, is_marked, marked, parity_number, with_copies, without_copy}
-use Rattle.law_moves.specs.Moves.{HoldsAlways}
 use Rattle.law_moves.proofs.Moves.{Asks, Collects, Flushes, Keeps, Treats}
-use Rattle.law_moves.specs.State.{State}
+use Rattle.law_moves.specs.State.{State, HoldsAlways}
 use Rattle.law_moves.proofs.Runs.{holds_always}
 use Rattle.law_updates.proofs.Clears.{none-passes}
 

@@ -15,9 +15,8 @@ use Rattle.group_run.specs.Leaders.{rebuilt_block}
 use Rattle.group_run.specs.Process.{Copy, Process}
 use Rattle.group_run.specs.Replica.{Replica, applied_to, empty_replica, up_to}
 use Rattle.law_moves.proofs.Notices.{some-mapped}
-use Rattle.law_bytes.specs.Areas.{IsArea, IsBlock, WritesBytes, block_size, held, value}
+use Rattle.law_bytes.specs.Areas.{IsArea, IsBlock, WritesBytes, block_size, held, value, SettledWrite}
 use Rattle.law_bytes.specs.Held.{CopyHolds, Holds, marked_at, marked_stand, stand}
-use Rattle.law_bytes.specs.Premises.{SettledWrite}
 use Rattle.law_bytes.proofs.Premises.{GoesOn, RebuildsRight}
 use Rattle.law_bytes.proofs.Values.{Concerns, Grows, IsAdded, area-grown, area-same, block-added, held-grows, held-same, inside-concerned, share, space-added}
 

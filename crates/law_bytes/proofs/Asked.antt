@@ -30,7 +30,6 @@ use Rattle.law_moves.specs.State.{IsUp, State}
 use Rattle.law_moves.proofs.Members.{Members, Sits, knows_lower}
 use Rattle.law_moves.proofs.Calls.{Seated, seat-lower}
 use Rattle.erasure_code.proofs.Nodes.{Among}
-use Rattle.law_bytes.specs.Premises.{SettledWrite}
 use Rattle.law_bytes.proofs.Premises.{GoesOn, NextIsNew}
 use Rattle.law_bytes.proofs.Applying.{Holding, holding-from, rebuilt_at}
 use Rattle.law_bytes.proofs.Copies.{holding-leader}
@@ -50,6 +49,7 @@ use Rattle.law_bytes.proofs.PlansKeeping.{fresh}
 use Rattle.law_bytes.proofs.Opening.{leads-rows, opening_plan}
 use Rattle.law_bytes.proofs.Owning.{owns-given}
 use Rattle.law_bytes.proofs.Rebuilds.{received, sound-for}
+use Rattle.law_bytes.specs.Areas.{SettledWrite}
 
 module _ (s : Dimensions) (shaped : IsShape s) (settled : ℕ → List Update) (write : SettledWrite s settled) (old : ℕ → ℕ → Bool) (p : Process) (x : ProcessId) (seated : Seated s p x) (inside : IsProcess s x) (living : knows_dead p.known x ≡ false)
     (goes : (d : ℕ) → d < s.k → GoesOn (settled d) (replica_of p d)) (next : NextIsNew s p) (holds : Holding s settled old p) (needs : NeedsInside s p) (many : length (lost_by s p.known) ≤ length (left_by s p.known))

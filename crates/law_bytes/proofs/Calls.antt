@@ -32,7 +32,6 @@ use Rattle.law_moves.proofs.Moves.{Treats, Asks, Collects, Flushes}
 use Rattle.law_moves.proofs.Members.{Sits, knows_lower}
 use Rattle.law_moves.proofs.Calls.{Seated, each-below, seat-lower, Wants, wants_at_parity}
 use Rattle.erasure_code.proofs.Nodes.{Among}
-use Rattle.law_bytes.specs.Premises.{SettledWrite}
 use Rattle.law_bytes.proofs.Premises.{GoesOn, NextIsNew}
 use Rattle.law_bytes.proofs.Applying.{Holding}
 use Rattle.law_bytes.proofs.Copies.{holding-leader}
@@ -47,6 +46,7 @@ use Rattle.law_bytes.proofs.Stamps.{Follows, GatheringFollows, OfSession, Plan}
 use Rattle.law_bytes.proofs.Following.{Passes, any, passes-judge, passes-self, passes-then, still-passes, still-same}
 use Rattle.law_bytes.proofs.PlanMarking.{t}
 use Rattle.law_bytes.proofs.Opening.{leads-rows, opening_plan, owns-pass}
+use Rattle.law_bytes.specs.Areas.{SettledWrite}
 
 -- a data process never needs a block to be rebuilt
 pub data-never : (s : Dimensions) (inherited : ℕ) (op : Asked) (d e b : ℕ) (p : Process) → decide (space_of s) inherited (replica_of p d) op (found_at s d p (DataNode e)) ≡ decides.NeedBlock b → ⊥

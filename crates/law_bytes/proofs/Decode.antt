@@ -28,10 +28,9 @@ use Rattle.group_types.proofs.Eaches.{each-append, each-take, each-weaker}
 use Rattle.group_message.specs.declared.update.Update.{Update}
 use Rattle.group_run.specs.Leaders.{columns_from, decoded_of, is_complete}
 use Rattle.group_run.specs.Process.{Gathering}
-use Rattle.law_bytes.specs.Areas.{IsArea, IsBlock, WritesBytes, block_size, code, held, value}
+use Rattle.law_bytes.specs.Areas.{IsArea, IsBlock, WritesBytes, block_size, code, held, value, SettledWrite}
 use Rattle.law_bytes.specs.Decoding.{GathersRight, Rising, SessionsDecode, SpaceIs, SpacesStand, columns, values}
 use Rattle.law_bytes.specs.Held.{stand}
-use Rattle.law_bytes.specs.Premises.{SettledWrite}
 use Rattle.law_bytes.proofs.Rising.{Differ, all-among, all-each, among-contains, among-left, among-range, among-right, any-among, contains-among, differ-append, differ-pairs, differ-rising, each-among, rising-same}
 use Rattle.law_bytes.proofs.Values.{IsAdded, space-added, value-byte}
 

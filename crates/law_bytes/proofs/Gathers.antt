@@ -9,9 +9,8 @@ use Rattle.group_types.proofs.Lists.{at-put-other}
 use Rattle.group_message.specs.declared.update.Update.{Update}
 use Rattle.group_run.specs.Leaders.{is_complete}
 use Rattle.group_run.specs.Process.{Gathering}
-use Rattle.law_bytes.specs.Areas.{IsBlock, WritesBytes, code, value}
+use Rattle.law_bytes.specs.Areas.{IsBlock, WritesBytes, code, value, SettledWrite}
 use Rattle.law_bytes.specs.Decoding.{GathersRight}
-use Rattle.law_bytes.specs.Premises.{SettledWrite}
 use Rattle.law_bytes.proofs.Decode.{sessions_decode}
 use Rattle.law_bytes.proofs.Rebuilding.{IsDecoded, with_block, with_row}
 use Rattle.law_bytes.proofs.Rising.{among-contains}

@@ -20,8 +20,7 @@ use Rattle.group_run.specs.Process.{Copy, Gathering, Head, LeaderState, Process}
 use Rattle.group_run.specs.Receiving.{death_known, notice_comes, take_over_if, taken_over, takes_over}
 use Rattle.group_run.specs.Replica.{Replica, empty_replica, up_to}
 use Rattle.group_run.specs.Rows.{begin_copy, copy_begun, copy_in, is_copy, is_marked, marked, stamp_of, with_copies, without_copy}
-use Rattle.law_bytes.specs.Areas.{IsBlock, code, value}
-use Rattle.law_bytes.specs.Premises.{SettledWrite}
+use Rattle.law_bytes.specs.Areas.{IsBlock, code, value, SettledWrite}
 use Rattle.law_bytes.proofs.Applying.{at-rebuilt}
 use Rattle.law_bytes.proofs.Finds.{if-some}
 use Rattle.law_bytes.proofs.Rebuilding.{GivesBlock, block-gives, row-gives, with_block, with_row}

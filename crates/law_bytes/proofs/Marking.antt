@@ -18,7 +18,6 @@ use Rattle.group_run.specs.Process.{Copy, Process}
 use Rattle.group_run.specs.Replica.{Replica, applied_to, empty_replica, up_to}
 use Rattle.group_run.specs.Rows.{accepts_mark, begin_copy, copy_begun, copy_in, is_copy, is_marked, marked, new_copy, with_copies, without_copy}
 use Rattle.law_bytes.specs.Held.{CopyHolds}
-use Rattle.law_bytes.specs.Premises.{SettledWrite}
 use Rattle.law_bytes.proofs.Premises.{GoesOn, MarkIsNew}
 use Rattle.law_bytes.proofs.Applying.{Holding, applied-here, at-rebuilt}
 use Rattle.law_bytes.proofs.Copies.{begun-holds, holding-same, mark-holds}
@@ -26,6 +25,7 @@ use Rattle.law_bytes.proofs.Finding.{and-join, and-split, found-exchanged, found
 use Rattle.law_bytes.proofs.Finds.{found-behind, found-map, if-some, if-weaker}
 use Rattle.law_bytes.proofs.Stepping.{apply-keeps}
 use Rattle.law_bytes.proofs.Values.{Concerns, Inside, inside-concerned}
+use Rattle.law_bytes.specs.Areas.{SettledWrite}
 
 -- partitions that aren't marked in a copy
 abbrev pub IsOpen : List ℕ → Copy → Type 0

@@ -19,7 +19,6 @@ use Rattle.group_run.specs.Process.{Copy, Process}
 use Rattle.group_run.specs.Replica.{Replica, applied_to, empty_replica, up_to}
 use Rattle.group_run.specs.Rows.{accepts_mark, begin_copy, copy_begun, copy_in, is_copy, is_marked, marked, new_copy, with_copies, without_copy}
 use Rattle.erasure_code.proofs.Nodes.{Among}
-use Rattle.law_bytes.specs.Premises.{SettledWrite}
 use Rattle.law_bytes.proofs.Premises.{GoesOn, MarkIsNew}
 use Rattle.law_bytes.proofs.Applying.{Holding}
 use Rattle.law_bytes.proofs.Finding.{and-join, found-exchanged, found-filter, found-passes}
@@ -31,6 +30,7 @@ use Rattle.law_bytes.proofs.Local.{copy-parts}
 use Rattle.law_bytes.proofs.Stamps.{AmongRows, Plan}
 use Rattle.law_bytes.proofs.Following.{Passes, passes-self, passes-then}
 use Rattle.law_bytes.proofs.Receiving.{mark-passes}
+use Rattle.law_bytes.specs.Areas.{SettledWrite}
 
 -- the plan that a leader begins a session with
 abbrev pub opening_plan : Dimensions → ℕ → Process → Plan

@@ -18,7 +18,6 @@ use Rattle.group_run.specs.Leaders.{copy_kept, copy_marked, is_complete, mark_co
 use Rattle.group_run.specs.Process.{Copy, Gathering, Head, Process}
 use Rattle.group_run.specs.Replica.{Replica, applied_to, empty_replica, up_to}
 use Rattle.group_run.specs.Rows.{accepts_mark, begin_copy, copy_begun, copy_in, is_marked, marked, with_copies, without_copy}
-use Rattle.law_bytes.specs.Premises.{SettledWrite}
 use Rattle.law_bytes.proofs.Premises.{GoesOn, MarkIsNew}
 use Rattle.law_bytes.proofs.Applying.{Holding, at-rebuilt}
 use Rattle.law_bytes.proofs.Copies.{stays-row}
@@ -38,6 +37,7 @@ use Rattle.law_bytes.proofs.Gathers.{row-sound}
 use Rattle.law_bytes.proofs.Giving.{SoundFor, taken-given}
 use Rattle.law_bytes.proofs.Opening.{open-own, other-replica, owns-pass}
 use Rattle.law_bytes.proofs.Receiving.{mark-holds}
+use Rattle.law_bytes.specs.Areas.{SettledWrite}
 
 module _ (s : Dimensions) where
   -- applied numbers don't fall, heads stay, and so do rebuilt blocks

@@ -28,7 +28,6 @@ use Rattle.law_moves.proofs.Calls.{each-below}
 use Rattle.law_moves.proofs.Standing.{sender-lives}
 use Rattle.erasure_code.proofs.Nodes.{Among}
 use Rattle.law_bytes.specs.Decoding.{Rising}
-use Rattle.law_bytes.specs.Premises.{SettledWrite}
 use Rattle.law_bytes.proofs.Premises.{AppliesSettled, MarkIsNew, MarksNew}
 use Rattle.law_bytes.proofs.Applying.{Holding, holding-from, rebuilt_at}
 use Rattle.law_bytes.proofs.Finds.{found-if, rising-take}
@@ -44,6 +43,7 @@ use Rattle.law_bytes.proofs.Stamps.{AmongRows, Follows, LostFollows, Plan, Proce
 use Rattle.law_bytes.proofs.Giving.{SoundFor, block-given, none-acked, none-apply, none-given, none-notice, none-self, none-when, row-given, taken-given}
 use Rattle.law_bytes.proofs.Growing.{grown}
 use Rattle.law_bytes.proofs.Receiving.{mark-holds}
+use Rattle.law_bytes.specs.Areas.{SettledWrite}
 
 -- a parity process by its number
 parity-of : (q : ProcessId) → IsParity q → (l : ℕ) × (q ≡ ParityNode l)

@@ -19,13 +19,13 @@ use Rattle.group_run.specs.Receiving.{ack_to, adopting, log_adopted, read_comes,
 use Rattle.group_run.specs.Replica.{Replica, empty_replica, with_update}
 use Rattle.group_run.specs.Rows.{copies_ceased, parity_number}
 use Rattle.law_bytes.specs.Held.{CopyHolds}
-use Rattle.law_bytes.specs.Premises.{SettledWrite}
 use Rattle.law_bytes.proofs.Premises.{AppliesSettled, GoesOn, MarksNew}
 use Rattle.law_bytes.proofs.Applying.{Holding}
 use Rattle.law_bytes.proofs.Copies.{holding-leader, holding-same, stays-block, stays-row}
 use Rattle.law_bytes.proofs.Marking.{mark-received}
 use Rattle.law_bytes.proofs.Stepping.{Ready, apply-keeps, good-judge, good-notice}
 use Rattle.law_bytes.proofs.Values.{Concerns}
+use Rattle.law_bytes.specs.Areas.{SettledWrite}
 
 -- the partition of a message concerns its receiver
 abbrev pub Addresses : Dimensions → Message → ProcessId → Type 0

@@ -21,9 +21,8 @@ use Rattle.group_run.specs.Replica.{Replica, empty_replica, with_update}
 use Rattle.group_run.specs.Rows.{accepts_mark, begin_copy, block_in, copy_in, is_copy, marked, parity_number}
 use Rattle.law_moves.specs.State.{State}
 use Rattle.law_moves.proofs.Members.{IsParity, MayStand}
-use Rattle.law_bytes.specs.Areas.{IsArea, IsBlock, held, value}
+use Rattle.law_bytes.specs.Areas.{IsArea, IsBlock, held, value, SettledWrite}
 use Rattle.law_bytes.specs.Held.{CopyHolds, stand}
-use Rattle.law_bytes.specs.Premises.{SettledWrite}
 use Rattle.law_bytes.proofs.Premises.{AppliesSettled, GoesOn, MarkIsNew, MarksNew}
 use Rattle.law_bytes.proofs.Applying.{Holding}
 use Rattle.law_bytes.proofs.Copies.{block-of-space, marked-holds}

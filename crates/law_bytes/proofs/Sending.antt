@@ -33,9 +33,8 @@ use Rattle.group_run.specs.Replica.{Replica, empty_replica}
 use Rattle.group_run.specs.Rows.{accepts_mark, begin_copy, copy_in, is_copy, is_marked, marked, parity_number, stamp_of, with_copies, without_copy}
 use Rattle.law_moves.proofs.Moves.{Treats, Asks, Collects, Flushes}
 use Rattle.law_moves.proofs.Calls.{each-below}
-use Rattle.law_bytes.specs.Areas.{IsArea, IsBlock, block_size, code, held, value}
+use Rattle.law_bytes.specs.Areas.{IsArea, IsBlock, block_size, code, held, value, SettledWrite}
 use Rattle.law_bytes.specs.Held.{CopyHolds, Holds, marked_stand, stand}
-use Rattle.law_bytes.specs.Premises.{SettledWrite}
 use Rattle.law_bytes.proofs.Premises.{AppliesSettled, GoesOn, MarkIsNew, MarksNew}
 use Rattle.law_bytes.proofs.Applying.{Holding}
 use Rattle.law_bytes.proofs.Copies.{block-of-space, marked-holds}

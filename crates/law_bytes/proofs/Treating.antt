@@ -30,7 +30,6 @@ use Rattle.group_types.specs.Names.{IsProcess}
 use Rattle.group_types.specs.declared.process.ProcessId.{ProcessId}
 use Rattle.group_types.specs.Each.{Each}
 use Rattle.group_types.proofs.Eaches.{each-weaker, each-filter}
-use Rattle.law_bytes.specs.Premises.{SettledWrite}
 use Rattle.law_bytes.proofs.Premises.{AppliesSettled, SettlesNext, NextIsNew}
 use Rattle.law_bytes.proofs.Applying.{Holding, applied-holds}
 use Rattle.law_bytes.proofs.Copies.{holding-same}
@@ -39,6 +38,7 @@ use Rattle.law_bytes.proofs.Marking.{Differ, IsOpen, owns-hold}
 use Rattle.law_bytes.proofs.Stepping.{Ready}
 use Rattle.law_bytes.proofs.Unasked.{never-asks}
 use Rattle.law_bytes.proofs.Values.{Concerns, Inside}
+use Rattle.law_bytes.specs.Areas.{SettledWrite}
 
 -- what is settled of one partition is of it
 settled-one : (d : ℕ) (us : List Update) → settled_in d (settlements d us) ≡ us

@@ -30,8 +30,7 @@ use Rattle.law_histories.proofs.Reach.{ReplicaReaches}
 use Rattle.law_histories.proofs.Around.{Grown}
 use Rattle.law_log.specs.Book.{call_if}
 use Rattle.law_log.proofs.CallWords.{IsNextCall}
-use Rattle.law_bytes.specs.Areas.{WritesBytes}
-use Rattle.law_bytes.specs.Premises.{SettledWrite}
+use Rattle.law_bytes.specs.Areas.{WritesBytes, SettledWrite}
 use Rattle.law_bytes.proofs.Premises.{AppliesSettled, SettlesNext}
 use Rattle.law_bytes.proofs.Applying.{each-behind}
 use Rattle.law_bytes.proofs.Fresh.{marks-new}

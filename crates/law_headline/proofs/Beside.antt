@@ -33,9 +33,9 @@ use Rattle.law_updates.proofs.Laws.{FineFits}
 use Rattle.law_updates.specs.Store.{no_store}
 use Rattle.law_updates.proofs.Fines.{fine_histories_fit}
 use Rattle.law_updates.proofs.Histories.{store-items}
-use Rattle.law_bytes.specs.Premises.{SettledWrite}
 use Rattle.law_bytes.proofs.LeadingWords.{SessionsFit}
 use Rattle.law_bytes.proofs.Fresh.{marks-new}
+use Rattle.law_bytes.specs.Areas.{SettledWrite}
 use Rattle.law_headline.proofs.Issues.{FineIn, fine-writes, fits, replica-of-history}
 use Rattle.law_headline.proofs.Joint.{Whole}
 use Rattle.law_headline.proofs.Needs.{WantsWhere, needs-inside, wants-where}

@@ -22,8 +22,7 @@ use Rattle.law_histories.proofs.HistoryWords.{Begins}
 use Rattle.law_histories.proofs.Lanes.{begins-append}
 use Rattle.law_histories.proofs.Calls.{still-collect, still-flush}
 use Rattle.law_histories.proofs.Keeping as reaching
-use Rattle.law_bytes.specs.Areas.{IsBlock, value}
-use Rattle.law_bytes.specs.Premises.{SettledWrite}
+use Rattle.law_bytes.specs.Areas.{IsBlock, value, SettledWrite}
 use Rattle.law_bytes.proofs.Premises.{AppliesSettled, SettlesNext}
 use Rattle.law_bytes.proofs.Fresh.{marks-new}
 use Rattle.law_headline.proofs.Issues.{FineIn, fine-laws}

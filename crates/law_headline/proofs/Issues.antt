@@ -40,11 +40,10 @@ use Rattle.law_updates.proofs.Fines.{fine_histories_fit, histories_are_fine, iss
 use Rattle.law_histories.proofs.HistoryWords.{HistoryLaws}
 use Rattle.law_histories.proofs.Reach.{IsKeeper, Reach, ReplicaFits, ReplicaReaches}
 use Rattle.law_histories.proofs.Histories.{front-long, length-history, log-is}
-use Rattle.law_bytes.specs.Areas.{HasBytes, WritesBytes}
+use Rattle.law_bytes.specs.Areas.{HasBytes, WritesBytes, SettledWrite}
 use Rattle.law_bytes.specs.Decoding.{columns, values}
 use Rattle.law_bytes.specs.Held.{stand}
 use Rattle.law_bytes.proofs.Held.{HoldsBytes}
-use Rattle.law_bytes.specs.Premises.{SettledWrite}
 use Rattle.law_bytes.proofs.Decode.{spaces_stand}
 use Rattle.law_log.proofs.CallWords.{IsNextCall}
 use Rattle.law_headline.proofs.Reading.{reads}

@@ -47,7 +47,6 @@ use Rattle.law_log.proofs.CallWords.{IsNextCall}
 use Rattle.law_log.proofs.Entries.{accepted-from}
 use Rattle.law_bytes.proofs.Held.{HoldsBytes}
 use Rattle.law_bytes.proofs.Law.{StepIsRight}
-use Rattle.law_bytes.specs.Premises.{SettledWrite}
 use Rattle.law_bytes.proofs.Premises.{AppliesSettled, MarksNew, RebuildsRight, SettlesNext}
 use Rattle.law_bytes.proofs.BytesKeeping.{bytes_kept}
 use Rattle.law_bytes.proofs.Exact.{MessagesExact}
@@ -55,6 +54,7 @@ use Rattle.law_bytes.proofs.FreshWords.{IsUnmarked}
 use Rattle.law_bytes.proofs.Exacts.{exact_kept}
 use Rattle.law_bytes.proofs.Fresh.{marks-new}
 use Rattle.law_bytes.proofs.TokensKeeping as sessions
+use Rattle.law_bytes.specs.Areas.{SettledWrite}
 use Rattle.law_headline.proofs.Applies.{Unkept, applies}
 use Rattle.law_headline.proofs.Issues.{FineIn, fine-laws, fine-writes, fits, head-keeps, issue}
 use Rattle.law_headline.proofs.Nexts.{act-next, nothing-next}

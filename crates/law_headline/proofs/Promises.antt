@@ -40,11 +40,10 @@ use Rattle.law_log.proofs.Held.{held_always}
 use Rattle.law_log.proofs.HeldWords.{HeldIsSettled}
 use Rattle.law_bytes.specs.Decoding.{AreSpaces, SpaceIs, columns, values}
 use Rattle.law_bytes.specs.Held.{stand}
-use Rattle.law_bytes.specs.Premises.{SettledWrite}
 use Rattle.law_bytes.proofs.Decode.{AreAreas, areas-bytes, areas-long, columns-areas, spaces_stand}
 use Rattle.law_bytes.proofs.Survivors.{spaces_determine}
 use Rattle.law_bytes.proofs.Values.{value-byte}
-use Rattle.law_bytes.specs.Areas.{WritesBytes, value}
+use Rattle.law_bytes.specs.Areas.{WritesBytes, value, SettledWrite}
 use Rattle.law_headline.proofs.Issues.{FineIn, column-at, fine-writes, fits, head-reads}
 use Rattle.law_headline.proofs.Joint.{Whole}
 use Rattle.law_headline.proofs.Reading.{store-values}

@@ -22,8 +22,8 @@ use Rattle.law_histories.proofs.HistoryWords.{Begins}
 use Rattle.law_histories.proofs.Lanes.{begins-append}
 use Rattle.law_histories.proofs.Around.{enters}
 use Rattle.law_histories.proofs.Ranks.{Used, head-from, lower-rank, used}
-use Rattle.law_bytes.specs.Premises.{SettledWrite}
 use Rattle.law_bytes.proofs.Premises.{AppliesSettled}
+use Rattle.law_bytes.specs.Areas.{SettledWrite}
 use Rattle.law_headline.proofs.Issues.{FineIn}
 use Rattle.law_headline.proofs.Joint.{LeavesEach, Whole, applies-after, both_received, dead_received, marks-received, members_received, same_received, write-after}
 use Rattle.law_headline.proofs.Apart.{HeadOff, HeadsOff}

@@ -22,7 +22,6 @@ use Rattle.law_histories.proofs.HistoryWords.{Begins}
 use Rattle.law_histories.proofs.Histories.{history-grown}
 use Rattle.law_histories.proofs.Reach.{IsKeeper, Reach, ReplicaReaches}
 use Rattle.law_bytes.proofs.Held.{HoldsBytes}
-use Rattle.law_bytes.specs.Premises.{SettledWrite}
 use Rattle.law_bytes.proofs.Premises.{AppliesSettled, MarksNew, NextIsNew, SettlesNext}
 use Rattle.law_bytes.proofs.Applying.{Holding, holding-from, rebuilt_at}
 use Rattle.law_bytes.proofs.BytesKeeping.{addressed, before-holds}
@@ -30,6 +29,7 @@ use Rattle.law_bytes.proofs.Receipts.{Addresses, received-holds}
 use Rattle.law_bytes.proofs.Stepping.{Ready}
 use Rattle.law_bytes.proofs.Treating.{treats-hold}
 use Rattle.law_bytes.proofs.Values.{Concerns, Inside}
+use Rattle.law_bytes.specs.Areas.{SettledWrite}
 use Rattle.law_headline.proofs.Issues.{FineIn}
 use Rattle.law_headline.proofs.Joint.{LeavesEach}
 use Rattle.law_headline.proofs.Apart.{HeadOff, HeadsOff, StaysOff}
