@@ -24,10 +24,10 @@ use Rattle.law_moves.proofs.Moves.{Acted, Asks}
 use Rattle.law_moves.specs.State.{IsUp, State}
 use Rattle.law_moves.proofs.Members.{Members}
 use Rattle.law_moves.proofs.Keeping as members
-use Rattle.law_histories.proofs.HistoryWords.{Begins}
 use Rattle.law_histories.proofs.Lanes.{begins-append}
 use Rattle.law_histories.proofs.Reach.{ReplicaReaches}
 use Rattle.law_histories.proofs.Around.{Grown}
+use Rattle.law_histories.proofs.LaneWords.{Prolongs}
 use Rattle.law_log.specs.Book.{call_if}
 use Rattle.law_log.proofs.CallWords.{IsNextCall}
 use Rattle.law_bytes.specs.Areas.{WritesBytes, SettledWrite}
@@ -85,8 +85,8 @@ module _ (s : Dimensions) (shaped : IsShape s) (calls : List Call) (v w : State)
   applies : AppliesSettled s w.settled (v.process p) t
   applies = applies-after s shaped calls more grown v w p t pin lives whole acts.process acts.others acts.dead after both
 
-  begins : (d : ℕ) → d < s.k → Begins (v.settled d) (w.settled d)
-  begins d below = subst (Begins (v.settled d)) (sym (acts.settled d below)) (begins-append (v.settled d) (new_ones (length (v.settled d)) (settled_in d t.settled)))
+  begins : (d : ℕ) → d < s.k → Prolongs (v.settled d) (w.settled d)
+  begins d below = subst (Prolongs (v.settled d)) (sym (acts.settled d below)) (begins-append (v.settled d) (new_ones (length (v.settled d)) (settled_in d t.settled)))
 
   module _ (i : ℕ) (is : p ≡ ParityNode i) where
     stays : (d : ℕ) → d < s.k → StaysBuilt d (v.process p) (w.process p)

@@ -18,10 +18,10 @@ use Rattle.group_run.specs.World.{Call, new_ones, settled_in}
 use Rattle.law_moves.proofs.Moves.{Acted, Popped}
 use Rattle.law_moves.specs.State.{IsUp, State}
 use Rattle.law_moves.proofs.Members.{MayStand}
-use Rattle.law_histories.proofs.HistoryWords.{Begins}
 use Rattle.law_histories.proofs.Lanes.{begins-append}
 use Rattle.law_histories.proofs.Around.{enters}
 use Rattle.law_histories.proofs.Ranks.{Used, head-from, lower-rank, used}
+use Rattle.law_histories.proofs.LaneWords.{Prolongs}
 use Rattle.law_bytes.proofs.Premises.{AppliesSettled}
 use Rattle.law_bytes.specs.Areas.{SettledWrite}
 use Rattle.law_headline.proofs.Issues.{FineIn}
@@ -79,9 +79,9 @@ module _ (s : Dimensions) (shaped : IsShape s) (calls : List Call) (v u w : Stat
   abbrev dead : (q : ProcessId) → IsProcess s q → w.dead q ≡ v.dead q
   dead = dead_received s shaped calls v u w x p m xin pin apart up lives whole pops acts
 
-  pub begins : (d : ℕ) → d < s.k → Begins (v.settled d) (w.settled d)
-  begins d below = subst (λ (us : List Update). Begins us (w.settled d)) (pops.settled d)
-      (subst (Begins (u.settled d)) (sym (acts.settled d below)) (begins-append (u.settled d) (new_ones (length (u.settled d)) (settled_in d (receive s x m (v.process p)).settled))))
+  pub begins : (d : ℕ) → d < s.k → Prolongs (v.settled d) (w.settled d)
+  begins d below = subst (λ (us : List Update). Prolongs us (w.settled d)) (pops.settled d)
+      (subst (Prolongs (u.settled d)) (sym (acts.settled d below)) (begins-append (u.settled d) (new_ones (length (u.settled d)) (settled_in d (receive s x m (v.process p)).settled))))
 
   write : SettledWrite s w.settled
   write =

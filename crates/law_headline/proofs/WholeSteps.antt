@@ -18,9 +18,9 @@ use Rattle.group_run.specs.History.{history}
 use Rattle.law_moves.proofs.Moves.{Acted, Popped, Treats}
 use Rattle.law_moves.specs.State.{State}
 use Rattle.law_moves.proofs.Members.{MayStand, Members}
-use Rattle.law_histories.proofs.HistoryWords.{Begins}
 use Rattle.law_histories.proofs.Histories.{history-grown}
 use Rattle.law_histories.proofs.Reach.{IsKeeper, Reach, ReplicaReaches}
+use Rattle.law_histories.proofs.LaneWords.{Prolongs}
 use Rattle.law_bytes.proofs.Held.{HoldsBytes}
 use Rattle.law_bytes.proofs.Premises.{AppliesSettled, MarksNew, NextIsNew, SettlesNext}
 use Rattle.law_bytes.proofs.Applying.{Holding, holding-from, rebuilt_at}
@@ -79,7 +79,7 @@ received-built s v u w x p m i is pin lives members holds may marks write applie
 
 -- one process made a step
 module _ (s : Dimensions) (calls more : List Call) (v w : State) (p : ProcessId) (pin : IsProcess s p) (lives : v.dead p ≡ false) (reach : Reach (FineIn s calls) s v)
-    (others : (q : ProcessId) → IsProcess s q → q ≢ p → w.process q ≡ v.process q) (dead : (q : ProcessId) → IsProcess s q → w.dead q ≡ v.dead q) (begins : (d : ℕ) → d < s.k → Begins (v.settled d) (w.settled d)) where
+    (others : (q : ProcessId) → IsProcess s q → q ≢ p → w.process q ≡ v.process q) (dead : (q : ProcessId) → IsProcess s q → w.dead q ≡ v.dead q) (begins : (d : ℕ) → d < s.k → Prolongs (v.settled d) (w.settled d)) where
   -- another process's history is as it was
   other-off : (i d : ℕ) → i < s.m → v.dead (ParityNode i) ≡ false → d < s.k → ParityNode i ≢ p → HeadOff s d (v.settled d) (v.process (ParityNode i))
       → HeadOff s d (w.settled d) (w.process (ParityNode i))

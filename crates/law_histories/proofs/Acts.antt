@@ -19,9 +19,8 @@ use Rattle.group_run.specs.History.{history}
 use Rattle.law_moves.specs.State.{State}
 use Rattle.law_moves.proofs.Members.{MayStand, Members}
 use Rattle.law_moves.proofs.Reading.{some-same}
-use Rattle.law_histories.proofs.LaneWords.{AckBelow, AckFits, Goes, MarkGoes, NumberGoes, Seen, is_live, next, raised}
+use Rattle.law_histories.proofs.LaneWords.{AckBelow, AckFits, Goes, MarkGoes, NumberGoes, Seen, is_live, next, raised, Prolongs}
 use Rattle.law_histories.proofs.Reach.{EndsAt, IsKeeper, LaneReaches, ReplicaFits, ReplicaReaches, seen_at}
-use Rattle.law_histories.proofs.HistoryWords.{Begins}
 use Rattle.law_histories.proofs.Around.{Around, HeadSits, grew-turned, keeper-rank, since-head, since-trans}
 use Rattle.law_histories.proofs.Folds.{along-append, run-append, run, Along}
 use Rattle.law_histories.proofs.Histories.{length-history}
@@ -81,7 +80,7 @@ module _ (F : ℕ → ℕ → List Update → Type 0) (s : Dimensions) (v : Stat
     since = since-trans around.since (since-head d old new (replica_of old d) same.head same.replica (omega arith) (omega arith));
     unkept = λ not. same.replica ∙ around.unkept not;
     quiet = λ none. around.quiet (sym same.head ∙ none);
-    follows = λ h heads. subst (λ (r : Replica). Begins (history (v.settled d) (replica_of (v.process p) d)) (history settled r)) (sym same.replica) (around.follows h (sym same.head ∙ heads));
+    follows = λ h heads. subst (λ (r : Replica). Prolongs (history (v.settled d) (replica_of (v.process p) d)) (history settled r)) (sym same.replica) (around.follows h (sym same.head ∙ heads));
     grew = grew-turned d (v.settled d) settled old new (λ has. record { head = has.head; heads = same.head ∙ has.heads; all = ap (λ (x : Replica). x.applied) same.replica ∙ has.all }) around.grew;
     issued_here = λ i h iin other heads. subst (λ (x : Replica). Each (AckBelow d (last_of x)) (inn (ParityNode i))) (sym same.replica) (around.issued_here i h iin other (sym same.head ∙ heads));
     issued_there = around.issued_there;
@@ -274,7 +273,7 @@ module _ (F : ℕ → ℕ → List Update → Type 0) (s : Dimensions) (v : Stat
         let from : Used s v d x h.rank = head-from s v d members below x h xin living heads in
         let rank_same : r.0 ≡ h.rank = rank-one d r.0 h.rank (sym parts.0 ∙ from.0) in
         let begins = same-rank-begins F d settled (seen_at d settled proc) (inn x) lane.goes (end.rank ∙ sym rank_same ∙ sym parts.1) in
-        let longer = begins.longer in
+        let longer = begins.reaches in
         let whole : length (run (next d) (seen_at d settled proc) (inn x)).history ≡ length (history settled (replica_of (v.process x) d)) = ap length end.history_is in
         let own = length-history settled (replica_of proc d) (around.own (subst (IsKeeper d) (sym is) tt)).applied in
         let theirs = length-history settled (replica_of (v.process x) d) (around.replicas x xin other living (keeper-rank d h.rank x from.0)).applied in

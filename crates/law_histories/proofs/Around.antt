@@ -20,11 +20,10 @@ use Rattle.group_run.specs.History.{history}
 use Rattle.law_moves.specs.State.{State}
 use Rattle.law_moves.proofs.Members.{MayStand, Members, Sits, seat_of}
 use Rattle.law_moves.proofs.Calls.{seat-known, seat-lower}
-use Rattle.law_histories.proofs.LaneWords.{AckBelow, AckFits, Seen}
+use Rattle.law_histories.proofs.LaneWords.{AckBelow, AckFits, Seen, Prolongs}
 use Rattle.law_histories.proofs.Reach.{IsKeeper, LaneReaches, PartitionReaches, ReplicaReaches, seen_at}
 use Rattle.law_histories.proofs.Lanes.{Stale, ranked-weaker, begins-refl}
 use Rattle.law_histories.proofs.Ranks.{Used, head-from, may-used}
-use Rattle.law_histories.proofs.HistoryWords.{Begins}
 
 -- the head has its rank, under which its replica stands, and all of lower rank are dead
 pub record HeadSits (v : State) (d : ℕ) (p : ProcessId) (proc : Process) (h : Head) : Type 0 where
@@ -81,7 +80,7 @@ grew-turned d old settled p q turn (inr has) = inr (turn has)
 
 -- where the process heads the partition, its history begins with one from before
 abbrev pub FollowsBy : ℕ → List Update → Replica → List Update → Process → Type 0
-FollowsBy d old r settled p = (h : Head) → head_at p d ≡ Some h → Begins (history old r) (history settled (replica_of p d))
+FollowsBy d old r settled p = (h : Head) → head_at p d ≡ Some h → Prolongs (history old r) (history settled (replica_of p d))
 
 -- no more is acknowledged than was issued, still where more was
 pub below-more : (d a b : ℕ) → a ≤ b → (m : Message) → AckBelow d a m → AckBelow d b m

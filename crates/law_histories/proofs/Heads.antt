@@ -28,7 +28,7 @@ use Rattle.law_moves.proofs.Members.{MayStand, Members}
 use Rattle.law_moves.proofs.Reading.{some-same}
 use Rattle.law_histories.proofs.LaneWords.{AckBelow, AckFits, Fine, Goes, Prolongs, Seen, appended, next}
 use Rattle.law_histories.proofs.Reach.{EndsAt, HeadReaches, IsKeeper, KeptGoes, LaneReaches, ReplicaFits, ReplicaReaches, seen_at}
-use Rattle.law_histories.proofs.HistoryWords.{Begins, HistoryLaws}
+use Rattle.law_histories.proofs.HistoryWords.{HistoryLaws}
 use Rattle.law_histories.proofs.Applies.{items-applied, items-grown}
 use Rattle.law_histories.proofs.Around.{Around, HeadSits, below-more, grew-turned, keeper-rank, since-head, since-trans}
 use Rattle.law_histories.proofs.Folds.{along-append, run-append, run, Along}
@@ -159,7 +159,7 @@ module _ (F : ℕ → ℕ → List Update → Type 0) (laws : HistoryLaws F) (s 
     since = since-trans around.since (since-head d proc (apply_to s d n proc) (applied_to n (replica_of proc d)) refl is (omega arith) (omega (arith, last_same)));
     unkept = λ not. absurd (not (keeper-rank d h.rank p sits.name));
     quiet = λ none. absurd (cc (none, heads));
-    follows = λ g is_head. subst (Begins (history (v.settled d) (replica_of (v.process p) d))) (sym same) (around.follows g is_head);
+    follows = λ g is_head. subst (Prolongs (history (v.settled d) (replica_of (v.process p) d))) (sym same) (around.follows g is_head);
     grew = grew-turned d (v.settled d) settled proc (apply_to s d n proc) (λ has. record {
       head = has.head;
       heads = has.heads;
@@ -219,7 +219,7 @@ module _ (F : ℕ → ℕ → List Update → Type 0) (laws : HistoryLaws F) (s 
     quiet = λ none. absurd (cc (heads, sym same_head ∙ none));
     follows =
         λ g is_head. begins-trans (history (v.settled d) (replica_of (v.process p) d)) hist (history settled (replica_of new d)) (around.follows h heads)
-        (subst (Begins hist) (sym grown) (begins-append hist (u ∷ [])));
+        (subst (Prolongs hist) (sym grown) (begins-append hist (u ∷ [])));
     grew = grew-turned d (v.settled d) settled old new (λ has. record { head = has.head; heads = same_head ∙ has.heads; all = ap (λ (x : Replica). x.applied) is ∙ has.all }) around.grew;
     issued_here = λ i g iin other is_head. subst (λ (x : Replica). Each (AckBelow d (last_of x)) (inn (ParityNode i))) (sym is)
         (each-weaker (AckBelow d (last_of r)) (AckBelow d (last_of (with_update u r))) (below-more d (last_of r) (last_of (with_update u r)) last_more) (inn (ParityNode i)) (around.issued_here i g iin other (sym same_head ∙ is_head)));
@@ -342,7 +342,7 @@ module _ (F : ℕ → ℕ → List Update → Type 0) (laws : HistoryLaws F) (s 
     });
     unkept = λ not. same_replica ∙ around.unkept not;
     quiet = λ none. absurd (cc (none, now));
-    follows = λ g is_head. subst (Begins (history (v.settled d) (replica_of (v.process p) d))) (ap (λ (y : Seen). y.history) (sym same_seen)) (around.follows h heads);
+    follows = λ g is_head. subst (Prolongs (history (v.settled d) (replica_of (v.process p) d))) (ap (λ (y : Seen). y.history) (sym same_seen)) (around.follows h heads);
     issued_here = λ j g jin other is_head. subst (λ (x : Replica). Each (AckBelow d (last_of x)) (inn (ParityNode j))) (sym same_replica) (around.issued_here j h jin other heads);
     issued_there = around.issued_there;
     issued_else = around.issued_else;
@@ -425,8 +425,8 @@ module _ (F : ℕ → ℕ → List Update → Type 0) (laws : HistoryLaws F) (s 
 
     -- where that is more than was settled
     module _ (above : length settled < n) where
-      more-begins : Begins settled more
-      more-begins = record { longer = omega (arith, more-long, above); same = take-take (length settled) n hist (omega (arith, above)) ∙ own.prolongs.front }
+      more-begins : Prolongs settled more
+      more-begins = record { reaches = omega (arith, more-long, above); front = take-take (length settled) n hist (omega (arith, above)) ∙ own.prolongs.front }
 
       lane_of : (i : ℕ) → i < s.m → ParityNode i ≢ p → v.dead (ParityNode i) ≡ false
           → LaneReaches F d settled p i false (head_at proc d) (replica_of proc d) (seen_at d settled (v.process (ParityNode i))) (out (ParityNode i)) (inn (ParityNode i))
@@ -449,7 +449,7 @@ module _ (F : ℕ → ℕ → List Update → Type 0) (laws : HistoryLaws F) (s 
       prolongs_at : (i : ℕ) → i < s.m → ParityNode i ≢ p → v.dead (ParityNode i) ≡ false → Prolongs more (seen_at d settled (v.process (ParityNode i))).history
       prolongs_at i iin other living = record {
         reaches = let most = kept.has in omega (arith, most, more-long);
-        front = ap (λ (k : ℕ). take k seen.history) more-long ∙ ap (take n) (sym begins.same) ∙ take-take n (length seen.history) hist kept.has;
+        front = ap (λ (k : ℕ). take k seen.history) more-long ∙ ap (take n) (sym begins.front) ∙ take-take n (length seen.history) hist kept.has;
       } where
         seen : Seen
         seen = seen_at d settled (v.process (ParityNode i))
@@ -457,11 +457,11 @@ module _ (F : ℕ → ℕ → List Update → Type 0) (laws : HistoryLaws F) (s 
         kept : KeptGoes seen h n
         kept = has-all i iin other living
 
-        begins : Begins seen.history hist
+        begins : Prolongs seen.history hist
         begins =
             let lane = lane_of i iin other living in
             let end = lane.ends refl h heads in
-            subst (Begins seen.history) end.history_is (same-rank-begins F d settled seen (out (ParityNode i)) lane.goes (end.rank ∙ sym kept.rank))
+            subst (Prolongs seen.history) end.history_is (same-rank-begins F d settled seen (out (ParityNode i)) lane.goes (end.rank ∙ sym kept.rank))
 
       -- a replica elsewhere
       fits_at : (i : ℕ) → i < s.m → ParityNode i ≢ p → v.dead (ParityNode i) ≡ false → ReplicaReaches F d more (v.process (ParityNode i))
@@ -546,7 +546,7 @@ module _ (F : ℕ → ℕ → List Update → Type 0) (laws : HistoryLaws F) (s 
           → LaneReaches F d more p i false (head_at new d) (replica_of new d) (seen_at d more (v.process (ParityNode i))) (out (ParityNode i)) (inn (ParityNode i))
       out_by i iin other living =
           subst (λ (y : Seen). LaneReaches F d more p i false (head_at new d) (replica_of new d) y (out (ParityNode i)) (inn (ParityNode i))) (sym (same_seen i iin other living)) (record {
-            goes = along-grows F d settled more (let longer = more-begins.longer in longer) seen (out (ParityNode i)) ((lane.ends refl h heads).rank ∙ sym (has-all i iin other living).rank) lane.goes;
+            goes = along-grows F d settled more (let longer = more-begins.reaches in longer) seen (out (ParityNode i)) ((lane.ends refl h heads).rank ∙ sym (has-all i iin other living).rank) lane.goes;
             ends = λ alive g is_head. let end = lane.ends alive g is_head in record {
               rank = end.rank;
               history_is = end.history_is ∙ sym own_same ∙ ap (history more) (sym is_new);
@@ -576,7 +576,7 @@ module _ (F : ℕ → ℕ → List Update → Type 0) (laws : HistoryLaws F) (s 
         since = since-trans around.since (since-head d proc new (applied_to n r) refl is_new (omega arith) (omega (arith, last_same)));
         unkept = λ not. absurd (not (keeper-rank d h.rank p sits.name));
         quiet = λ none. absurd (cc (none, heads));
-        follows = λ g is_head. subst (Begins (history (v.settled d) (replica_of (v.process p) d))) (sym (ap (history more) is_new ∙ own_same)) (around.follows h heads);
+        follows = λ g is_head. subst (Prolongs (history (v.settled d) (replica_of (v.process p) d))) (sym (ap (history more) is_new ∙ own_same)) (around.follows h heads);
         grew = inr (record {
           head = h;
           heads = heads;

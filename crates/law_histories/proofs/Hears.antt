@@ -25,7 +25,7 @@ use Rattle.law_moves.proofs.Members.{MayStand, Members, Reigns, seat_of}
 use Rattle.law_moves.proofs.Reading.{some-same}
 use Rattle.law_histories.proofs.LaneWords.{AckBelow, AckFits, Fine, Goes, Prolongs, Seen, next, replaced}
 use Rattle.law_histories.proofs.Reach.{EndsAt, HeadReaches, IsKeeper, KeptGoes, LaneReaches, ReplicaFits, ReplicaReaches, seen_at}
-use Rattle.law_histories.proofs.HistoryWords.{HistoryLaws, Begins}
+use Rattle.law_histories.proofs.HistoryWords.{HistoryLaws}
 use Rattle.law_histories.proofs.Around.{Around, HeadSits, grew-turned, since-trans}
 use Rattle.law_histories.proofs.Folds.{along-append, run-append, run, Along}
 use Rattle.law_histories.proofs.Heads.{head-inward}
@@ -76,7 +76,7 @@ module _ (F : ℕ → ℕ → List Update → Type 0) (laws : HistoryLaws F) (s 
       by (inl same) =
           let rank_same : b.rank ≡ a.rank = now ∙ sym same in
           let begins = same-rank-step F d settled a m goes (sym hears.rank ∙ rank_same) in
-          (rank_same, let longer = begins.longer in let here : length b.history ≡ length (next d a m).history = ap length hears.history in omega (arith, longer, here))
+          (rank_same, let longer = begins.reaches in let here : length b.history ≡ length (next d a m).history = ap length hears.history in omega (arith, longer, here))
       by (inr other) = absurd (cc (in_use.1.below a.rank (omega (arith, other, risen)), ap v.dead name, living))
 
     -- other links into the process
@@ -337,7 +337,7 @@ module _ (F : ℕ → ℕ → List Update → Type 0) (laws : HistoryLaws F) (s 
       unkept = λ not. absurd (not keeps);
       quiet = λ nothing. absurd (cc (nothing, heads));
       follows =
-          λ h is. subst (Begins (history (v.settled d) (replica_of (v.process p) d)))
+          λ h is. subst (Prolongs (history (v.settled d) (replica_of (v.process p) d)))
           (ap (history (v.settled d)) (sym untouched) ∙ ap (λ (us : List Update). history us r) (sym (around.quiet none)) ∙ ap (history settled) (sym same))
           (begins-refl (history (v.settled d) (replica_of (v.process p) d)));
       grew = grew-turned d (v.settled d) settled old new (λ has. absurd (cc (none, has.heads))) around.grew;

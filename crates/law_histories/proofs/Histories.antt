@@ -15,7 +15,6 @@ use Rattle.group_run.specs.Receiving.{adopting}
 use Rattle.group_run.specs.Replica.{Replica, applied_to, last_of, up_to, with_update}
 use Rattle.group_run.specs.World.{front_if, new_ones, settled_in}
 use Rattle.law_histories.proofs.LaneWords.{Prolongs}
-use Rattle.law_histories.proofs.HistoryWords.{Begins}
 
 -- numbers
 pub numbered-append : (a : ℕ) (us vs : List Update) → NumberedFrom a us → NumberedFrom (a + length us) vs → NumberedFrom a (us ++ vs)
@@ -55,8 +54,8 @@ module _ (settled : List Update) (r : Replica) (applied : r.applied ≤ length s
   log-is = drop_at (take r.applied settled) r.log r.applied front-long
 
   -- where more is settled the history is the same
-  pub history-grown : (more : List Update) → Begins settled more → history more r ≡ history settled r
-  history-grown more begins = ap (λ (us : List Update). us ++ r.log) (sym (take-take r.applied (length settled) more applied) ∙ ap (take r.applied) begins.same)
+  pub history-grown : (more : List Update) → Prolongs settled more → history more r ≡ history settled r
+  history-grown more begins = ap (λ (us : List Update). us ++ r.log) (sym (take-take r.applied (length settled) more applied) ∙ ap (take r.applied) begins.front)
 
   pub history-with_update : (u : Update) → history settled (with_update u r) ≡ history settled r ++ u ∷ []
   history-with_update u = sym (append_assoc (take r.applied settled) r.log (u ∷ []))

@@ -39,9 +39,9 @@ use Rattle.law_moves.proofs.Members.{Members, Sits, is_notice, knows_lower}
 use Rattle.law_moves.proofs.Calls.{seat-head, seat-known, seat-lower}
 use Rattle.law_moves.proofs.Keeping.{keeps, known-is-dead, living-unknown}
 use Rattle.law_histories.proofs.Issuing.{IssueKeeps, IssuesIn}
-use Rattle.law_histories.proofs.LaneWords.{AckBelow, Goes, next}
+use Rattle.law_histories.proofs.LaneWords.{AckBelow, Goes, next, Prolongs}
 use Rattle.law_histories.proofs.Reach.{IsKeeper, Any, HeadReaches, LaneReaches, PartitionReaches, Reach, ReachAlways, ReplicaFits, ReplicaReaches, seen_at}
-use Rattle.law_histories.proofs.HistoryWords.{Begins, HistoryLaws}
+use Rattle.law_histories.proofs.HistoryWords.{HistoryLaws}
 use Rattle.law_histories.proofs.Acts.{act-pop, act-same}
 use Rattle.law_histories.proofs.Around.{Around, GrewBy, Since, enters, lane-is, left, FollowsBy}
 use Rattle.law_histories.proofs.Calls.{ask-leads, still-ask, still-collect, still-flush}
@@ -302,8 +302,8 @@ module _ (F : ℕ → ℕ → List Update → Type 0) (laws : HistoryLaws F) (s 
   receives v u w x p m xin pin apart up lives members reach pops acts d below = (receives-both v u w x p m xin pin apart up lives members reach pops acts d below).0
 
   -- what was settled stays in front
-  pub acted-begins : (v w : State) (p : ProcessId) (t : ProcessStep) → Acted s v w p t → (d : ℕ) → d < s.k → Begins (v.settled d) (w.settled d)
-  acted-begins v w p t acts d below = subst (Begins (v.settled d)) (sym (acts.settled d below)) (settled-begins t.settled d (v.settled d))
+  pub acted-begins : (v w : State) (p : ProcessId) (t : ProcessStep) → Acted s v w p t → (d : ℕ) → d < s.k → Prolongs (v.settled d) (w.settled d)
+  acted-begins v w p t acts d below = subst (Prolongs (v.settled d)) (sym (acts.settled d below)) (settled-begins t.settled d (v.settled d))
 
   -- a process dies: what its links keep still fits
   pub dies : (v w : State) (p : ProcessId) (keep : ℕ) → IsProcess s p → Reach F s v → Died s v w p keep → Reach F s w

@@ -166,7 +166,7 @@ module _ (turns : List Turn) (s : Dimensions) (calls : List Call) (v : State) (c
       (is_adopted s (v.process p) h) call (at None (replica_of (v.process p) d.0).kept caller) is in
       let all = told-all (IsClean turns) d.0 (IsUnnamed told-name) (unnamed-front told-name) s v clear.0 clear.1 below p pin lives h heads adopted unnamed in
       let own = (clear.1 d.0 below).replicas p pin lives (keeper-rank d.0 h.rank p (head-from s v d.0 clear.0 below p h pin lives heads).0) in
-      let settled : IsUnnamed told-name (v.settled d.0) = unnamed-front told-name (v.settled d.0) (history (v.settled d.0) (replica_of (v.process p) d.0)) (record { longer = own.prolongs.reaches; same = own.prolongs.front }) unnamed in (
+      let settled : IsUnnamed told-name (v.settled d.0) = unnamed-front told-name (v.settled d.0) (history (v.settled d.0) (replica_of (v.process p) d.0)) own.prolongs unnamed in (
         clear.0,
         reach-weaker (With (IsClean turns) d.0 (IsUnnamed told-name) (unnamed-front told-name)) (IsClean (turns ++ last ∷ []))
             (λ e a us both. clean-more turns last e a a us both.0 (λ name traced gone. let told = is-told name e traced in subst (λ (n : CallName). IsUnnamed n us) told.0 (both.1 told.1))) s v all,

@@ -23,8 +23,7 @@ use Rattle.group_run.specs.Process.{Head}
 use Rattle.group_run.specs.History.{history}
 use Rattle.law_moves.specs.State.{State}
 use Rattle.law_moves.proofs.Members.{Members, Reigns}
-use Rattle.law_histories.proofs.HistoryWords.{Begins}
-use Rattle.law_histories.proofs.LaneWords.{Goes, Seen, appended, next, replaced}
+use Rattle.law_histories.proofs.LaneWords.{Goes, Seen, appended, next, replaced, Prolongs}
 use Rattle.law_histories.proofs.Lanes.{Stale, rank-rises, run-rises, same-rank-begins, stale-along}
 use Rattle.law_histories.proofs.Reach.{IsKeeper, Reach, seen_at}
 use Rattle.law_histories.proofs.Around.{enters}
@@ -51,7 +50,7 @@ either : (a b : Bool) → (a || b) ≡ true → (a ≡ true) ⊎ (b ≡ true)
 either true b is = inl refl
 either false b is = inr is
 
-module _ (F : ℕ → ℕ → List Update → Type 0) (d : ℕ) (C : List Update → Type 0) (fronts : (us vs : List Update) → Begins us vs → C vs → C us) where
+module _ (F : ℕ → ℕ → List Update → Type 0) (d : ℕ) (C : List Update → Type 0) (fronts : (us vs : List Update) → Prolongs us vs → C vs → C us) where
   -- the sentence on histories, with one more on those of partition d
   abbrev pub With : ℕ → ℕ → List Update → Type 0
   With e a us = F e a us × (e ≡ d → C us)
