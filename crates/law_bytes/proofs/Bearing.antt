@@ -32,6 +32,7 @@ use Rattle.group_run.specs.Receiving.{adopting, death_known, enthroned, notice_c
 use Rattle.group_run.specs.Replica.{Replica, applied_to, empty_replica, with_update}
 use Rattle.group_run.specs.Rows.{accepts_mark, begin_copy, copies_ceased, copy_begun, copy_in, is_marked, marked, parity_number, with_copies, without_copy}
 use Rattle.law_moves.proofs.Moves.{Treats, Asks, Collects, Flushes}
+use Rattle.law_moves.proofs.Chains.{goes-each, goes-when}
 use Rattle.erasure_code.proofs.Nodes.{Among}
 use Rattle.law_bytes.proofs.Finding.{found-behind, found-passes}
 use Rattle.law_bytes.proofs.Finds.{if-some}
@@ -93,12 +94,10 @@ module _ (s : Dimensions) (n : ℕ) where
   bears-apply d k p = bears-same p (apply_to s d k p) refl refl (bears-replica p d (applied_to k (replica_of p d)) (omega arith))
 
   bears-each : (xs : List ℕ) (f : ℕ → Process → ProcessStep) (p : Process) → ((x : ℕ) (q : Process) → Bears q (f x q).process) → Bears p (for_each xs f p).process
-  bears-each [] f p all = bears-self p
-  bears-each (x ∷ xs) f p all = bears-then p (f x p).process (for_each xs f (f x p).process).process (all x p) (bears-each xs f (f x p).process all)
+  bears-each = goes-each (λ p q. Bears p q) bears-self bears-then
 
   bears-when : (b : Bool) (p : Process) (step : ProcessStep) → Bears p step.process → Bears p (when b p step).process
-  bears-when true p step bears = bears
-  bears-when false p step bears = bears-self p
+  bears-when = goes-when (λ p q. Bears p q) bears-self
 
   bears-judge : (d : ℕ) (p : Process) → Bears p (judge s d p).process
   bears-judge d p = by (head_at p d) where

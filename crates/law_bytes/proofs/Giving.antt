@@ -20,6 +20,7 @@ use Rattle.group_run.specs.Process.{Copy, Gathering, Head, LeaderState, Process}
 use Rattle.group_run.specs.Receiving.{death_known, notice_comes, take_over_if, taken_over, takes_over}
 use Rattle.group_run.specs.Replica.{Replica, empty_replica, up_to}
 use Rattle.group_run.specs.Rows.{begin_copy, copy_begun, copy_in, is_copy, is_marked, marked, stamp_of, with_copies, without_copy}
+use Rattle.law_moves.proofs.Chains.{goes-each, goes-when}
 use Rattle.law_bytes.specs.Areas.{IsBlock, code, value, SettledWrite}
 use Rattle.law_bytes.proofs.Applying.{at-rebuilt}
 use Rattle.law_bytes.proofs.Finds.{if-some}
@@ -64,12 +65,10 @@ module _ (s : Dimensions) where
         ∙ none
 
   none-each : (xs : List ℕ) (f : ℕ → Process → ProcessStep) (p : Process) → ((x : ℕ) (q : Process) → NoneStays q (f x q).process) → NoneStays p (for_each xs f p).process
-  none-each [] f p all = none-self p
-  none-each (x ∷ xs) f p all = none-then p (f x p).process (for_each xs f (f x p).process).process (all x p) (none-each xs f (f x p).process all)
+  none-each = goes-each (λ p q. NoneStays p q) none-self none-then
 
   pub none-when : (b : Bool) (p : Process) (step : ProcessStep) → NoneStays p step.process → NoneStays p (when b p step).process
-  none-when true p step stays = stays
-  none-when false p step stays = none-self p
+  none-when = goes-when (λ p q. NoneStays p q) none-self
 
   pub none-judge : (d : ℕ) (p : Process) → NoneStays p (judge s d p).process
   none-judge d p = by (head_at p d) where

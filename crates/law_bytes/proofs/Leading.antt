@@ -38,6 +38,7 @@ use Rattle.law_moves.proofs.Runs.{holds_always}
 use Rattle.law_moves.proofs.Members.{Members, Stands}
 use Rattle.law_moves.proofs.Keeping as members
 use Rattle.law_moves.proofs.Standing.{sender-lives}
+use Rattle.law_moves.proofs.Chains.{goes-each, goes-when}
 use Rattle.law_bytes.proofs.Finds.{found-each}
 use Rattle.law_bytes.proofs.LeadingWords.{IsFor, SessionsAlwaysFit, SessionsFit}
 use Rattle.law_bytes.proofs.Marks.{decoded-same}
@@ -63,12 +64,10 @@ module _ (s : Dimensions) where
   }
 
   each-leads : (xs : List ℕ) (f : ℕ → Process → ProcessStep) (p : Process) → ((x : ℕ) (q : Process) → Leads q (f x q).process) → Leads p (for_each xs f p).process
-  each-leads [] f p all = self-leads p
-  each-leads (x ∷ xs) f p all = then-leads p (f x p).process (for_each xs f (f x p).process).process (all x p) (each-leads xs f (f x p).process all)
+  each-leads = goes-each (λ p q. Leads p q) self-leads then-leads
 
   when-leads : (b : Bool) (p : Process) (step : ProcessStep) → Leads p step.process → Leads p (when b p step).process
-  when-leads true p step leads = leads
-  when-leads false p step leads = self-leads p
+  when-leads = goes-when (λ p q. Leads p q) self-leads
 
   judge-leads : (d : ℕ) (p : Process) → Leads p (judge s d p).process
   judge-leads d p = by (head_at p d) where

@@ -21,6 +21,7 @@ use Rattle.law_bytes.proofs.Copies.{stays-decoded}
 use Rattle.law_bytes.proofs.Finding.{found-passes}
 use Rattle.law_answers.proofs.Awaited.{decoded-some}
 use Rattle.law_moves.proofs.Members.{is_notice}
+use Rattle.law_moves.proofs.Chains.{goes-each, goes-when}
 use Rattle.law_bytes.proofs.LeadingWords.{lost_by}
 use Rattle.law_bytes.proofs.Local.{number-is}
 use Rattle.law_progress.proofs.Waiting.{Has}
@@ -127,12 +128,10 @@ module _ (s : Dimensions) where
     by b (inr rebuilt) = inr rebuilt
 
   when-serves : (b : Bool) (p : Process) (t : ProcessStep) → Serves p t.process → Serves p (when b p t).process
-  when-serves true p t serves = serves
-  when-serves false p t serves = serves-self p
+  when-serves = goes-when (λ p q. Serves p q) serves-self
 
   each-serves : (xs : List ℕ) (f : ℕ → Process → ProcessStep) (p : Process) → ((x : ℕ) (q : Process) → Serves q (f x q).process) → Serves p (for_each xs f p).process
-  each-serves [] f p all = serves-self p
-  each-serves (x ∷ xs) f p all = serves-then p (f x p).process (for_each xs f (f x p).process).process (all x p) (each-serves xs f (f x p).process all)
+  each-serves = goes-each (λ p q. Serves p q) serves-self serves-then
 
   mark-serves : (l number r block d n : ℕ) (p : Process) → Serves p (mark_comes s l number r block d n p).process
   mark-serves l number r block d n p = when-serves (accepts_mark p l number r d) p (mark_taken s l number block d n p)

@@ -1,7 +1,6 @@
 use Rattle.std.proofs.Common.{◌≡◌, ℕ, ◌<◌, true, false, List, [], ◌∷◌, ◌++◌, length, take, drop, append_assoc, refl, sym, ap, ◌∙◌, subst, arith}
 use Rattle.std.proofs.lemmas.List.{append-nil, length-append, length-take, take-append-drop}
 use Rattle.std.proofs.lemmas.List.Elements.{All-nil}
-use Rattle.law_histories.proofs.LaneWords.{Prolongs}
 use Rattle.memc_proto.specs.Reader.{Kept, HasRead, StandsFor, is_ended}
 use Rattle.memc_proto.specs.Reads.{Begins, is_quit}
 use Rattle.memc_proto.specs.Request.{IsRequest}
@@ -19,7 +18,7 @@ Onward text rest found requests = (kept : Kept) (given : List Request) → HasRe
 pub fresh : StandsFor InLine [] []
 fresh = (refl, All-nil (λ (b : ℕ). b ≡ 10 → ⊥), omega arith)
 
-pub begins_at : (rest text : List ℕ) (request : Request) (taken : ℕ) → IsRequest (rest ++ take taken text) request → Prolongs (rest ++ text) request (drop taken text)
+pub begins_at : (rest text : List ℕ) (request : Request) (taken : ℕ) → IsRequest (rest ++ take taken text) request → Begins (rest ++ text) request (drop taken text)
 begins_at rest text request taken is = record {
   text = rest ++ take taken text;
   whole = ap (λ (bs : List ℕ). rest ++ bs) (sym (take-append-drop taken text)) ∙ sym (append_assoc rest (take taken text) (drop taken text));
@@ -74,6 +73,6 @@ feed-none kept mode front piece input before given goes on none stands read =
 
 -- a piece with which a request is whole
 pub feed-whole : (kept now : Kept) (piece input : List ℕ) (before given : List Request) (request : Request) (taken : ℕ) → is_ended kept.mode ≡ false → ((rest : List ℕ) → StandsFor kept.mode kept.front rest → IsRequest (rest ++ take taken piece) request)
-    → ((input : List ℕ) → Prolongs input request (drop taken piece) → HasRead now input given) → HasRead kept input before → HasRead now (input ++ piece) (before ++ given)
+    → ((input : List ℕ) → Begins input request (drop taken piece) → HasRead now input given) → HasRead kept input before → HasRead now (input ++ piece) (before ++ given)
 feed-whole kept now piece input before given request taken goes is behind read =
     has_read-append now before input read.rest piece given read.reads (read.ended ∙ goes) (behind (read.rest ++ piece) (begins_at read.rest piece request taken (is read.rest read.stands)))

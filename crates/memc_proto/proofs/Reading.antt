@@ -1,6 +1,5 @@
 use Rattle.std.proofs.Common.{◌≡◌, ℕ, ◌||◌, Bool, true, false, List, [], ◌∷◌, ◌++◌, append_assoc, MatchBool, refl, sym, ap, ◌∙◌, subst}
 use Rattle.std.specs.List.{list_any}
-use Rattle.law_histories.proofs.LaneWords.{Prolongs}
 use Rattle.memc_proto.specs.Reader.{Kept, HasRead, StandsFor, is_ended}
 use Rattle.memc_proto.specs.Reads.{Begins, Reads, is_quit}
 use Rattle.memc_proto.specs.declared.mode.Mode.{Mode}
@@ -45,8 +44,8 @@ both_read r s requests others after beyond rest left first one other once false 
 -- an input is read in one way
 pub reads-once : (requests others : List Request) (input rest left : List ℕ) → Reads input requests rest → Reads input others left → (requests ≡ others) × (rest ≡ left)
 reads-once [] [] input rest left one other = (refl, sym one.0 ∙ other.0)
-reads-once [] (s ∷ others) input rest left one other = absurd (one.1 s other.0 (subst (λ (i : List ℕ). Prolongs i s other.0) one.0 other.1))
-reads-once (r ∷ requests) [] input rest left one other = absurd (other.1 r one.0 (subst (λ (i : List ℕ). Prolongs i r one.0) other.0 one.1))
+reads-once [] (s ∷ others) input rest left one other = absurd (one.1 s other.0 (subst (λ (i : List ℕ). Begins i s other.0) one.0 other.1))
+reads-once (r ∷ requests) [] input rest left one other = absurd (other.1 r one.0 (subst (λ (i : List ℕ). Begins i r one.0) other.0 one.1))
 reads-once (r ∷ requests) (s ∷ others) input rest left one other =
     both_read r s requests others one.0 other.0 rest left (begins-once input r s one.0 other.0 one.1 other.1) one.2 other.2 (λ mine theirs. reads-once requests others one.0 rest left mine theirs) (is_quit r) refl
 
@@ -60,7 +59,7 @@ has_read-none mode front rest goes stands = record {
 }
 
 -- one more request before those that were read
-pub has_read-cons : (kept : Kept) (request : Request) (input after : List ℕ) (given : List Request) → Prolongs input request after → is_quit request ≡ false → HasRead kept after given → HasRead kept input (request ∷ given)
+pub has_read-cons : (kept : Kept) (request : Request) (input after : List ℕ) (given : List Request) → Begins input request after → is_quit request ≡ false → HasRead kept after given → HasRead kept input (request ∷ given)
 has_read-cons kept request input after given begins goes read = record {
   rest = read.rest;
   reads = (after, begins, with_open _ _ (is_quit request) goes read.reads);
@@ -69,7 +68,7 @@ has_read-cons kept request input after given begins goes read = record {
 }
 
 -- a quit
-pub has_read-quit : (front : List ℕ) (request : Request) (input after : List ℕ) → Prolongs input request after → is_quit request ≡ true → HasRead (record { mode = Ended; front = front }) input (request ∷ [])
+pub has_read-quit : (front : List ℕ) (request : Request) (input after : List ℕ) → Begins input request after → is_quit request ≡ true → HasRead (record { mode = Ended; front = front }) input (request ∷ [])
 has_read-quit front request input after begins quit = record {
   rest = after;
   reads = (after, begins, with_quit _ _ (is_quit request) quit (refl, refl));
@@ -77,7 +76,7 @@ has_read-quit front request input after begins quit = record {
   ended = rw quit refl;
 }
 
-longer : (input : List ℕ) (request : Request) (after piece : List ℕ) → Prolongs input request after → Prolongs (input ++ piece) request (after ++ piece)
+longer : (input : List ℕ) (request : Request) (after piece : List ℕ) → Begins input request after → Begins (input ++ piece) request (after ++ piece)
 longer input request after piece b = record {
   text = b.text;
   whole = ap (λ (i : List ℕ). i ++ piece) b.whole ∙ append_assoc b.text after piece;

@@ -1,7 +1,6 @@
 use Rattle.std.proofs.Common.{◌≡◌, ◌≢◌, ℕ, ◌<◌, false, List, [], ◌∷◌, ◌++◌, length, get_or, append_assoc, add-zero, refl, sym, ap, ◌∙◌, subst, arith}
 use Rattle.std.proofs.lemmas.List.{length-append, get_or-append-add, get_or-take, length-take}
 use Rattle.std.proofs.lemmas.List.Elements.{All-tail}
-use Rattle.law_histories.proofs.LaneWords.{Prolongs}
 use Rattle.memc_proto.specs.Line.{line_of}
 use Rattle.memc_proto.specs.Reader.{Waits, IsTooLong, StandsFor, is_ended}
 use Rattle.memc_proto.specs.Reads.{Begins, IsPartial}
@@ -27,11 +26,11 @@ line_ends (m ∷ a) (n ∷ b) x y plain other same =
     (rw (first, tail.0) refl, tail.1)
 
 -- what an input that begins with a request looks like
-begins_line : (input : List ℕ) (request : Request) (after : List ℕ) (b : Prolongs input request after) → input ≡ b.is.line ++ 10 ∷ (b.is.block ++ after)
+begins_line : (input : List ℕ) (request : Request) (after : List ℕ) (b : Begins input request after) → input ≡ b.is.line ++ 10 ∷ (b.is.block ++ after)
 begins_line input request after b = b.whole ∙ ap (λ (t : List ℕ). t ++ after) b.is.whole ∙ append_assoc b.is.line (10 ∷ b.is.block) after
 
 -- an input begins with one request at most
-pub begins-once : (input : List ℕ) (r s : Request) (x y : List ℕ) → Prolongs input r x → Prolongs input s y → (r ≡ s) × (x ≡ y)
+pub begins-once : (input : List ℕ) (r s : Request) (x y : List ℕ) → Begins input r x → Begins input s y → (r ≡ s) × (x ≡ y)
 begins-once input r s x y one other =
     let same : one.is.line ++ 10 ∷ (one.is.block ++ x) ≡ other.is.line ++ 10 ∷ (other.is.block ++ y) = sym (begins_line input r x one) ∙ begins_line input s y other in
     let parts = line_ends one.is.line other.is.line (one.is.block ++ x) (other.is.block ++ y) one.is.is_line.plain other.is.is_line.plain same in

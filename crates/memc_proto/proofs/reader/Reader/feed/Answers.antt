@@ -1,5 +1,4 @@
 use Rattle.std.proofs.Common.{List, ℕ, ◌++◌, drop, sym, ap, ◌∙◌, subst}
-use Rattle.law_histories.proofs.LaneWords.{Prolongs}
 use Rattle.memc_proto.specs.Reader.{Kept, HasRead, StandsFor, is_ended}
 use Rattle.memc_proto.specs.Reads.{Begins}
 use Rattle.memc_proto.specs.Step.{IsStep}
@@ -41,5 +40,5 @@ returns-in_ok-requests-in-Whole-clause-requests c = λ input before read.
     let known : HasRead kept input before = subst (λ (k : Kept). HasRead k input before) (sym c.self.view_is) read in
     feed-whole kept _ c.args.piece.now input before c.from.result c.in-Whole.request c.in-Whole.taken (sym c.if-is_ended.ensures) step
     (λ all begins. subst (λ (k : Kept). HasRead k all c.from.result) (sym c.reader.view_is) (subst (λ (rs : List Request). HasRead c.in_ok-requests-in-Whole.reader all rs) (sym c.from.ensures)
-    (c.in_ok-requests-in-Whole.ensures all (subst (λ (after : List ℕ). Prolongs all c.in-Whole.request after) (sym c.split_at-in-Whole.ensures.back) begins))))
+    (c.in_ok-requests-in-Whole.ensures all (subst (λ (after : List ℕ). Begins all c.in-Whole.request after) (sym c.split_at-in-Whole.ensures.back) begins))))
     known
