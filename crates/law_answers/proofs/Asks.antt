@@ -218,7 +218,8 @@ module _ (h : History) (framed : FramedHistory h) (members : Members h.world.sha
         (
           need,
           comes-to-be w.shape (process_of w p) b d low (not-rebuilt w.shape d need.run (process_of w p).as_leader b need.missing) (rows-rise w.shape (process_of w p))
-              (length-take-le (length (lost_of w.shape (process_of w p))) (left_by w.shape (process_of w p).known) (enough w.shape (state_of h) members few p pin up.process)) distinct after p same (ap (λ (t : Dimensions). t.k) shape),
+              (length-take-le (length (lost_of w.shape (process_of w p))) (left_by w.shape (process_of w p).known) (enough w.shape (state_of h) members few p pin up.process)) distinct after p same
+              (ap (λ (t : Dimensions). t.k) shape),
         ),
       )
       block-reason after b need (Some o) is shape same =
@@ -274,7 +275,8 @@ module _ (h : History) (framed : FramedHistory h) (members : Members h.world.sha
         let on = waits-for y.inherited op (number_on r.log key) n waits in
         (up, ready, inl (record { home = refl; on_key = on.0; inherited = λ gets. (y, heads, on.1 gets) }))
     head-reason name after shape None waits same =
-        act-reason waits name after (decide_blind (space_of w.shape) r op read (slot_in r.items key) (blind_reply (length_of (slot_in r.items key)) (ruling_with r op (slot_in r.items key) (unseen (slot_in r.items key)))))
+        act-reason waits name after
+        (decide_blind (space_of w.shape) r op read (slot_in r.items key) (blind_reply (length_of (slot_in r.items key)) (ruling_with r op (slot_in r.items key) (unseen (slot_in r.items key)))))
         (caused (space_of w.shape) r store op read fits.long stood.reads (slot_in r.items key) (ap (λ (xs : List (List ℕ × Slot)). slot_in xs key) (sym items)) refl
         (subst (λ (xs : List (List ℕ × Slot)). OfSlot (λ x. x.at + x.len ≤ space_of w.shape) (slot_in xs key)) (sym items) (each-slot (λ x. x.at + x.len ≤ space_of w.shape) key store.items fits.inside)))
         shape same
@@ -286,7 +288,9 @@ module _ (h : History) (framed : FramedHistory h) (members : Members h.world.sha
     no_seat : (r : ℕ) × (seat_of (process_of w p) d ≡ Some r) → ⊥
     no_seat seat = absurd (cc (seat.1, ap (option_map (λ (y : Head). y.rank)) heads))
   by_head name after shape few up (Some y) heads same =
-      head-reason y heads (stands.heads few p d y pin up.process low heads) up (ready-from h members p d pin up.process low y.rank (seat-head (process_of w p) d y heads)) few name after shape (waits_for y.inherited op.act (number_on r.log key)) refl same
+      head-reason y heads (stands.heads few p d y pin up.process low heads) up
+      (ready-from h members p d pin up.process low y.rank (seat-head (process_of w p) d y heads)) few name after shape
+      (waits_for y.inherited op.act (number_on r.log key)) refl same
 
   by_words : (name : CallName) (after : World) → w.shape ≡ after.shape → (down dead : Bool) → (node_of w p).down ≡ down → (node_of w p).dead ≡ dead
       → process_of after p ≡ (if_up down dead (node_of w p) (treated w.shape (node_of w p) (ask_process w.shape name op (process_of w p)))).node.process

@@ -140,7 +140,9 @@ kept-apply s e n p d b = by (cases_eq d e) where
       ∙ ap is_some (at-rebuilt s e (up_to n (replica_of p e)) 0 (at [] p.as_leader.rebuilt e) b)
       ∙ kept (block_after s (DataNode e) e (0 + b) (up_to n (replica_of p e))) (at None (at [] p.as_leader.rebuilt e) b)
       ∙ ap (λ (j : ℕ). is_some (rebuilt_block p.as_leader j b)) (sym same)
-  by (inr other) = ap (λ (bs : List (Option (List ℕ))). is_some (at None bs b)) (at-put-other [] p.as_leader.rebuilt e d (rebuilt_after s e (up_to n (replica_of p e)) 0 (at [] p.as_leader.rebuilt e)) other)
+  by (inr other) =
+      ap (λ (bs : List (Option (List ℕ))). is_some (at None bs b))
+      (at-put-other [] p.as_leader.rebuilt e d (rebuilt_after s e (up_to n (replica_of p e)) 0 (at [] p.as_leader.rebuilt e)) other)
 
 both-true : (a b : Bool) → (a && b) ≡ true → (a ≡ true) × (b ≡ true)
 both-true true b is = (refl, is)
@@ -280,7 +282,8 @@ module _ (s : Dimensions) (p : Process) (l b number d : ℕ) (low : d < s.k) (ri
 
     finished : (same : Bool) (c : Copy) (z : Process) → c.leader ≡ l → c.number ≡ number → IsDistinct z → Comes z.as_leader → Comes (row_finished same s c z).process.as_leader
     finished true c z leader numbered distinct comes =
-        subst (λ (x : ℕ). Comes (row_comes s x c.leader c.bytes z).as_leader) (sym numbered) (subst (λ (x : ℕ). Comes (row_comes s number x c.bytes z).as_leader) (sym leader) (row-comes c.bytes z distinct comes))
+        subst (λ (x : ℕ). Comes (row_comes s x c.leader c.bytes z).as_leader) (sym numbered)
+        (subst (λ (x : ℕ). Comes (row_comes s number x c.bytes z).as_leader) (sym leader) (row-comes c.bytes z distinct comes))
     finished false c z leader numbered distinct comes = comes
 
     kept : (c : Copy) → c.leader ≡ l → c.number ≡ number → IsDistinct (apply_to s e n (begin_copy s l number b q))
@@ -314,14 +317,16 @@ module _ (s : Dimensions) (p : Process) (l b number d : ℕ) (low : d < s.k) (ri
   marks-come : (xs : List ℕ) (q : Process) → IsDistinct q → Comes q.as_leader → Comes (for_each xs (own_mark s l number b) q).process.as_leader
   marks-come [] q distinct comes = comes
   marks-come (x ∷ xs) q distinct comes =
-      marks-come xs (own_mark s l number b x q).process (mark-still s l number (at 0 q.ranks x) b x (replica_of q x).applied q distinct) (mark-comes (at 0 q.ranks x) x (replica_of q x).applied q distinct comes)
+      marks-come xs (own_mark s l number b x q).process (mark-still s l number (at 0 q.ranks x) b x (replica_of q x).applied q distinct)
+      (mark-comes (at 0 q.ranks x) x (replica_of q x).applied q distinct comes)
 
 none-of : (o : Option (List ℕ)) → is_some o ≡ false → o ≡ None
 none-of None none = refl
 none-of (Some x) none = cc none
 
 -- a call that has to wait for a block
-module _ (s : Dimensions) (p : Process) (b d : ℕ) (low : d < s.k) (missing : is_some (rebuilt_block p.as_leader d b) ≡ false) (rising : Rising (rows_of s p)) (many : length (rows_of s p) ≡ length (lost_of s p)) (distinct : IsDistinct p) where
+module _ (s : Dimensions) (p : Process) (b d : ℕ) (low : d < s.k) (missing : is_some (rebuilt_block p.as_leader d b) ≡ false) (rising : Rising (rows_of s p))
+    (many : length (rows_of s p) ≡ length (lost_of s p)) (distinct : IsDistinct p) where
   ends : (after : World) (y : ProcessId) (q : Process) → process_of after y ≡ q → s.k ≡ after.shape.k → IsDistinct q
       → ((g : Gathering) × (g.block ≡ b) × Contains q.as_leader.sessions g × (is_some (rebuilt_block q.as_leader d b) ≡ false)) ⊎ ((s.k ≡ 1) × (is_some (rebuilt_block q.as_leader d b) ≡ true))
       → ComesToBe after y b
@@ -349,7 +354,8 @@ module _ (s : Dimensions) (p : Process) (b d : ℕ) (low : d < s.k) (missing : i
     where
       told : ((g : Gathering) × Waits s p (parity_number p.name) b (suc p.as_leader.last_session) g × Contains (start_session s b p).process.as_leader.sessions g × (is_some (rebuilt_block (start_session s b p).process.as_leader d b) ≡ false))
           ⊎ ((s.k ≡ 1) × (is_some (rebuilt_block (start_session s b p).process.as_leader d b) ≡ true))
-          → ((g : Gathering) × (g.block ≡ b) × Contains (start_session s b p).process.as_leader.sessions g × (is_some (rebuilt_block (start_session s b p).process.as_leader d b) ≡ false)) ⊎ ((s.k ≡ 1) × (is_some (rebuilt_block (start_session s b p).process.as_leader d b) ≡ true))
+          → ((g : Gathering) × (g.block ≡ b) × Contains (start_session s b p).process.as_leader.sessions g × (is_some (rebuilt_block (start_session s b p).process.as_leader d b) ≡ false)) ⊎
+          ((s.k ≡ 1) × (is_some (rebuilt_block (start_session s b p).process.as_leader d b) ≡ true))
       told (inl (g, waits, there, none)) = inl (g, waits.block, there, none)
       told (inr both) = inr both
 

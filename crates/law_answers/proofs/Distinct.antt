@@ -29,9 +29,8 @@ use Rattle.group_run.specs.Process.{Copy, Gathering, Head, Held, LeaderState, Pr
 use Rattle.group_run.specs.Receiving.{death_known, enthroned, notice_comes, read_comes, receive, take_over_if, taken_over, takes_over}
 use Rattle.group_run.specs.Replica.{with_update}
 use Rattle.group_run.specs.Rows.{accepts_mark, begin_copy, copy_begun, copy_in, is_marked, marked, parity_number, with_copies, without_copy}
-use Rattle.law_moves.specs.Moves.{HoldsAlways}
 use Rattle.law_moves.proofs.Moves.{Asks, Collects, Flushes, Keeps, Treats}
-use Rattle.law_moves.specs.State.{State}
+use Rattle.law_moves.specs.State.{State, HoldsAlways}
 use Rattle.law_moves.proofs.Runs.{holds_always}
 use Rattle.law_updates.proofs.Clears.{none-passes}
 
@@ -125,7 +124,10 @@ module _ (s : Dimensions) where
     by x false test same = (refl, refl)
 
     stays : Each (λ x. ((if x.number == g.number then g else x).number ≡ x.number) × ((if x.number == g.number then g else x).block ≡ x.block)) state.sessions
-    stays = each-weaker (λ x. x.number ≡ g.number → x.block ≡ g.block) (λ x. ((if x.number == g.number then g else x).number ≡ x.number) × ((if x.number == g.number then g else x).block ≡ x.block)) (λ x same. by x (x.number == g.number) refl same) state.sessions same
+    stays =
+        each-weaker (λ x. x.number ≡ g.number → x.block ≡ g.block)
+        (λ x. ((if x.number == g.number then g else x).number ≡ x.number) × ((if x.number == g.number then g else x).block ≡ x.block))
+        (λ x same. by x (x.number == g.number) refl same) state.sessions same
 
   found-same : (n : ℕ) (g : Gathering) (gs : List Gathering) → EachTwo Differ gs → find (λ x. x.number == n) gs ≡ Some g → Each (λ x. x.number ≡ g.number → x.block ≡ g.block) gs
   found-same n g gs differ found =
@@ -136,13 +138,17 @@ module _ (s : Dimensions) where
   row-still i number bytes p all = by (open_session p.as_leader number) refl where
     by : (o : Option Gathering) → open_session p.as_leader number ≡ o → Distinct (row_gathered s i bytes o p.as_leader).sessions (row_gathered s i bytes o p.as_leader).last_session
     by None found = all
-    by (Some g) found = gathered-still (is_complete s (record g { rows_in = put None g.rows_in i (Some bytes) })) (record g { rows_in = put None g.rows_in i (Some bytes) }) p.as_leader (found-same number g p.as_leader.sessions all.0 found) all
+    by (Some g) found =
+        gathered-still (is_complete s (record g { rows_in = put None g.rows_in i (Some bytes) }))
+        (record g { rows_in = put None g.rows_in i (Some bytes) }) p.as_leader (found-same number g p.as_leader.sessions all.0 found) all
 
   block-still : (e number : ℕ) (bytes : List ℕ) (p : Process) → Still p (block_comes s number e bytes p)
   block-still e number bytes p all = by (open_session p.as_leader number) refl where
     by : (o : Option Gathering) → open_session p.as_leader number ≡ o → Distinct (block_gathered s e bytes o p.as_leader).sessions (block_gathered s e bytes o p.as_leader).last_session
     by None found = all
-    by (Some g) found = gathered-still (is_complete s (record g { blocks_in = put None g.blocks_in e (Some bytes) })) (record g { blocks_in = put None g.blocks_in e (Some bytes) }) p.as_leader (found-same number g p.as_leader.sessions all.0 found) all
+    by (Some g) found =
+        gathered-still (is_complete s (record g { blocks_in = put None g.blocks_in e (Some bytes) }))
+        (record g { blocks_in = put None g.blocks_in e (Some bytes) }) p.as_leader (found-same number g p.as_leader.sessions all.0 found) all
 
   each-still : (xs : List ℕ) (f : ℕ → Process → ProcessStep) (p : Process) → ((x : ℕ) (q : Process) → Still q (f x q).process) → Still p (for_each xs f p).process
   each-still [] f p all here = here
@@ -183,7 +189,9 @@ module _ (s : Dimensions) where
   pub opened-distinct : (block : ℕ) (p : Process) → IsDistinct p → list_any (λ g. g.block == block) p.as_leader.sessions ≡ false → IsDistinct (session_opened s (suc p.as_leader.last_session) block p)
   opened-distinct block p all none = (
     each_two-push Differ p.as_leader.sessions new all.0 (differs p.as_leader.sessions all.1 (none-passes (λ g. g.block == block) p.as_leader.sessions none)),
-    each-append (λ g. g.number ≤ suc p.as_leader.last_session) p.as_leader.sessions (new ∷ []) (each-weaker (λ g. g.number ≤ p.as_leader.last_session) (λ g. g.number ≤ suc p.as_leader.last_session) (λ g low. omega (arith, low)) p.as_leader.sessions all.1) (omega arith, tt),
+    each-append (λ g. g.number ≤ suc p.as_leader.last_session) p.as_leader.sessions (new ∷ [])
+        (each-weaker (λ g. g.number ≤ p.as_leader.last_session) (λ g. g.number ≤ suc p.as_leader.last_session) (λ g low. omega (arith, low)) p.as_leader.sessions all.1)
+        (omega arith, tt),
   ) where
     new : Gathering
     new = new_session s (suc p.as_leader.last_session) block p
@@ -196,7 +204,8 @@ module _ (s : Dimensions) where
   pub start-still : (block : ℕ) (p : Process) → list_any (λ g. g.block == block) p.as_leader.sessions ≡ false → Still p (start_session s block p).process
   start-still block p none here =
       let number : ℕ = suc p.as_leader.last_session in
-      each-still (lost_of s p) (own_mark s (parity_number p.name) number block) (session_opened s number block p) (λ e q. mark-still (parity_number p.name) number (at 0 q.ranks e) block e (replica_of q e).applied q) (opened-distinct block p here none)
+      each-still (lost_of s p) (own_mark s (parity_number p.name) number block) (session_opened s number block p)
+      (λ e q. mark-still (parity_number p.name) number (at 0 q.ranks e) block e (replica_of q e).applied q) (opened-distinct block p here none)
 
   retry-still : (block : ℕ) (o : Option Oldest) (p : Process) → Still p (retry_block s block o p).step.process
   retry-still block (Some o) p = λ here. here
@@ -295,7 +304,9 @@ module _ (s : Dimensions) where
   keeps = record {
     opens = λ v starts p pin. subst IsDistinct (sym (starts.process p pin)) (tt, tt);
     treats = λ v w p t pin up lives treats all acts. moved v w p t acts.process acts.others pin (treats-still (v.process p) t treats) all;
-    receives = λ v u w x p m xin pin apart up lives all pops acts. moved v w p (receive s x m (v.process p)) acts.process (λ q qin other. acts.others q qin other ∙ pops.processes q qin) pin (receive-still x m (v.process p)) all;
+    receives =
+        λ v u w x p m xin pin apart up lives all pops acts. moved v w p (receive s x m (v.process p)) acts.process
+        (λ q qin other. acts.others q qin other ∙ pops.processes q qin) pin (receive-still x m (v.process p)) all;
     dies = λ v w p keep pin all dies q qin. subst IsDistinct (sym (dies.processes q qin)) (all q qin);
   }
 

@@ -106,9 +106,15 @@ module _ (s : Dimensions) (nodes : List Node) (size : length nodes ≡ s.k + s.m
 links-delivered : (s : Dimensions) (nodes : List Node) (size : length nodes ≡ s.k + s.m) (all : LinksMany s nodes) (x p : ProcessId) (down dead : Bool) (link : List Message)
     → IsProcess s x → IsProcess s p
     → let b : DeliveryStep = delivered down dead s x p (node_in s nodes x) (node_in s nodes p) link in LinksMany s (with_node s p b.receiver.node (with_node s x b.sender nodes))
-links-delivered s nodes size all x p true dead link xin pin = links-one s (with_node s x (node_in s nodes x) nodes) (size-with_node s nodes x (node_in s nodes x) xin size) (links-one s nodes size all x (node_in s nodes x) xin (all x xin)) p (node_in s nodes p) pin (all p pin)
-links-delivered s nodes size all x p false true link xin pin = links-one s (with_node s x (node_in s nodes x) nodes) (size-with_node s nodes x (node_in s nodes x) xin size) (links-one s nodes size all x (node_in s nodes x) xin (all x xin)) p (node_in s nodes p) pin (all p pin)
-links-delivered s nodes size all x p false false [] xin pin = links-one s (with_node s x (node_in s nodes x) nodes) (size-with_node s nodes x (node_in s nodes x) xin size) (links-one s nodes size all x (node_in s nodes x) xin (all x xin)) p (node_in s nodes p) pin (all p pin)
+links-delivered s nodes size all x p true dead link xin pin =
+    links-one s (with_node s x (node_in s nodes x) nodes) (size-with_node s nodes x (node_in s nodes x) xin size)
+    (links-one s nodes size all x (node_in s nodes x) xin (all x xin)) p (node_in s nodes p) pin (all p pin)
+links-delivered s nodes size all x p false true link xin pin =
+    links-one s (with_node s x (node_in s nodes x) nodes) (size-with_node s nodes x (node_in s nodes x) xin size)
+    (links-one s nodes size all x (node_in s nodes x) xin (all x xin)) p (node_in s nodes p) pin (all p pin)
+links-delivered s nodes size all x p false false [] xin pin =
+    links-one s (with_node s x (node_in s nodes x) nodes) (size-with_node s nodes x (node_in s nodes x) xin size)
+    (links-one s nodes size all x (node_in s nodes x) xin (all x xin)) p (node_in s nodes p) pin (all p pin)
 links-delivered s nodes size all x p false false (m ∷ rest) xin pin =
     let sender : Node = with_link s p rest (node_in s nodes x) in
     let many : length sender.links ≡ s.k + s.m = length-put [] (node_in s nodes x).links (index_of s p) rest (let low = index-below s p pin in let long = all x xin in omega (arith, low, long))
@@ -334,4 +340,5 @@ asks_leave_always s es run caller op p may =
     let other : Each (λ t. t.name ≢ next_name (after s es) caller) (after s es).tickets
     = subst (λ (w : World). Each (λ t. t.name ≢ next_name w caller) w.tickets) world
     (tickets-other b.history.world.log b.history.world.asked (next_call b.history.world caller op) b.issued b.history.world.tickets refl (asked_always s es run) logs.has_tickets) in
-    leaves (after s es) wide (next_call (after s es) caller op) other (group_step (after s es) (Ask caller op p)) (group_step (after s es) (Ask caller op p)).answer (walked (after s es) size wide p may.1 caller op)
+    leaves (after s es) wide (next_call (after s es) caller op) other (group_step (after s es) (Ask caller op p))
+    (group_step (after s es) (Ask caller op p)).answer (walked (after s es) size wide p may.1 caller op)

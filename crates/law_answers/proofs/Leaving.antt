@@ -28,6 +28,7 @@ use Rattle.group_run.specs.Replica.{with_update}
 use Rattle.group_run.specs.Rows.{accepts_mark, begin_copy, copy_begun, copy_in, is_marked, marked, parity_number, with_copies, without_copy}
 use Rattle.law_moves.proofs.Moves.{Asks, Collects, Flushes, Treats}
 use Rattle.law_moves.proofs.Members.{is_notice}
+use Rattle.law_moves.proofs.Chains.{goes-each, goes-when}
 
 -- the same is known, and no session was started
 pub record Rests (p q : Process) : Type 0 where
@@ -41,12 +42,10 @@ rests-then : (p q r : Process) → Rests p q → Rests q r → Rests p r
 rests-then p q r a b = record { known = b.known ∙ a.known; last = b.last ∙ a.last }
 
 rests-each : (xs : List ℕ) (f : ℕ → Process → ProcessStep) (p : Process) → ((x : ℕ) (q : Process) → Rests q (f x q).process) → Rests p (for_each xs f p).process
-rests-each [] f p each = rests-self p
-rests-each (x ∷ xs) f p each = rests-then p (f x p).process (for_each xs f (f x p).process).process (each x p) (rests-each xs f (f x p).process each)
+rests-each = goes-each (λ p q. Rests p q) rests-self rests-then
 
 rests-when : (b : Bool) (p : Process) (t : ProcessStep) → Rests p t.process → Rests p (when b p t).process
-rests-when true p t rests = rests
-rests-when false p t rests = rests-self p
+rests-when = goes-when (λ p q. Rests p q) rests-self
 
 module _ (s : Dimensions) where
   rests-judge : (d : ℕ) (p : Process) → Rests p (judge s d p).process

@@ -36,7 +36,8 @@ is-oldest p (suc n) a o is = by (head_at p a) refl is (is-oldest p n (a + 1) o) 
       → (oldest_inherited p (range_with_len (a + 1) n) ≡ Some o → IsOldest p (a + 1) n o) → IsOldest p a (suc n) o
   here h heads true test is rest =
       let same : record { partition = a; number = suc (replica_of p a).applied } ≡ o = cc is in
-      subst (IsOldest p a (suc n)) same (record { from = omega arith; to = omega arith; has = (h, heads, grind (arith, common_steps)); lowest = λ e low high has. absurd (omega (arith, low, high)); number = refl })
+      subst (IsOldest p a (suc n)) same
+      (record { from = omega arith; to = omega arith; has = (h, heads, grind (arith, common_steps)); lowest = λ e low high has. absurd (omega (arith, low, high)); number = refl })
   here h heads false test is rest = later not_here (rest is) where
     not_here : ¬ (HasInherited p a)
     not_here (k, heads_k, short) =

@@ -86,13 +86,15 @@ module _ (space : ℕ) (r : Replica) (store : Store) (op : Asked) (read : Run �
     needed-found need (Missing b) found = (run_in slot, found, inl (ap (run_needed op) own_is ∙ need))
     needed-found need (Bytes bytes) found =
         let same : bytes ≡ own = reads (run_in slot) bytes within found in
-        caused-ruled (ruling_on slot bytes) (ruling_on slot own) (alike-same (is_touch op.act) (ruling_on slot bytes) (ruling_on slot own) (ap (ruling_on slot) same)) (unread.real-on r store op slot is)
+        caused-ruled (ruling_on slot bytes) (ruling_on slot own)
+        (alike-same (is_touch op.act) (ruling_on slot bytes) (ruling_on slot own) (ap (ruling_on slot) same)) (unread.real-on r store op slot is)
 
     needed : (b : Bool) → (reads_bytes op.act && is_live op.moment slot.until && nat_lt 0 slot.len) ≡ b
         → Caused space r op read real (decide_found space r op read (Some slot) (item_found read (Some slot) (if b then Some (run_in slot) else None)))
     needed true need = needed-found (ap (λ (b : Bool). if b then Some (run_in slot) else None) need) (read (run_in slot)) refl
     needed false none =
-        caused-ruled (ruling_on slot (unseen (Some slot))) (ruling_on slot own) (unread.unneeded r store op slot is within (reads_bytes op.act) (is_live op.moment slot.until) refl none) (unread.real-on r store op slot is)
+        caused-ruled (ruling_on slot (unseen (Some slot))) (ruling_on slot own)
+        (unread.unneeded r store op slot is within (reads_bytes op.act) (is_live op.moment slot.until) refl none) (unread.real-on r store op slot is)
 
     item : (blind : Option Reply) → blind_reply slot.len (ruling_on slot (unseen (Some slot))) ≡ blind → Caused space r op read real (decide_blind space r op read (Some slot) blind)
     item (Some reply) blind = unread.blind-item r store op slot is within reply blind

@@ -44,13 +44,15 @@ numbers-alike t n m (Touch key expiry) (Some h) = (refl, refl)
 numbers-alike t n m (Append key value) None = refl
 numbers-alike t n m (Append key value) (Some h) = by (nat_le (length (h.item.value ++ value)) longest_value) where
   by : (b : Bool)
-      → SameButNumber (if b then Accepted reply.Stored (changed n h (h.item.value ++ value)) else Refused reply.TooLarge) (if b then Accepted reply.Stored (changed m h (h.item.value ++ value)) else Refused reply.TooLarge)
+      → SameButNumber (if b then Accepted reply.Stored (changed n h (h.item.value ++ value)) else Refused reply.TooLarge)
+      (if b then Accepted reply.Stored (changed m h (h.item.value ++ value)) else Refused reply.TooLarge)
   by true = (refl, refl)
   by false = refl
 numbers-alike t n m (Prepend key value) None = refl
 numbers-alike t n m (Prepend key value) (Some h) = by (nat_le (length (value ++ h.item.value)) longest_value) where
   by : (b : Bool)
-      → SameButNumber (if b then Accepted reply.Stored (changed n h (value ++ h.item.value)) else Refused reply.TooLarge) (if b then Accepted reply.Stored (changed m h (value ++ h.item.value)) else Refused reply.TooLarge)
+      → SameButNumber (if b then Accepted reply.Stored (changed n h (value ++ h.item.value)) else Refused reply.TooLarge)
+      (if b then Accepted reply.Stored (changed m h (value ++ h.item.value)) else Refused reply.TooLarge)
   by true = (refl, refl)
   by false = refl
 numbers-alike t n m (Incr key more) None = refl

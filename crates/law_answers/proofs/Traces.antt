@@ -87,7 +87,9 @@ module _ (w : World) (p : ProcessId) (name : (process_of w p).name ≡ p) (h : H
       ap (λ (b : Bool). b || list_all (λ i. is_some (at None h.acks i)) (other_parities w.shape.m (process_of w p).name (process_of w p).known)) test
   adopted-is (inr acked) = either (h.rank == 0) where
     all : list_all (λ i. is_some (at None h.acks i)) (other_parities w.shape.m (process_of w p).name (process_of w p).known) ≡ true
-    all = all-others (λ j. is_some (at None h.acks j)) lets w.shape.m 0 (λ i low high let_it. let both = lets-is i let_it in is-some-it (at None h.acks i) (acked i (omega (arith, high)) both.0 both.1))
+    all =
+        all-others (λ j. is_some (at None h.acks j)) lets w.shape.m 0
+        (λ i low high let_it. let both = lets-is i let_it in is-some-it (at None h.acks i) (acked i (omega (arith, high)) both.0 both.1))
 
     either : (b : Bool) → (b || list_all (λ i. is_some (at None h.acks i)) (other_parities w.shape.m (process_of w p).name (process_of w p).known)) ≡ true
     either true = refl
@@ -106,7 +108,9 @@ module _ (w : World) (p : ProcessId) (name : (process_of w p).name ≡ p) (calle
     kept-fate kept is false false test less =
         let apart : kept.call ≢ call = grind (arith, common_steps) in
         let most : kept.call ≤ call = grind (arith, common_steps) in
-        open-fate (record { not_in_log = unlogged; earlier = λ other there. let same : other ≡ kept = cc (there, is) in subst (λ (k : Kept). k.call < call) (sym same) (omega (arith, apart, most)) }) (is_adopted w.shape (process_of w p) h) refl
+        open-fate
+        (record { not_in_log = unlogged; earlier = λ other there. let same : other ≡ kept = cc (there, is) in subst (λ (k : Kept). k.call < call) (sym same) (omega (arith, apart, most)) })
+        (is_adopted w.shape (process_of w p) h) refl
 
     fate-from : (o : Option Kept) → kept_at w p d caller ≡ o → TraceCause w p caller call d (fate_from (is_adopted w.shape (process_of w p) h) call o)
     fate-from None is = open-fate (record { not_in_log = unlogged; earlier = λ other there. absurd (cc (there, is)) }) (is_adopted w.shape (process_of w p) h) refl
@@ -132,7 +136,8 @@ module _ (h : History) (framed : FramedHistory h) (members : Members h.world.sha
         (is_in_log caller call (replica_of (process_of h.world p) d.0).log) refl
 
     by : (down dead : Bool) → (node_of h.world p).down ≡ down → (node_of h.world p).dead ≡ dead
-        → TraceCause h.world p caller call d.0 (if_up down dead (node_of h.world p) (unchanged (fate_of h.world.shape caller call d.0 (process_of h.world p) (head_at (process_of h.world p) d.0)) (node_of h.world p))).answer
+        → TraceCause h.world p caller call d.0
+        (if_up down dead (node_of h.world p) (unchanged (fate_of h.world.shape caller call d.0 (process_of h.world p) (head_at (process_of h.world p) d.0)) (node_of h.world p))).answer
     by true dead isdown isdead = is-down h.world h.settled framed p may.3 isdown
     by false true isdown isdead = (not-down h.world h.settled framed p may.3 isdown, isdead)
     by false false isdown isdead = by_head (is-up h.world h.settled framed p may.3 isdown isdead) (head_at (process_of h.world p) d.0) refl

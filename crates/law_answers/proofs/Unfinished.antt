@@ -66,7 +66,8 @@ module _ (s : Dimensions) (d : ℕ) (h : Head) (u : Update) (p : Process) (heads
 
   last-after : last_of (applied_to least (with_update u r)) ≡ u.number
   last-after =
-      let parts : length (take (least - r.applied) (r.log ++ u ∷ []) ++ drop (least - r.applied) (r.log ++ u ∷ [])) ≡ length (r.log ++ u ∷ []) = ap length (take-append-drop (least - r.applied) (r.log ++ u ∷ [])) in
+      let parts : length (take (least - r.applied) (r.log ++ u ∷ []) ++ drop (least - r.applied) (r.log ++ u ∷ [])) ≡ length (r.log ++ u ∷ []) = ap length
+      (take-append-drop (least - r.applied) (r.log ++ u ∷ [])) in
       let both = length-append (take (least - r.applied) (r.log ++ u ∷ [])) (drop (least - r.applied) (r.log ++ u ∷ [])) in
       let long = length-append r.log (u ∷ []) in
       omega (arith, parts, both, long, next)

@@ -102,7 +102,9 @@ module _ (w : World) (settled : List (List Update)) (framed : Framed w.shape w.n
       still found d h low holds = at_one (cases_eq d a) where
         at_one : (d ≡ a) ⊎ (d ≢ a) → ⊥
         at_one (inr other) = none d h (omega (arith, low, other)) holds
-        at_one (inl same) = let not : is_call caller call h ≡ false = none-there (is_call caller call) (held_at (process_of w p) a) h found (subst (λ (e : ℕ). Contains (held_at (process_of w p) e) h) same holds.held) in
+        at_one (inl same) =
+            let not : is_call caller call h ≡ false = none-there (is_call caller call) (held_at (process_of w p) a) h found
+            (subst (λ (e : ℕ). Contains (held_at (process_of w p) e) h) same holds.held) in
             absurd (cc (not, holds.named))
 
       by : (o : Option Held) → find (is_call caller call) (held_at (process_of w p) a) ≡ o

@@ -1,6 +1,7 @@
-//! The exact cause of each answer, what an answer to an ask leaves as it was, and the bounds of every run: for code that
-//! runs the machine and makes its room before each step. Which messages come to which process, how many dead it may learn
-//! of, how high numbers rise, of which calls tickets and entries are, and how much one step sends and settles.
+//! The exact cause of each answer, what an answer to an ask leaves as it was, and the bounds of every run, for code
+//! that runs the machine and makes its room before each step: which messages come to which process, how many dead it
+//! may learn of, how high numbers rise, of which calls tickets and entries are, and how much one step sends and
+//! settles. That what comes fits the process is left to the crate of the headline.
 #![tactic(auto)]
 
 ghost use Rattle.law_answers.specs.Deliveries.{FewDeadAlways, KindsAlways, OwnMarksAlways};

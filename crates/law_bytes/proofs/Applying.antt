@@ -15,9 +15,8 @@ use Rattle.group_run.specs.Leaders.{rebuilt_block}
 use Rattle.group_run.specs.Process.{Copy, Process}
 use Rattle.group_run.specs.Replica.{Replica, applied_to, empty_replica, up_to}
 use Rattle.law_moves.proofs.Notices.{some-mapped}
-use Rattle.law_bytes.specs.Areas.{IsArea, IsBlock, WritesBytes, block_size, held, value}
+use Rattle.law_bytes.specs.Areas.{IsArea, IsBlock, WritesBytes, block_size, held, value, SettledWrite}
 use Rattle.law_bytes.specs.Held.{CopyHolds, Holds, marked_at, marked_stand, stand}
-use Rattle.law_bytes.specs.Premises.{SettledWrite}
 use Rattle.law_bytes.proofs.Premises.{GoesOn, RebuildsRight}
 use Rattle.law_bytes.proofs.Values.{Concerns, Grows, IsAdded, area-grown, area-same, block-added, held-grows, held-same, inside-concerned, share, space-added}
 
@@ -146,7 +145,9 @@ module _ (s : Dimensions) (settled : ℕ → List Update) (write : SettledWrite 
 
     space_holds : IsArea 0 (space_of s) (held s p.name (stand settled p)) p.space → IsArea 0 (space_of s) (held s p.name (stand settled q)) (space_after s p.name d (up_to n (replica_of p d)) p.space)
     unfolding news q
-    space_holds area = area-grown 0 (space_of s) (held s p.name (stand settled p)) (λ x. share s p.name d (value news x)) (held s p.name (stand settled q)) p.space (space_after s p.name d news p.space) area
+    space_holds area =
+        area-grown 0 (space_of s) (held s p.name (stand settled p)) (λ x. share s p.name d (value news x)) (held s p.name (stand settled q)) p.space
+        (space_after s p.name d news p.space) area
         (added-same (λ x. share s p.name d (value news x)) (λ x. share s p.name d (value news (0 + x))) p.space (space_after s p.name d news p.space)
         (λ x. let same : x ≡ 0 + x = omega arith in ap (λ (y : ℕ). share s p.name d (value news y)) same)
         (space-added s p.name d news p.space area.long new_write))
@@ -174,9 +175,13 @@ module _ (s : Dimensions) (settled : ℕ → List Update) (write : SettledWrite 
       } where
         same : (e : ℕ) → (e ≡ d) ⊎ (e ≢ d) → marked_stand settled c.marks q e ≡ marked_stand settled c.marks p e
         same e (inr other) = other_mark e other
-        same e (inl here) = ap (λ (k : ℕ). take k (settled e)) (marked-same (at None c.marks e) (replica_of p e).applied (replica_of q e).applied (ap (λ (j : ℕ). is_some (at None c.marks j)) here ∙ is))
+        same e (inl here) =
+            ap (λ (k : ℕ). take k (settled e))
+            (marked-same (at None c.marks e) (replica_of p e).applied (replica_of q e).applied (ap (λ (j : ℕ). is_some (at None c.marks j)) here ∙ is))
       by false is = record {
-        bytes = area-grown (c.block * s.block) (block_size s c.block) (held s p.name (marked_stand settled c.marks p)) (λ x. share s p.name d (value news x)) (held s p.name (marked_stand settled c.marks q))
+        bytes =
+            area-grown (c.block * s.block) (block_size s c.block) (held s p.name (marked_stand settled c.marks p)) (λ x. share s p.name d (value news x))
+            (held s p.name (marked_stand settled c.marks q))
             c.bytes (block_after s p.name d c.block news c.bytes) holds.bytes (block-added s p.name d c.block news c.bytes new_write)
             (λ x. held-grows s p.name d news (marked_stand settled c.marks p) (marked_stand settled c.marks q) x concerns copy_grows);
         marks = holds.marks;
@@ -219,7 +224,9 @@ module _ (s : Dimensions) (settled : ℕ → List Update) (write : SettledWrite 
     applied-holds within holding = record {
       within = λ e low. within_by e low (cases_eq e d);
       space = space_holds holding.space;
-      copies = each-map (CopyHolds s settled q) (copy_after s p.name d news) p.as_row.copies (each-weaker (CopyHolds s settled p) (λ c. CopyHolds s settled q (copy_after s p.name d news c)) copy_holds p.as_row.copies holding.copies);
+      copies =
+          each-map (CopyHolds s settled q) (copy_after s p.name d news) p.as_row.copies
+          (each-weaker (CopyHolds s settled p) (λ c. CopyHolds s settled q (copy_after s p.name d news c)) copy_holds p.as_row.copies holding.copies);
       rebuilt = λ e b bytes low is_old is. rebuilt_by e b bytes low is_old is (cases_eq e d);
       there = λ e b low is_old. there_by e b low is_old (cases_eq e d);
     } where

@@ -57,12 +57,15 @@ module _ (from at : ℕ) (delta area : List ℕ) where
   unfolding early late
   area_byte x below = by (nat_le at from) refl where
     by : (b : Bool) → nat_le at from ≡ b
-        → get_or (if b then added_at 0 (take (length area) (drop (from - at) delta)) area else added_at (at - from) (take (length area - (at - from)) delta) area) x 0 ≡ bit_xor (get_or area x 0) (shifted at delta (from + x))
+        → get_or
+        (if b then added_at 0 (take (length area) (drop (from - at) delta)) area else added_at (at - from) (take (length area - (at - from)) delta) area) x 0 ≡ bit_xor
+        (get_or area x 0) (shifted at delta (from + x))
     by true test =
         let order : at ≤ from = grind (arith, common_steps) in
         let place : at + (from - at + x) ≡ from + x = omega (arith, order) in
         byte_added 0 (take (length area) (drop (from - at) delta)) area early_within x
-        ∙ ap (bit_xor (get_or area x 0)) (get_or-take (length area) (drop (from - at) delta) x 0 below ∙ get_or-drop (from - at) delta x 0 ∙ sym (shifted-from at delta (from - at + x)) ∙ ap (shifted at delta) place)
+        ∙ ap (bit_xor (get_or area x 0))
+        (get_or-take (length area) (drop (from - at) delta) x 0 below ∙ get_or-drop (from - at) delta x 0 ∙ sym (shifted-from at delta (from - at + x)) ∙ ap (shifted at delta) place)
     by false test = fits (cases_lt x (at - from)) (cases_lt (length area) (at - from)) where
       order : from < at
       order = grind (arith, common_steps)

@@ -30,7 +30,6 @@ use Rattle.law_moves.specs.State.{IsUp, State}
 use Rattle.law_moves.proofs.Members.{Members, Sits, knows_lower}
 use Rattle.law_moves.proofs.Calls.{Seated, seat-lower}
 use Rattle.erasure_code.proofs.Nodes.{Among}
-use Rattle.law_bytes.specs.Premises.{SettledWrite}
 use Rattle.law_bytes.proofs.Premises.{GoesOn, NextIsNew}
 use Rattle.law_bytes.proofs.Applying.{Holding, holding-from, rebuilt_at}
 use Rattle.law_bytes.proofs.Copies.{holding-leader}
@@ -50,11 +49,13 @@ use Rattle.law_bytes.proofs.PlansKeeping.{fresh}
 use Rattle.law_bytes.proofs.Opening.{leads-rows, opening_plan}
 use Rattle.law_bytes.proofs.Owning.{owns-given}
 use Rattle.law_bytes.proofs.Rebuilds.{received, sound-for}
+use Rattle.law_bytes.specs.Areas.{SettledWrite}
 
 module _ (s : Dimensions) (shaped : IsShape s) (settled : ℕ → List Update) (write : SettledWrite s settled) (old : ℕ → ℕ → Bool) (p : Process) (x : ProcessId) (seated : Seated s p x) (inside : IsProcess s x) (living : knows_dead p.known x ≡ false)
     (goes : (d : ℕ) → d < s.k → GoesOn (settled d) (replica_of p d)) (next : NextIsNew s p) (holds : Holding s settled old p) (needs : NeedsInside s p) (many : length (lost_by s p.known) ≤ length (left_by s p.known))
     (begins : (i block : ℕ) → p.name ≡ ParityNode i → ProcessFollows s settled i (suc p.as_leader.last_session) (opening_plan s block p) p) where
-  module _ (block i : ℕ) (name : p.name ≡ ParityNode i) (within : block < s.blocks) (first : (e : ℕ) → Among e (lost_of s p) → Contains (rows_of s p) i) (none : oldest_inherited p (range_with_len 0 s.k) ≡ None) where
+  module _ (block i : ℕ) (name : p.name ≡ ParityNode i) (within : block < s.blocks) (first : (e : ℕ) → Among e (lost_of s p) → Contains (rows_of s p) i)
+      (none : oldest_inherited p (range_with_len 0 s.k) ≡ None) where
     unopened : open_session p.as_leader (suc p.as_leader.last_session) ≡ None
     unopened = by (open_session p.as_leader (suc p.as_leader.last_session)) ((begins i block name).session name) where
       by : (o : Option Gathering) → IfSome o (λ g. (suc p.as_leader.last_session ≤ p.as_leader.last_session) × GatheringFollows s settled (opening_plan s block p) g) → o ≡ None
@@ -78,14 +79,20 @@ module _ (s : Dimensions) (shaped : IsShape s) (settled : ℕ → List Update) (
         by e among (Some h) is = oldest-none s 0 p (range_with_len 0 s.k) none e among h is
 
     sound-opened : IfSome (open_session (session_opened s (suc p.as_leader.last_session) block p).as_leader (suc p.as_leader.last_session)) (SoundFor s p.known)
-    sound-opened = opened-is (SoundFor s p.known) (sound-for s p.known many (new_session s (suc p.as_leader.last_session) block p) (record { lost = refl; rows = refl; blocks = λ d bytes there. absurd (cc (there, nothing d)) })) where
-      nothing : (d : ℕ) → ◌≡◌ {A = Option (List ℕ)} (at None (replicate s.k None) d) None
-      nothing d = at-replicate None s.k d
+    sound-opened =
+        opened-is (SoundFor s p.known)
+        (sound-for s p.known many (new_session s (suc p.as_leader.last_session) block p) (record { lost = refl; rows = refl; blocks = λ d bytes there. absurd (cc (there, nothing d)) })) where
+          nothing : (d : ℕ) → ◌≡◌ {A = Option (List ℕ)} (at None (replicate s.k None) d) None
+          nothing d = at-replicate None s.k d
 
     start-given : RebuildsGiven s settled p (start_session s block p).process
-    start-given = subst (λ (z : ℕ). RebuildsGiven s settled p (for_each (lost_of s p) (own_mark s z (suc p.as_leader.last_session) block) (session_opened s (suc p.as_leader.last_session) block p)).process) (sym (ap parity_number name))
+    start-given =
+        subst
+        (λ (z : ℕ). RebuildsGiven s settled p (for_each (lost_of s p) (own_mark s z (suc p.as_leader.last_session) block) (session_opened s (suc p.as_leader.last_session) block p)).process)
+        (sym (ap parity_number name))
         (λ d b bytes below before after.
-        owns-given s shaped settled write (opening_plan s block p) i (suc p.as_leader.last_session) block p.known old p goes (lost_of s p) (session_opened s (suc p.as_leader.last_session) block p) name
+        owns-given s shaped settled write (opening_plan s block p) i (suc p.as_leader.last_session) block p.known old p goes (lost_of s p)
+        (session_opened s (suc p.as_leader.last_session) block p) name
         (lost-below s settled i (suc p.as_leader.last_session) write old p i name goes next holds block (opening_plan s block p) fits)
         (differ-rising (lost_of s p) (rising-filtered (λ e. knows_dead p.known (DataNode e)) s.k))
         (unmarked s settled i (suc p.as_leader.last_session) write old p i name goes next holds block (opening_plan s block p) fits)
@@ -170,8 +177,11 @@ module _ (s : Dimensions) (shaped : IsShape s) where
       → NextIsNew s (v.process p) → NeedsInside s (v.process p)
       → StepSettles s w.settled (v.process p) t → Acted s v w p t → SessionsStand s v → RebuildsGiven s w.settled (v.process p) t.process
   treated v w p t pin up lives treats backed after next needs right acts stands =
-      treats-given s shaped w.settled right.write (rebuilt_at (v.process p)) (v.process p) p (record { name = name; some = some; sits = λ d below. backed.members.sits p d pin lives below }) pin (backed.members.not_self p pin lives)
-      right.applies.log next (holding-from s w.settled (v.process p) (before-holds s v v w p t pin backed.members (λ q qin. refl) (λ q qin. refl) (λ d. refl) acts lives backed.bytes)) needs (enough s v backed.members up p pin lives) begins t treats
+      treats-given s shaped w.settled right.write (rebuilt_at (v.process p)) (v.process p) p
+      (record { name = name; some = some; sits = λ d below. backed.members.sits p d pin lives below }) pin (backed.members.not_self p pin lives)
+      right.applies.log next
+      (holding-from s w.settled (v.process p) (before-holds s v v w p t pin backed.members (λ q qin. refl) (λ q qin. refl) (λ d. refl) acts lives backed.bytes)) needs
+      (enough s v backed.members up p pin lives) begins t treats
     where
       name : (v.process p).name ≡ p
       name = backed.members.named p pin

@@ -32,6 +32,7 @@ use Rattle.group_run.specs.Receiving.{adopting, death_known, enthroned, notice_c
 use Rattle.group_run.specs.Replica.{Replica, applied_to, empty_replica, with_update}
 use Rattle.group_run.specs.Rows.{accepts_mark, begin_copy, copies_ceased, copy_begun, copy_in, is_marked, marked, parity_number, with_copies, without_copy}
 use Rattle.law_moves.proofs.Moves.{Treats, Asks, Collects, Flushes}
+use Rattle.law_moves.proofs.Chains.{goes-each, goes-when}
 use Rattle.erasure_code.proofs.Nodes.{Among}
 use Rattle.law_bytes.proofs.Finding.{found-behind, found-passes}
 use Rattle.law_bytes.proofs.Finds.{if-some}
@@ -93,12 +94,10 @@ module _ (s : Dimensions) (n : ℕ) where
   bears-apply d k p = bears-same p (apply_to s d k p) refl refl (bears-replica p d (applied_to k (replica_of p d)) (omega arith))
 
   bears-each : (xs : List ℕ) (f : ℕ → Process → ProcessStep) (p : Process) → ((x : ℕ) (q : Process) → Bears q (f x q).process) → Bears p (for_each xs f p).process
-  bears-each [] f p all = bears-self p
-  bears-each (x ∷ xs) f p all = bears-then p (f x p).process (for_each xs f (f x p).process).process (all x p) (bears-each xs f (f x p).process all)
+  bears-each = goes-each (λ p q. Bears p q) bears-self bears-then
 
   bears-when : (b : Bool) (p : Process) (step : ProcessStep) → Bears p step.process → Bears p (when b p step).process
-  bears-when true p step bears = bears
-  bears-when false p step bears = bears-self p
+  bears-when = goes-when (λ p q. Bears p q) bears-self
 
   bears-judge : (d : ℕ) (p : Process) → Bears p (judge s d p).process
   bears-judge d p = by (head_at p d) where
@@ -123,43 +122,51 @@ module _ (s : Dimensions) (n : ℕ) where
     by : (o : Option Gathering) → open_session p.as_leader number ≡ o
         → IfSome (open_session (row_gathered s i bytes o p.as_leader) n) (λ g. (old : Gathering) × (open_session p.as_leader n ≡ Some old) × (g.lost ≡ old.lost))
     by None is = kept-all p.as_leader (open_session p.as_leader n) refl
-    by (Some g) is = gathered-if s (λ x. (old : Gathering) × (open_session p.as_leader n ≡ Some old) × (x.lost ≡ old.lost)) (is_complete s (with_row i bytes g)) (with_row i bytes g) g p.as_leader n number is
-        (number-is g number (found-passes (λ x. x.number == number) p.as_leader.sessions g is)) (λ here. (g, ap (open_session p.as_leader) here ∙ is, refl)) (kept-all p.as_leader (open_session p.as_leader n) refl)
+    by (Some g) is =
+        gathered-if s (λ x. (old : Gathering) × (open_session p.as_leader n ≡ Some old) × (x.lost ≡ old.lost)) (is_complete s (with_row i bytes g))
+        (with_row i bytes g) g p.as_leader n number is
+        (number-is g number (found-passes (λ x. x.number == number) p.as_leader.sessions g is)) (λ here. (g, ap (open_session p.as_leader) here ∙ is, refl))
+        (kept-all p.as_leader (open_session p.as_leader n) refl)
 
   bears-block : (number e : ℕ) (bytes : List ℕ) (p : Process) → Bears p (block_comes s number e bytes p)
   bears-block number e bytes p = bears-leader p (block_gathered s e bytes (open_session p.as_leader number) p.as_leader) (by (open_session p.as_leader number) refl) where
     by : (o : Option Gathering) → open_session p.as_leader number ≡ o
         → IfSome (open_session (block_gathered s e bytes o p.as_leader) n) (λ g. (old : Gathering) × (open_session p.as_leader n ≡ Some old) × (g.lost ≡ old.lost))
     by None is = kept-all p.as_leader (open_session p.as_leader n) refl
-    by (Some g) is = gathered-if s (λ x. (old : Gathering) × (open_session p.as_leader n ≡ Some old) × (x.lost ≡ old.lost)) (is_complete s (with_block e bytes g)) (with_block e bytes g) g p.as_leader n number is
-        (number-is g number (found-passes (λ x. x.number == number) p.as_leader.sessions g is)) (λ here. (g, ap (open_session p.as_leader) here ∙ is, refl)) (kept-all p.as_leader (open_session p.as_leader n) refl)
+    by (Some g) is =
+        gathered-if s (λ x. (old : Gathering) × (open_session p.as_leader n ≡ Some old) × (x.lost ≡ old.lost)) (is_complete s (with_block e bytes g))
+        (with_block e bytes g) g p.as_leader n number is
+        (number-is g number (found-passes (λ x. x.number == number) p.as_leader.sessions g is)) (λ here. (g, ap (open_session p.as_leader) here ∙ is, refl))
+        (kept-all p.as_leader (open_session p.as_leader n) refl)
 
   -- a mark
   pub bears-mark : (l number r block d k : ℕ) (p : Process) → Bears p (mark_comes s l number r block d k p).process
-  bears-mark l number r block d k p = bears-when (accepts_mark p l number r d) p (mark_taken s l number block d k p) (bears-then p q (copy_marked s d k (copy_in q.as_row.copies l number) q).process to_q (found (copy_in q.as_row.copies l number))) where
-    q : Process
-    q = apply_to s d k (begin_copy s l number block p)
+  bears-mark l number r block d k p =
+      bears-when (accepts_mark p l number r d) p (mark_taken s l number block d k p)
+      (bears-then p q (copy_marked s d k (copy_in q.as_row.copies l number) q).process to_q (found (copy_in q.as_row.copies l number))) where
+        q : Process
+        q = apply_to s d k (begin_copy s l number block p)
 
-    begun : (b : Bool) → Bears p (copy_begun b s l number block p)
-    begun true = bears-self p
-    begun false = bears-same p _ refl refl (λ e. omega arith)
+        begun : (b : Bool) → Bears p (copy_begun b s l number block p)
+        begun true = bears-self p
+        begun false = bears-same p _ refl refl (λ e. omega arith)
 
-    to_q : Bears p q
-    to_q = bears-then p (begin_copy s l number block p) q (begun (is_some (copy_in p.as_row.copies l number))) (bears-apply d k (begin_copy s l number block p))
+        to_q : Bears p q
+        to_q = bears-then p (begin_copy s l number block p) q (begun (is_some (copy_in p.as_row.copies l number))) (bears-apply d k (begin_copy s l number block p))
 
-    finished : (b : Bool) (c : Copy) (z : Process) → Bears z (row_finished b s c z).process
-    finished true c z = bears-row c.number c.leader c.bytes z
-    finished false c z = bears-self z
+        finished : (b : Bool) (c : Copy) (z : Process) → Bears z (row_finished b s c z).process
+        finished true c z = bears-row c.number c.leader c.bytes z
+        finished false c z = bears-self z
 
-    kept : (b : Bool) (c : Copy) → Bears q (copy_kept b s c q).process
-    kept true c =
-        let z : Process = with_copies (without_copy c.leader c.number q.as_row.copies) q in
-        bears-then q z (row_finished (same_process z.name (ParityNode c.leader)) s c z).process (bears-same q z refl refl (λ e. omega arith)) (finished (same_process z.name (ParityNode c.leader)) c z)
-    kept false c = bears-same q _ refl refl (λ e. omega arith)
+        kept : (b : Bool) (c : Copy) → Bears q (copy_kept b s c q).process
+        kept true c =
+            let z : Process = with_copies (without_copy c.leader c.number q.as_row.copies) q in
+            bears-then q z (row_finished (same_process z.name (ParityNode c.leader)) s c z).process (bears-same q z refl refl (λ e. omega arith)) (finished (same_process z.name (ParityNode c.leader)) c z)
+        kept false c = bears-same q _ refl refl (λ e. omega arith)
 
-    found : (o : Option Copy) → Bears q (copy_marked s d k o q).process
-    found None = bears-self q
-    found (Some c) = kept (is_marked s (marked d k c)) (marked d k c)
+        found : (o : Option Copy) → Bears q (copy_marked s d k o q).process
+        found None = bears-self q
+        found (Some c) = kept (is_marked s (marked d k c)) (marked d k c)
 
   -- an acknowledgement
   bears-acked : (p : Process) (i r d k : ℕ) (o : Option Head) → head_at p d ≡ o → Bears p (acknowledge s i r d k o p).process
@@ -232,7 +239,9 @@ module _ (s : Dimensions) (n : ℕ) where
 
   -- what is said of a session that a step opened: what was inherited of a lost partition was applied before
   abbrev pub BearsNew : Process → Process → Type 0
-  BearsNew p q = (g : Gathering) → open_session q.as_leader n ≡ Some g → (e : ℕ) → Contains g.lost e → ((replica_of p e).applied ≤ (replica_of q e).applied) × ((h : Head) → head_at q e ≡ Some h → h.inherited ≤ (replica_of p e).applied)
+  BearsNew p q =
+      (g : Gathering) → open_session q.as_leader n ≡ Some g → (e : ℕ) → Contains g.lost e → ((replica_of p e).applied ≤ (replica_of q e).applied) ×
+      ((h : Head) → head_at q e ≡ Some h → h.inherited ≤ (replica_of p e).applied)
 
   pub oldest-none : (p : Process) (ds : List ℕ) → oldest_inherited p ds ≡ None → (e : ℕ) → Among e ds → (h : Head) → head_at p e ≡ Some h → h.inherited ≤ (replica_of p e).applied
   oldest-none p [] none e there h heads = absurd there
@@ -366,7 +375,9 @@ module _ (s : Dimensions) (l n : ℕ) where
     by None is = tt
     by (Some g) is = λ e lost.
         let b = bears g is in
-        let old = if-some (λ x. (e : ℕ) → Contains x.lost e → (plan.numbers e ≤ (replica_of p e).applied) × IfSome (head_at p e) (λ h. h.inherited ≤ plan.numbers e)) (open_session p.as_leader n) b.session b.opens (before (sym name ∙ leads)) e
+        let old = if-some
+        (λ x. (e : ℕ) → Contains x.lost e → (plan.numbers e ≤ (replica_of p e).applied) × IfSome (head_at p e) (λ h. h.inherited ≤ plan.numbers e))
+        (open_session p.as_leader n) b.session b.opens (before (sym name ∙ leads)) e
         (subst (λ (ls : List ℕ). Contains ls e) b.lost lost) in
         let more = b.applied e in
         let low = old.0 in

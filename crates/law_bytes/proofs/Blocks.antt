@@ -23,22 +23,24 @@ use Rattle.law_bytes.proofs.Values.{value-append}
 
 -- the block of an address of a run is one of those that it meets
 pub block-met : (s : Dimensions) (run : Run) (b x : ℕ) → 0 < s.block → x < s.block → run.at ≤ b * s.block + x → b * s.block + x < run.at + run.len → Among b (blocks_met s run)
-block-met s run b x some inside from to = subst (λ (c : Bool). Among b (if c then [] else range_with_len first (last - first + 1))) (sym (ne_eqb run.len 0 (λ none. absurd (omega (arith, from, to, none))))) (among-range b first (last - first + 1) low (omega (arith, high, low))) where
-  first : ℕ
-  first = run.at / s.block
+block-met s run b x some inside from to =
+    subst (λ (c : Bool). Among b (if c then [] else range_with_len first (last - first + 1)))
+    (sym (ne_eqb run.len 0 (λ none. absurd (omega (arith, from, to, none))))) (among-range b first (last - first + 1) low (omega (arith, high, low))) where
+      first : ℕ
+      first = run.at / s.block
 
-  last : ℕ
-  last = (run.at + run.len - 1) / s.block
+      last : ℕ
+      last = (run.at + run.len - 1) / s.block
 
-  low : first ≤ b
-  low =
-      let fits : first * s.block ≤ run.at = div-mul-le_self run.at s.block in
-      let less = le-div first (b * s.block + x) s.block some (omega (arith, fits, from)) in
-      let is = div-mul-add b s.block x inside in
-      omega (arith, less, is)
+      low : first ≤ b
+      low =
+          let fits : first * s.block ≤ run.at = div-mul-le_self run.at s.block in
+          let less = le-div first (b * s.block + x) s.block some (omega (arith, fits, from)) in
+          let is = div-mul-add b s.block x inside in
+          omega (arith, less, is)
 
-  high : b ≤ last
-  high = le-div b (run.at + run.len - 1) s.block some (omega (arith, to))
+      high : b ≤ last
+      high = le-div b (run.at + run.len - 1) s.block some (omega (arith, to))
 
 module _ (s : Dimensions) (some : 0 < s.block) (d : ℕ) (l : LeaderState) (b : ℕ) (unbuilt : rebuilt_block l d b ≡ None) where
   -- a run none of whose blocks is missing adds nothing to a block that isn't rebuilt
@@ -48,7 +50,8 @@ module _ (s : Dimensions) (some : 0 < s.block) (d : ℕ) (l : LeaderState) (b : 
     by (inl before) _ = shifted-before run.at delta (b * s.block + x) before
     by (inr from) (inl to) =
         let fails : not (is_some (rebuilt_block l d b)) ≡ false =
-        each-among (λ y. not (is_some (rebuilt_block l d y)) ≡ false) (blocks_met s run) b (found-none (λ y. not (is_some (rebuilt_block l d y))) (blocks_met s run) none) (block-met s run b x some inside from to) in
+        each-among (λ y. not (is_some (rebuilt_block l d y)) ≡ false) (blocks_met s run) b
+        (found-none (λ y. not (is_some (rebuilt_block l d y))) (blocks_met s run) none) (block-met s run b x some inside from to) in
         absurd (cc (sym fails ∙ ap (λ (o : Option (List ℕ)). not (is_some o)) unbuilt))
     by (inr from) (inr past) =
         let place : run.at + (b * s.block + x - run.at) ≡ b * s.block + x = omega (arith, from) in

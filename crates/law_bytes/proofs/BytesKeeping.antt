@@ -59,9 +59,13 @@ module _ (s : Dimensions) where
     pub holds-grown : Holds s before p → Holds s after p
     holds-grown holds = record {
       within = λ d below. longer d (replica_of p d).applied below (holds.within d below);
-      space = area-same 0 (space_of s) (held s p.name (stand before p)) (held s p.name (stand after p)) p.space holds.space (λ x. held-same s p.name (stand before p) (stand after p) x inside (λ d below. prefix-same d (replica_of p d).applied below (holds.within d below)));
+      space =
+          area-same 0 (space_of s) (held s p.name (stand before p)) (held s p.name (stand after p)) p.space holds.space
+          (λ x. held-same s p.name (stand before p) (stand after p) x inside (λ d below. prefix-same d (replica_of p d).applied below (holds.within d below)));
       copies = each-weaker (CopyHolds s before p) (CopyHolds s after p) copy p.as_row.copies holds.copies;
-      rebuilt = λ d b bytes below is. subst (λ (us : List Update). IsBlock s b (value us) bytes) (sym (prefix-same d (replica_of p d).applied below (holds.within d below))) (holds.rebuilt d b bytes below is);
+      rebuilt =
+          λ d b bytes below is. subst (λ (us : List Update). IsBlock s b (value us) bytes)
+          (sym (prefix-same d (replica_of p d).applied below (holds.within d below))) (holds.rebuilt d b bytes below is);
     } where
       copy : (c : Copy) → CopyHolds s before p c → CopyHolds s after p c
       copy c holds_copy = record {

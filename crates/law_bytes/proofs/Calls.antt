@@ -32,7 +32,6 @@ use Rattle.law_moves.proofs.Moves.{Treats, Asks, Collects, Flushes}
 use Rattle.law_moves.proofs.Members.{Sits, knows_lower}
 use Rattle.law_moves.proofs.Calls.{Seated, each-below, seat-lower, Wants, wants_at_parity}
 use Rattle.erasure_code.proofs.Nodes.{Among}
-use Rattle.law_bytes.specs.Premises.{SettledWrite}
 use Rattle.law_bytes.proofs.Premises.{GoesOn, NextIsNew}
 use Rattle.law_bytes.proofs.Applying.{Holding}
 use Rattle.law_bytes.proofs.Copies.{holding-leader}
@@ -47,13 +46,15 @@ use Rattle.law_bytes.proofs.Stamps.{Follows, GatheringFollows, OfSession, Plan}
 use Rattle.law_bytes.proofs.Following.{Passes, any, passes-judge, passes-self, passes-then, still-passes, still-same}
 use Rattle.law_bytes.proofs.PlanMarking.{t}
 use Rattle.law_bytes.proofs.Opening.{leads-rows, opening_plan, owns-pass}
+use Rattle.law_bytes.specs.Areas.{SettledWrite}
 
 -- a data process never needs a block to be rebuilt
 pub data-never : (s : Dimensions) (inherited : ℕ) (op : Asked) (d e b : ℕ) (p : Process) → decide (space_of s) inherited (replica_of p d) op (found_at s d p (DataNode e)) ≡ decides.NeedBlock b → ⊥
 data-never s inherited op d e b p is = wants_at_parity s d inherited op p (DataNode e) (subst Wants (sym is) tt)
 
 module _ (s : Dimensions) (settled : ℕ → List Update) (l n : ℕ) (write : SettledWrite s settled) (old : ℕ → ℕ → Bool) where
-  module _ (p : Process) (i : ℕ) (name : p.name ≡ ParityNode i) (goes : (d : ℕ) → d < s.k → GoesOn (settled d) (replica_of p d)) (next : NextIsNew s p) (holds : Holding s settled old p) (block : ℕ) where
+  module _ (p : Process) (i : ℕ) (name : p.name ≡ ParityNode i) (goes : (d : ℕ) → d < s.k → GoesOn (settled d) (replica_of p d)) (next : NextIsNew s p)
+      (holds : Holding s settled old p) (block : ℕ) where
     -- a session is started, and what is said of the plan, if it is the plan's
     module _ (plan : Plan) (fits : i ≡ l → suc p.as_leader.last_session ≡ n → (plan ≡ opening_plan s block p) × (block < s.blocks) × ((e : ℕ) → Among e (lost_of s p) → Contains (rows_of s p) i)) where
       none : (d : ℕ) → ◌≡◌ {A = Option (List ℕ)} (at None (replicate s.k None) d) None
@@ -74,7 +75,8 @@ module _ (s : Dimensions) (settled : ℕ → List Update) (l n : ℕ) (write : S
           }
 
       opened-session : p.name ≡ ParityNode l → IfSome (open_session p.as_leader n) (λ g. (n ≤ p.as_leader.last_session) × GatheringFollows s settled plan g)
-          → IfSome (find (λ g. g.number == n) (p.as_leader.sessions ++ new_session s (suc p.as_leader.last_session) block p ∷ [])) (λ g. (n ≤ suc p.as_leader.last_session) × GatheringFollows s settled plan g)
+          → IfSome (find (λ g. g.number == n) (p.as_leader.sessions ++ new_session s (suc p.as_leader.last_session) block p ∷ []))
+          (λ g. (n ≤ suc p.as_leader.last_session) × GatheringFollows s settled plan g)
       opened-session leads before = by (found-behind (λ g. g.number == n) p.as_leader.sessions (new_session s (suc p.as_leader.last_session) block p)) where
         later : IfSome (open_session p.as_leader n) (λ g. (n ≤ suc p.as_leader.last_session) × GatheringFollows s settled plan g)
         later = if-weaker (λ g. (n ≤ p.as_leader.last_session) × GatheringFollows s settled plan g) (λ g. (n ≤ suc p.as_leader.last_session) × GatheringFollows s settled plan g)
@@ -82,7 +84,8 @@ module _ (s : Dimensions) (settled : ℕ → List Update) (l n : ℕ) (write : S
 
         by : (find (λ g. g.number == n) (p.as_leader.sessions ++ new_session s (suc p.as_leader.last_session) block p ∷ []) ≡ open_session p.as_leader n)
             ⊎ ((open_session p.as_leader n ≡ None) × (find (λ g. g.number == n) (p.as_leader.sessions ++ new_session s (suc p.as_leader.last_session) block p ∷ []) ≡ Some (new_session s (suc p.as_leader.last_session) block p)))
-            → IfSome (find (λ g. g.number == n) (p.as_leader.sessions ++ new_session s (suc p.as_leader.last_session) block p ∷ [])) (λ g. (n ≤ suc p.as_leader.last_session) × GatheringFollows s settled plan g)
+            → IfSome (find (λ g. g.number == n) (p.as_leader.sessions ++ new_session s (suc p.as_leader.last_session) block p ∷ []))
+            (λ g. (n ≤ suc p.as_leader.last_session) × GatheringFollows s settled plan g)
         by (inl same) = subst (λ o. IfSome o (λ g. (n ≤ suc p.as_leader.last_session) × GatheringFollows s settled plan g)) (sym same) later
         by (inr both) =
             let numbers : suc p.as_leader.last_session ≡ n = number-is (new_session s (suc p.as_leader.last_session) block p) n
@@ -96,16 +99,22 @@ module _ (s : Dimensions) (settled : ℕ → List Update) (l n : ℕ) (write : S
       leader-of of_it = let names = of_it.0 in cc names
 
       questions-follow : (ds : List ℕ)
-          → Each (λ (z : Sent). Follows s settled l n plan p.name z.to z.message) (map (λ d. record { to = DataNode d; message = tells.ReadBlock (session_of i (suc p.as_leader.last_session)) block (rows_of s p) }) ds)
-      questions-follow ds = each-map (λ (z : Sent). Follows s settled l n plan p.name z.to z.message) (λ d. record { to = DataNode d; message = tells.ReadBlock (session_of i (suc p.as_leader.last_session)) block (rows_of s p) }) ds
+          → Each (λ (z : Sent). Follows s settled l n plan p.name z.to z.message)
+          (map (λ d. record { to = DataNode d; message = tells.ReadBlock (session_of i (suc p.as_leader.last_session)) block (rows_of s p) }) ds)
+      questions-follow ds =
+          each-map (λ (z : Sent). Follows s settled l n plan p.name z.to z.message)
+          (λ d. record { to = DataNode d; message = tells.ReadBlock (session_of i (suc p.as_leader.last_session)) block (rows_of s p) }) ds
           (each-all (λ d. OfSession l n (session_of i (suc p.as_leader.last_session)) → (block ≡ plan.block) × (rows_of s p ≡ plan.rows))
           (λ d of_it. let fit = fits (leader-of of_it) of_it.1 in (ap (λ (x : Plan). x.block) (sym fit.0), ap (λ (x : Plan). x.rows) (sym fit.0))) ds)
 
       marks-follow : (ls : List ℕ) → Each (λ z. Follows s settled l n plan p.name z.to z.message) (flat_map (leader_marks s i (suc p.as_leader.last_session) block p) ls)
       marks-follow [] = tt
-      marks-follow (e ∷ ls) = each-append (λ z. Follows s settled l n plan p.name z.to z.message) (leader_marks s i (suc p.as_leader.last_session) block p e) (flat_map (leader_marks s i (suc p.as_leader.last_session) block p) ls)
+      marks-follow (e ∷ ls) =
+          each-append (λ z. Follows s settled l n plan p.name z.to z.message) (leader_marks s i (suc p.as_leader.last_session) block p e)
+          (flat_map (leader_marks s i (suc p.as_leader.last_session) block p) ls)
           (each-map (λ z. Follows s settled l n plan p.name z.to z.message)
-          (λ j. record { to = ParityNode j; message = tells.Mark (session_of i (suc p.as_leader.last_session)) (rank (at 0 p.ranks e)) block (partition e) (replica_of p e).applied }) (filter (λ j. not (j == i)) (rows_of s p))
+          (λ j. record { to = ParityNode j; message = tells.Mark (session_of i (suc p.as_leader.last_session)) (rank (at 0 p.ranks e)) block (partition e) (replica_of p e).applied })
+          (filter (λ j. not (j == i)) (rows_of s p))
           (among-each (λ j. OfSession l n (session_of i (suc p.as_leader.last_session)) → (block ≡ plan.block) × ((replica_of p e).applied ≡ plan.numbers e) × Contains plan.rows j) (filter (λ j. not (j == i)) (rows_of s p))
           (λ j among of_it.
           let fit = fits (leader-of of_it) of_it.1 in (
@@ -127,14 +136,18 @@ module _ (s : Dimensions) (settled : ℕ → List Update) (l n : ℕ) (write : S
         name = refl;
         follows = λ is. (
           record { copy = is.copy; session = λ leads. opened-session leads (is.session leads) },
-          each-append (λ z. Follows s settled l n plan p.name z.to z.message) (map (λ d. record { to = DataNode d; message = tells.ReadBlock (session_of i (suc p.as_leader.last_session)) block (rows_of s p) }) (left_of s p))
+          each-append (λ z. Follows s settled l n plan p.name z.to z.message)
+              (map (λ d. record { to = DataNode d; message = tells.ReadBlock (session_of i (suc p.as_leader.last_session)) block (rows_of s p) }) (left_of s p))
               (flat_map (leader_marks s i (suc p.as_leader.last_session) block p) (lost_of s p)) (questions-follow (left_of s p)) (marks-follow (lost_of s p)),
         );
       }
 
       pub started-passes : Passes s settled l n plan p (and_then (sending (session_starts s i (suc p.as_leader.last_session) block p) (session_opened s (suc p.as_leader.last_session) block p))
           (for_each (lost_of s p) (own_mark s i (suc p.as_leader.last_session) block)))
-      started-passes = passes-then s settled l n plan p (sending (session_starts s i (suc p.as_leader.last_session) block p) (session_opened s (suc p.as_leader.last_session) block p)) (for_each (lost_of s p) (own_mark s i (suc p.as_leader.last_session) block))
+      started-passes =
+          passes-then s settled l n plan p
+          (sending (session_starts s i (suc p.as_leader.last_session) block p) (session_opened s (suc p.as_leader.last_session) block p))
+          (for_each (lost_of s p) (own_mark s i (suc p.as_leader.last_session) block))
           opened-passes
           (owns-pass s settled l n plan write old p i (suc p.as_leader.last_session) block goes (lost_of s p) (session_opened s (suc p.as_leader.last_session) block p) name lost-below
           (differ-rising (lost_of s p) (rising-filtered (λ d. knows_dead p.known (DataNode d)) s.k)) unmarked (each-all (λ d. replica_of p d ≡ replica_of p d) (λ d. refl) (lost_of s p))
@@ -159,7 +172,9 @@ module _ (s : Dimensions) (settled : ℕ → List Update) (l n : ℕ) (write : S
     module _ (p : Process) (x : ProcessId) (seated : Seated s p x) (inside : IsProcess s x) (living : knows_dead p.known x ≡ false) (goes : (d : ℕ) → d < s.k → GoesOn (settled d) (replica_of p d))
         (next : NextIsNew s p) (holds : Holding s settled old p) (needs : NeedsInside s p) where
       start-claims : (block d i : ℕ) (h : Head) → p.name ≡ ParityNode i → d < s.k → head_at p d ≡ Some h → block < s.blocks → Claims p (start_session s block p)
-      start-claims block d i h name below heads within = subst (λ (z : ℕ). Claims p (and_then (sending (session_starts s z (suc p.as_leader.last_session) block p) (session_opened s (suc p.as_leader.last_session) block p)) (for_each (lost_of s p) (own_mark s z (suc p.as_leader.last_session) block))))
+      start-claims block d i h name below heads within =
+          subst
+          (λ (z : ℕ). Claims p (and_then (sending (session_starts s z (suc p.as_leader.last_session) block p) (session_opened s (suc p.as_leader.last_session) block p)) (for_each (lost_of s p) (own_mark s z (suc p.as_leader.last_session) block))))
           (sym (ap parity_number name)) (by (session-cases (t s settled l n plan) i (suc p.as_leader.last_session))) where
             here : x ≡ ParityNode i
             here = sym seated.name ∙ name
@@ -199,7 +214,9 @@ module _ (s : Dimensions) (settled : ℕ → List Update) (l n : ℕ) (write : S
       issued-passes : (d : ℕ) (h : Head) (u : Update) → Passes s settled l n plan p (issued s d h u p)
       issued-passes d h u =
           let told : Process = with_replica d (with_update u (replica_of p d)) p in
-          passes-then s settled l n plan p (sending (to_others s p _) told) (judge s d) (still-passes s settled l n plan p (sending (to_others s p _) told) (still-same s settled l n plan p told refl refl refl) (silent-others any s p _ tt)) (passes-judge s settled l n plan d told)
+          passes-then s settled l n plan p (sending (to_others s p _) told) (judge s d)
+          (still-passes s settled l n plan p (sending (to_others s p _) told) (still-same s settled l n plan p told refl refl refl) (silent-others any s p _ tt))
+          (passes-judge s settled l n plan d told)
 
       ticketed-passes : (b : Bool) (d : ℕ) (u : Update) (step : ProcessStep) → Passes s settled l n plan p step → Passes s settled l n plan p (ticketed b d u step).step
       ticketed-passes true d u step passes = passes

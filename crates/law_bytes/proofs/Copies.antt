@@ -63,7 +63,9 @@ module _ (s : Dimensions) (settled : ℕ → List Update) where
         (subst (λ (us : ℕ → List Update). IsArea 0 (space_of s) (held s p.name us) q.space) (sym (stand-same p q same.stand))
         (subst (IsArea 0 (space_of s) (held s p.name (stand settled p))) (sym same.space) holding.space));
     copies = copies-same p q same.stand q.as_row.copies copies;
-    rebuilt = λ d b bytes below is_old is. subst (λ (k : ℕ). IsBlock s b (value (take k (settled d))) bytes) (sym (same.stand.applied d)) (holding.rebuilt d b bytes below is_old (sym (same.rebuilt d b) ∙ is));
+    rebuilt =
+        λ d b bytes below is_old is. subst (λ (k : ℕ). IsBlock s b (value (take k (settled d))) bytes) (sym (same.stand.applied d))
+        (holding.rebuilt d b bytes below is_old (sym (same.rebuilt d b) ∙ is));
     there = λ d b below is_old. ap is_some (same.rebuilt d b) ∙ holding.there d b below is_old;
   }
 
@@ -84,7 +86,8 @@ module _ (s : Dimensions) (settled : ℕ → List Update) where
   pub begun-holds : (old : ℕ → ℕ → Bool) (there : Bool) (leader number block : ℕ) (p : Process) → Holding s settled old p → Holding s settled old (copy_begun there s leader number block p)
   begun-holds old true leader number block p holding = holding
   begun-holds old false leader number block p holding =
-      holding-copies old p (p.as_row.copies ++ new_copy s leader number block p.space ∷ []) (each-append (CopyHolds s settled p) p.as_row.copies (new_copy s leader number block p.space ∷ []) holding.copies (fresh, tt)) holding
+      holding-copies old p (p.as_row.copies ++ new_copy s leader number block p.space ∷ [])
+      (each-append (CopyHolds s settled p) p.as_row.copies (new_copy s leader number block p.space ∷ []) holding.copies (fresh, tt)) holding
     where
       none : (d : ℕ) → ◌≡◌ {A = Option ℕ} (at None (replicate s.k None) d) None
       none d = at-replicate None s.k d
@@ -94,7 +97,9 @@ module _ (s : Dimensions) (settled : ℕ → List Update) where
 
       fresh : CopyHolds s settled p (new_copy s leader number block p.space)
       fresh = record {
-        bytes = subst (λ (us : ℕ → List Update). IsBlock s block (held s p.name us) (block_in s block p.space)) (sym stands) (block-of-space block (held s p.name (stand settled p)) p.space holding.space);
+        bytes =
+            subst (λ (us : ℕ → List Update). IsBlock s block (held s p.name us) (block_in s block p.space)) (sym stands)
+            (block-of-space block (held s p.name (stand settled p)) p.space holding.space);
         marks = λ d n below is. absurd (cc (is, none d));
       }
 
@@ -102,7 +107,9 @@ module _ (s : Dimensions) (settled : ℕ → List Update) where
   pub marked-holds : (p : Process) (c : Copy) (d n : ℕ) → Inside s p.name → d < s.k → (replica_of p d).applied ≡ n
       → (replica_of p d).applied ≤ length (settled d) → at None c.marks d ≡ None → CopyHolds s settled p c → CopyHolds s settled p (marked d n c)
   marked-holds p c d n inside below stands within free holds = record {
-    bytes = area-same (c.block * s.block) (block_size s c.block) (held s p.name (marked_stand settled c.marks p)) (held s p.name (marked_stand settled (put None c.marks d (Some n)) p)) c.bytes holds.bytes
+    bytes =
+        area-same (c.block * s.block) (block_size s c.block) (held s p.name (marked_stand settled c.marks p))
+        (held s p.name (marked_stand settled (put None c.marks d (Some n)) p)) c.bytes holds.bytes
         (λ x. held-same s p.name (marked_stand settled c.marks p) (marked_stand settled (put None c.marks d (Some n)) p) x inside (λ e low. same e (cases_eq e d)));
     marks = λ e k low is. bound e k low is (cases_eq e d);
   } where
@@ -176,7 +183,9 @@ module _ (s : Dimensions) where
   -- a copy that was marked is kept, or goes to the leader
   module _ (settled : ℕ → List Update) (old : ℕ → ℕ → Bool) where
     finished-holds : (own : Bool) (c : Copy) (p : Process) → Holding s settled old p → Holding s settled old (row_finished own s c p).process
-    finished-holds true c p holding = holding-leader settled old p (row_gathered s c.leader c.bytes (open_session p.as_leader c.number) p.as_leader) (stays-row c.leader c.bytes (open_session p.as_leader c.number) p.as_leader) holding
+    finished-holds true c p holding =
+        holding-leader settled old p (row_gathered s c.leader c.bytes (open_session p.as_leader c.number) p.as_leader)
+        (stays-row c.leader c.bytes (open_session p.as_leader c.number) p.as_leader) holding
     finished-holds false c p holding = holding
 
     pub kept-holds : (whole : Bool) (c : Copy) (p : Process) → CopyHolds s settled p c → Holding s settled old p → Holding s settled old (copy_kept whole s c p).process

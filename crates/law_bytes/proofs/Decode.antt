@@ -28,10 +28,9 @@ use Rattle.group_types.proofs.Eaches.{each-append, each-take, each-weaker}
 use Rattle.group_message.specs.declared.update.Update.{Update}
 use Rattle.group_run.specs.Leaders.{columns_from, decoded_of, is_complete}
 use Rattle.group_run.specs.Process.{Gathering}
-use Rattle.law_bytes.specs.Areas.{IsArea, IsBlock, WritesBytes, block_size, code, held, value}
+use Rattle.law_bytes.specs.Areas.{IsArea, IsBlock, WritesBytes, block_size, code, held, value, SettledWrite}
 use Rattle.law_bytes.specs.Decoding.{GathersRight, Rising, SessionsDecode, SpaceIs, SpacesStand, columns, values}
 use Rattle.law_bytes.specs.Held.{stand}
-use Rattle.law_bytes.specs.Premises.{SettledWrite}
 use Rattle.law_bytes.proofs.Rising.{Differ, all-among, all-each, among-contains, among-left, among-range, among-right, any-among, contains-among, differ-append, differ-pairs, differ-rising, each-among, rising-same}
 use Rattle.law_bytes.proofs.Values.{IsAdded, space-added, value-byte}
 
@@ -68,7 +67,8 @@ module _ (k from len : ℕ) (f : ℕ → ℕ → ℕ) (cs : List (List ℕ)) (ar
   pub areas-bytes : ((d x : ℕ) → d < k → f d x < 256) → AreOfBytes cs
   areas-bytes bytes d e below x y low =
       let area = column-at d e below in
-      subst (λ (n : ℕ). n < 256) (sym (get_or_default (get_or cs d e) x y 0 low ∙ area.same x (subst (λ (n : ℕ). x < n) area.long low))) (bytes d (from + x) (subst (λ (n : ℕ). d < n) areas.many below))
+      subst (λ (n : ℕ). n < 256) (sym (get_or_default (get_or cs d e) x y 0 low ∙ area.same x (subst (λ (n : ℕ). x < n) area.long low)))
+      (bytes d (from + x) (subst (λ (n : ℕ). d < n) areas.many below))
 
   -- their code is the area of the code
   pub coded-area : (m i : ℕ) → IsArea from len (λ x. field_sum k (λ d. product (coefficient m i d) (f d x))) (coded m i len cs)
@@ -156,7 +156,9 @@ module _ (s : Dimensions) (us : ℕ → List Update) (g : Gathering) (shaped : I
       (λ j bytes is. subst (λ (n : ℕ). Contains g.rows n × IsBlock s g.block (code s n us) bytes) (let same : j ≡ 0 + j = omega arith in same) (right.codes j bytes is))
 
   known_in : Each (λ d. (d < s.k) × (¬ (Contains g.lost d))) (numbers_of known)
-  known_in = numbers-each (λ d. (d < s.k) × (¬ (Contains g.lost d))) known (each-weaker (λ c. (c.number < s.k) × (¬ (Contains g.lost c.number)) × IsBlock s g.block (value (us c.number)) c.bytes) (λ c. (c.number < s.k) × (¬ (Contains g.lost c.number))) (λ c all. (all.0, all.1)) known known_each)
+  known_in =
+      numbers-each (λ d. (d < s.k) × (¬ (Contains g.lost d))) known
+      (each-weaker (λ c. (c.number < s.k) × (¬ (Contains g.lost c.number)) × IsBlock s g.block (value (us c.number)) c.bytes) (λ c. (c.number < s.k) × (¬ (Contains g.lost c.number))) (λ c all. (all.0, all.1)) known known_each)
 
   rows_are : numbers_of rows ≡ g.rows
   unfolding rows
@@ -204,9 +206,13 @@ module _ (s : Dimensions) (us : ℕ → List Update) (g : Gathering) (shaped : I
   agree = record {
     many = areas.many;
     long = areas-long s.k (g.block * s.block) s.block (λ d. value (us d)) whole areas;
-    holds = all-each (λ c. get_or whole c.number [] ≡ c.bytes) known (each-weaker (λ c. (c.number < s.k) × (¬ (Contains g.lost c.number)) × IsBlock s g.block (value (us c.number)) c.bytes) (λ c. get_or whole c.number [] ≡ c.bytes)
+    holds =
+        all-each (λ c. get_or whole c.number [] ≡ c.bytes) known
+        (each-weaker (λ c. (c.number < s.k) × (¬ (Contains g.lost c.number)) × IsBlock s g.block (value (us c.number)) c.bytes) (λ c. get_or whole c.number [] ≡ c.bytes)
         (λ c all. area-one (g.block * s.block) s.block (value (us c.number)) (get_or whole c.number []) c.bytes (areas.each c.number all.0) (to_area (value (us c.number)) c.bytes all.2)) known known_each);
-    codes = all-each (λ c. c.bytes ≡ coded s.m c.number s.block whole) rows (each-weaker (λ c. Contains g.rows c.number × IsBlock s g.block (code s c.number us) c.bytes) (λ c. c.bytes ≡ coded s.m c.number s.block whole)
+    codes =
+        all-each (λ c. c.bytes ≡ coded s.m c.number s.block whole) rows
+        (each-weaker (λ c. Contains g.rows c.number × IsBlock s g.block (code s c.number us) c.bytes) (λ c. c.bytes ≡ coded s.m c.number s.block whole)
         (λ c all. area-one (g.block * s.block) s.block (code s c.number us) c.bytes (coded s.m c.number s.block whole) (to_area (code s c.number us) c.bytes all.1) (coded-area s.k (g.block * s.block) s.block (λ d. value (us d)) whole areas s.m c.number)) rows rows_each);
   }
 
@@ -214,7 +220,8 @@ module _ (s : Dimensions) (us : ℕ → List Update) (g : Gathering) (shaped : I
   unfolding known rows
   decoded-block l there =
       let low : l < s.k = each-among (λ d. d < s.k) g.lost l right.lost_in (contains-among g.lost l there) in
-      let all = lost_are_decoded s.k s.m s.block g.lost rows known whole can (areas-bytes s.k (g.block * s.block) s.block (λ d. value (us d)) whole areas (λ d x below. value-byte s (us d) x (right.write d below))) agree in
+      let all = lost_are_decoded s.k s.m s.block g.lost rows known whole can
+      (areas-bytes s.k (g.block * s.block) s.block (λ d. value (us d)) whole areas (λ d x below. value-byte s (us d) x (right.write d below))) agree in
       let is : get_or whole l [] ≡ decoded s.m s.block g.lost rows known l = subst (λ (x : ℕ). get_or whole x [] ≡ decoded s.m s.block g.lost rows known x) there.2 (all there.0 l there.1) in
       subst (λ (n : ℕ). IsArea (g.block * s.block) n (value (us l)) (decoded_of s g l)) (sym size) (subst (IsArea (g.block * s.block) s.block (value (us l))) is (areas.each l low))
 

@@ -64,7 +64,9 @@ module _ (s : Dimensions) where
     exact-grown v x q (tells.Notice dead) inside may exact = tt
 
     link-grown : (v : State) (x q : ProcessId) (ms : List Message) → IsProcess s x → Each (MayStand s v x q) ms → Each (Exact s before x) ms → Each (Exact s after x) ms
-    link-grown v x q ms inside may exact = each-weaker (λ m. MayStand s v x q m × Exact s before x m) (Exact s after x) (λ m both. exact-grown v x q m inside both.0 both.1) ms (each-both (MayStand s v x q) (Exact s before x) ms may exact)
+    link-grown v x q ms inside may exact =
+        each-weaker (λ m. MayStand s v x q m × Exact s before x m) (Exact s after x) (λ m both. exact-grown v x q m inside both.0 both.1) ms
+        (each-both (MayStand s v x q) (Exact s before x) ms may exact)
 
   -- one process made a step, after which links are as they were but for what it sent
   acted-exact : (u w : State) (p : ProcessId) (step : ProcessStep) → IsProcess s p → u.dead p ≡ false → Members s w → Acted s u w p step

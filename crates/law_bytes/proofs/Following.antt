@@ -97,7 +97,9 @@ module _ (s : Dimensions) (settled : ℕ → List Update) (l n : ℕ) (plan : Pl
   still-ceased leader upto p = record {
     name = refl;
     follows = λ is. record {
-      copy = λ r named. if-filter (is_copy l n) (λ c. not (c.leader == leader && nat_le c.number upto)) (λ c. Contains plan.rows r × CopyFollows s plan c) (not (l == leader && nat_le n upto)) p.as_row.copies
+      copy =
+          λ r named. if-filter (is_copy l n) (λ c. not (c.leader == leader && nat_le c.number upto)) (λ c. Contains plan.rows r × CopyFollows s plan c)
+          (not (l == leader && nat_le n upto)) p.as_row.copies
           (λ c is_it. let parts = copy-parts l n c is_it in ap₂ (λ (a b : ℕ). not (a == leader && nat_le b upto)) parts.0 parts.1) (is.copy r named);
       session = is.session;
     };

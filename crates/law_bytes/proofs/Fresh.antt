@@ -36,7 +36,8 @@ module _ (s : Dimensions) (v : State) (carried : Carried s v) where
   -- what a living process has, and what comes to it, is among all
   around-at : (t : Token) (p : ProcessId) → IsProcess s p → v.dead p ≡ false → at_process t (v.process p) + sum_of (everyone s) (between v t p) ≤ tokens s v t
   around-at t p pin lives =
-      let is : around s v t p ≡ at_process t (v.process p) + sum_of (everyone s) (between v t p) = ap (λ (b : Bool). if b then 0 else at_process t (v.process p) + sum_of (everyone s) (between v t p)) lives in
+      let is : around s v t p ≡ at_process t (v.process p) + sum_of (everyone s)
+      (between v t p) = ap (λ (b : Bool). if b then 0 else at_process t (v.process p) + sum_of (everyone s) (between v t p)) lives in
       let less = sum-at (everyone s) (around s v t) p (within-everyone s p pin) in
       omega (arith, is, less)
 
@@ -80,8 +81,12 @@ module _ (s : Dimensions) (v : State) (carried : Carried s v) where
         let held = marked-at t i (ParityNode i) refl name marked in
         let all = around-at t (ParityNode i) iin lives in
         let most = few t below in
-        let link : between v t (ParityNode i) x ≡ in_link t x (ParityNode i) (v.link x (ParityNode i)) = ap (λ (b : Bool). if b then 0 else in_link t x (ParityNode i) (v.link x (ParityNode i))) (same-ne x (ParityNode i) apart) in
-        let has : in_link t x (ParityNode i) (v.link x (ParityNode i)) ≡ one_if (is_token t x (ParityNode i) (tells.Mark session (record { 0 = rank }) block (record { 0 = d }) n)) + in_link t x (ParityNode i) rest = ap (in_link t x (ParityNode i)) first in
+        let link : between v t (ParityNode i) x ≡ in_link t x (ParityNode i)
+        (v.link x (ParityNode i)) = ap (λ (b : Bool). if b then 0 else in_link t x (ParityNode i) (v.link x (ParityNode i)))
+        (same-ne x (ParityNode i) apart) in
+        let has : in_link t x (ParityNode i) (v.link x (ParityNode i)) ≡ one_if
+        (is_token t x (ParityNode i) (tells.Mark session (record { 0 = rank }) block (record { 0 = d }) n)) + in_link t x
+        (ParityNode i) rest = ap (in_link t x (ParityNode i)) first in
         let one = bit-on (is_token t x (ParityNode i) (tells.Mark session (record { 0 = rank }) block (record { 0 = d }) n)) comes in
         let sum = sum-at (everyone s) (between v t (ParityNode i)) x (within-everyone s x xin) in
         absurd (omega (arith, held, all, most, link, has, one, sum))
@@ -118,7 +123,8 @@ module _ (s : Dimensions) (v : State) (carried : Carried s v) where
         let inside : l < s.m = subst (IsProcess s) here pin in
         let most = carried.tokens t below inside in
         let last : (v.process (ParityNode l)).as_leader.last_session ≡ (v.process p).as_leader.last_session = ap (λ (y : ProcessId). (v.process y).as_leader.last_session) (sym here) in
-        let none : one_if (nat_lt (suc (v.process p).as_leader.last_session) (suc (v.process (ParityNode l)).as_leader.last_session)) ≡ 0 = ap one_if (not-below (suc (v.process p).as_leader.last_session) (suc (v.process (ParityNode l)).as_leader.last_session) (omega (arith, last))) in
+        let none : one_if (nat_lt (suc (v.process p).as_leader.last_session) (suc (v.process (ParityNode l)).as_leader.last_session)) ≡ 0 = ap one_if
+        (not-below (suc (v.process p).as_leader.last_session) (suc (v.process (ParityNode l)).as_leader.last_session) (omega (arith, last))) in
         absurd (omega (arith, held, all, most, none))
       where
         not-below : (a b : ℕ) → b ≤ a → nat_lt a b ≡ false
@@ -131,7 +137,8 @@ module _ (s : Dimensions) (v : State) (carried : Carried s v) where
   pub marks-new : MarksAreNew s v
   marks-new = record {
     coming = λ x p m rest xin pin apart lives first.
-        coming x p m rest xin pin apart lives first ((subst (Each (MayStand s v x p)) first (carried.members.may x p xin pin apart lives)).0) ((subst (Each Fact) first (carried.facts x p xin pin apart lives)).0);
+        coming x p m rest xin pin apart lives first ((subst (Each (MayStand s v x p)) first (carried.members.may x p xin pin apart lives)).0)
+        ((subst (Each Fact) first (carried.facts x p xin pin apart lives)).0);
     next = λ p pin lives l name. next-new p pin lives l name;
   }
 

@@ -9,8 +9,7 @@ use Rattle.group_message.specs.declared.message.Message.{Message}
 use Rattle.group_message.specs.declared.message.Message.TheVariants as tells
 use Rattle.group_run.specs.Process.{Process}
 use Rattle.group_run.specs.Rows.{copy_in, parity_number}
-use Rattle.law_moves.specs.Moves.{HoldsAlways}
-use Rattle.law_moves.specs.State.{State}
+use Rattle.law_moves.specs.State.{State, HoldsAlways}
 use Rattle.law_bytes.proofs.Premises.{NextIsNew}
 
 -- a message's partition, if it is a mark, isn't marked in the copy of its session

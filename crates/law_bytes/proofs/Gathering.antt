@@ -75,9 +75,11 @@ module _ (s : Dimensions) where
     -- what comes for the open session of a number
     row-comes : (number i : ℕ) (bytes : List ℕ) (state : LeaderState) → (n ≡ number → Contains plan.rows i × IsBlock s plan.block (code s i (planned settled plan)) bytes)
         → IfSome (open_session state n) (λ g. (n ≤ state.last_session) × GatheringFollows s settled plan g)
-        → IfSome (open_session (row_gathered s i bytes (open_session state number) state) n) (λ g. (n ≤ (row_gathered s i bytes (open_session state number) state).last_session) × GatheringFollows s settled plan g)
+        → IfSome (open_session (row_gathered s i bytes (open_session state number) state) n)
+        (λ g. (n ≤ (row_gathered s i bytes (open_session state number) state).last_session) × GatheringFollows s settled plan g)
     row-comes number i bytes state right holds =
-        subst (λ (k : ℕ). IfSome (open_session (row_gathered s i bytes (open_session state number) state) n) (λ g. (n ≤ k) × GatheringFollows s settled plan g)) (sym (row-last s i bytes (open_session state number) state))
+        subst (λ (k : ℕ). IfSome (open_session (row_gathered s i bytes (open_session state number) state) n) (λ g. (n ≤ k) × GatheringFollows s settled plan g))
+        (sym (row-last s i bytes (open_session state number) state))
         (by (open_session state number) refl)
       where
         by : (o : Option Gathering) → open_session state number ≡ o → IfSome (open_session (row_gathered s i bytes o state) n) (λ g. (n ≤ state.last_session) × GatheringFollows s settled plan g)
@@ -90,9 +92,12 @@ module _ (s : Dimensions) where
 
     block-comes : (number e : ℕ) (bytes : List ℕ) (state : LeaderState) → e < s.k → (n ≡ number → IsBlock s plan.block (value (planned settled plan e)) bytes)
         → IfSome (open_session state n) (λ g. (n ≤ state.last_session) × GatheringFollows s settled plan g)
-        → IfSome (open_session (block_gathered s e bytes (open_session state number) state) n) (λ g. (n ≤ (block_gathered s e bytes (open_session state number) state).last_session) × GatheringFollows s settled plan g)
+        → IfSome (open_session (block_gathered s e bytes (open_session state number) state) n)
+        (λ g. (n ≤ (block_gathered s e bytes (open_session state number) state).last_session) × GatheringFollows s settled plan g)
     block-comes number e bytes state below right holds =
-        subst (λ (k : ℕ). IfSome (open_session (block_gathered s e bytes (open_session state number) state) n) (λ g. (n ≤ k) × GatheringFollows s settled plan g)) (sym (block-last s e bytes (open_session state number) state))
+        subst
+        (λ (k : ℕ). IfSome (open_session (block_gathered s e bytes (open_session state number) state) n) (λ g. (n ≤ k) × GatheringFollows s settled plan g))
+        (sym (block-last s e bytes (open_session state number) state))
         (by (open_session state number) refl)
       where
         by : (o : Option Gathering) → open_session state number ≡ o → IfSome (open_session (block_gathered s e bytes o state) n) (λ g. (n ≤ state.last_session) × GatheringFollows s settled plan g)

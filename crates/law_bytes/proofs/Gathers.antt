@@ -9,9 +9,8 @@ use Rattle.group_types.proofs.Lists.{at-put-other}
 use Rattle.group_message.specs.declared.update.Update.{Update}
 use Rattle.group_run.specs.Leaders.{is_complete}
 use Rattle.group_run.specs.Process.{Gathering}
-use Rattle.law_bytes.specs.Areas.{IsBlock, WritesBytes, code, value}
+use Rattle.law_bytes.specs.Areas.{IsBlock, WritesBytes, code, value, SettledWrite}
 use Rattle.law_bytes.specs.Decoding.{GathersRight}
-use Rattle.law_bytes.specs.Premises.{SettledWrite}
 use Rattle.law_bytes.proofs.Decode.{sessions_decode}
 use Rattle.law_bytes.proofs.Rebuilding.{IsDecoded, with_block, with_row}
 use Rattle.law_bytes.proofs.Rising.{among-contains}
@@ -34,7 +33,9 @@ module _ (s : Dimensions) (settled : ℕ → List Update) (write : SettledWrite 
     as_many = sound.as_many;
     inside = follows.inside;
     write = λ d below. each-take (WritesBytes s) (plan.numbers d) (settled d) (write d below);
-    blocks = λ d bytes there. let is = sound.blocks d bytes there in (is.0, is.1, subst (λ (b : ℕ). IsBlock s b (value (planned settled plan d)) bytes) (sym follows.block) (follows.blocks_in d bytes there).1);
+    blocks =
+        λ d bytes there. let is = sound.blocks d bytes there in
+        (is.0, is.1, subst (λ (b : ℕ). IsBlock s b (value (planned settled plan d)) bytes) (sym follows.block) (follows.blocks_in d bytes there).1);
     codes = λ i bytes there.
         let row = follows.rows_in i bytes there in
         (subst (λ (rows : List ℕ). Contains rows i) (sym follows.rows) row.0, subst (λ (b : ℕ). IsBlock s b (code s i (planned settled plan)) bytes) (sym follows.block) row.1);
@@ -62,5 +63,6 @@ pub sessions_gather : SessionsGather
 sessions_gather s v sound up write stands l n g lin lives name opens =
     let one = stands l n lin in
     let here = one.1.processes (ParityNode l) lin lives in
-    let follows = if-some (λ x. (n ≤ (v.process (ParityNode l)).as_leader.last_session) × GatheringFollows s v.settled one.0 x) (open_session (v.process (ParityNode l)).as_leader n) g opens (here.session name) in
+    let follows = if-some (λ x. (n ≤ (v.process (ParityNode l)).as_leader.last_session) × GatheringFollows s v.settled one.0 x)
+    (open_session (v.process (ParityNode l)).as_leader n) g opens (here.session name) in
     (one.0, one.1, gathers-right s v.settled write one.0 g (found-each (λ x. x.number == n) (IsSound s) (v.process (ParityNode l)).as_leader.sessions g opens (sound up (ParityNode l) lin lives)).1 follows.1)

@@ -20,8 +20,8 @@ use Rattle.group_run.specs.Process.{Copy, Gathering, Head, LeaderState, Process}
 use Rattle.group_run.specs.Receiving.{death_known, notice_comes, take_over_if, taken_over, takes_over}
 use Rattle.group_run.specs.Replica.{Replica, empty_replica, up_to}
 use Rattle.group_run.specs.Rows.{begin_copy, copy_begun, copy_in, is_copy, is_marked, marked, stamp_of, with_copies, without_copy}
-use Rattle.law_bytes.specs.Areas.{IsBlock, code, value}
-use Rattle.law_bytes.specs.Premises.{SettledWrite}
+use Rattle.law_moves.proofs.Chains.{goes-each, goes-when}
+use Rattle.law_bytes.specs.Areas.{IsBlock, code, value, SettledWrite}
 use Rattle.law_bytes.proofs.Applying.{at-rebuilt}
 use Rattle.law_bytes.proofs.Finds.{if-some}
 use Rattle.law_bytes.proofs.Rebuilding.{GivesBlock, block-gives, row-gives, with_block, with_row}
@@ -65,12 +65,10 @@ module _ (s : Dimensions) where
         ∙ none
 
   none-each : (xs : List ℕ) (f : ℕ → Process → ProcessStep) (p : Process) → ((x : ℕ) (q : Process) → NoneStays q (f x q).process) → NoneStays p (for_each xs f p).process
-  none-each [] f p all = none-self p
-  none-each (x ∷ xs) f p all = none-then p (f x p).process (for_each xs f (f x p).process).process (all x p) (none-each xs f (f x p).process all)
+  none-each = goes-each (λ p q. NoneStays p q) none-self none-then
 
   pub none-when : (b : Bool) (p : Process) (step : ProcessStep) → NoneStays p step.process → NoneStays p (when b p step).process
-  none-when true p step stays = stays
-  none-when false p step stays = none-self p
+  none-when = goes-when (λ p q. NoneStays p q) none-self
 
   pub none-judge : (d : ℕ) (p : Process) → NoneStays p (judge s d p).process
   none-judge d p = by (head_at p d) where
@@ -119,7 +117,9 @@ module _ (s : Dimensions) where
         let before = if-some (λ x. (n ≤ p.as_leader.last_session) × GatheringFollows s settled plan x) (open_session p.as_leader n) gb.session gb.opens session in
         let sound_for = if-some (SoundFor known) (open_session p.as_leader n) gb.session gb.opens sound in
         let has : Contains gb.session.lost d = subst (λ (ls : List ℕ). Contains ls d) same (among-contains (more gb.session).lost d gb.decoded.lost) in
-        let at_lost = if-some (λ x. (e : ℕ) → Contains x.lost e → (plan.numbers e ≤ (replica_of p e).applied) × IfSome (head_at p e) (λ h. h.inherited ≤ plan.numbers e)) (open_session p.as_leader n) gb.session gb.opens (lost name) d has in
+        let at_lost = if-some
+        (λ x. (e : ℕ) → Contains x.lost e → (plan.numbers e ≤ (replica_of p e).applied) × IfSome (head_at p e) (λ h. h.inherited ≤ plan.numbers e))
+        (open_session p.as_leader n) gb.session gb.opens (lost name) d has in
         record {
           number = plan.numbers d;
           values = decodes-right s settled write plan (more gb.session) d b bytes shaped (sounds sound_for) (follows before.1) gb.complete gb.decoded;
@@ -133,7 +133,8 @@ module _ (s : Dimensions) where
         → rebuilt_block (row_comes s n i row p).as_leader d b ≡ Some bytes → GivenAt s settled known (row_comes s n i row p) d b bytes
     row-given i row among is d b bytes before after =
         let gb = row-gives s p.as_leader n i row d b bytes before after in
-        let given = gives d b bytes gb.session (with_row i row) gb refl (λ follows. row-more s settled l n plan i row gb.session among is follows) (λ sound_for. row-sound s settled write plan i row gb.session sound_for.sound) in
+        let given = gives d b bytes gb.session (with_row i row) gb refl (λ follows. row-more s settled l n plan i row gb.session among is follows)
+        (λ sound_for. row-sound s settled write plan i row gb.session sound_for.sound) in
         record { number = given.number; values = given.values; lost = given.lost; applied = given.applied; inherited = given.inherited }
 
     -- a block comes
@@ -158,7 +159,8 @@ module _ (s : Dimensions) where
     marking = apply_to s d k (begin_copy s leader n block p)
 
     begun-leader : (b : Bool)
-        → ((copy_begun b s leader n block p).as_leader ≡ p.as_leader) × ((copy_begun b s leader n block p).name ≡ p.name) × ((copy_begun b s leader n block p).heads ≡ p.heads) × ((copy_begun b s leader n block p).replicas ≡ p.replicas)
+        → ((copy_begun b s leader n block p).as_leader ≡ p.as_leader) × ((copy_begun b s leader n block p).name ≡ p.name) ×
+        ((copy_begun b s leader n block p).heads ≡ p.heads) × ((copy_begun b s leader n block p).replicas ≡ p.replicas)
     begun-leader true = (refl, refl, refl, refl)
     begun-leader false = (refl, refl, refl, refl)
 
@@ -166,7 +168,9 @@ module _ (s : Dimensions) where
     begun-all = begun-leader (is_some (copy_in p.as_row.copies leader n))
 
     begun-bears : Bears s n p begun
-    begun-bears = bears-same s n p begun begun-all.2 (ap (λ (x : LeaderState). x.sessions) begun-all.0) (λ e. let same = ap (λ (rs : List Replica). (at empty_replica rs e).applied) begun-all.3 in omega (arith, same))
+    begun-bears =
+        bears-same s n p begun begun-all.2 (ap (λ (x : LeaderState). x.sessions) begun-all.0)
+        (λ e. let same = ap (λ (rs : List Replica). (at empty_replica rs e).applied) begun-all.3 in omega (arith, same))
 
     marking-bears : Bears s n p marking
     marking-bears = bears-then s n p begun marking begun-bears (bears-apply s n d k begun)

@@ -38,7 +38,8 @@ front-link t p q to m rest = by (same-cases q to) where
   by : (q ≡ to) ⊎ (q ≢ to) → in_link t p q (front_if (same_process to q) m rest) ≤ only_at to (one_if (is_token t p to m)) q + in_link t p q rest
   by (inl same) =
       let here = only-here to q (one_if (is_token t p to m)) same in
-      let is : in_link t p q (front_if (same_process to q) m rest) ≡ one_if (is_token t p q m) + in_link t p q rest = ap (λ (b : Bool). in_link t p q (front_if b m rest)) (ap (same_process to) same ∙ same-refl to) in
+      let is : in_link t p q (front_if (same_process to q) m rest) ≡ one_if
+      (is_token t p q m) + in_link t p q rest = ap (λ (b : Bool). in_link t p q (front_if b m rest)) (ap (same_process to) same ∙ same-refl to) in
       let one : one_if (is_token t p q m) ≡ one_if (is_token t p to m) = ap (λ (y : ProcessId). one_if (is_token t p y m)) same in
       omega (arith, here, is, one)
   by (inr other) =
@@ -51,7 +52,8 @@ sent-sum s t p (z ∷ zs) =
     let rest = sent-sum s t p zs in
     let first = sum-only (everyone s) z.to (one_if (is_token t p z.to z.message)) (everyone-once s) in
     let split = sum-both (everyone s) (only_at z.to (one_if (is_token t p z.to z.message))) (λ q. in_link t p q (sent_to q zs)) in
-    let whole = sum-le (everyone s) (λ q. only_at z.to (one_if (is_token t p z.to z.message)) q + in_link t p q (sent_to q zs)) (λ q. in_link t p q (sent_to q (z ∷ zs))) (λ q there. front-link t p q z.to z.message (sent_to q zs)) in
+    let whole = sum-le (everyone s) (λ q. only_at z.to (one_if (is_token t p z.to z.message)) q + in_link t p q (sent_to q zs))
+    (λ q. in_link t p q (sent_to q (z ∷ zs))) (λ q there. front-link t p q z.to z.message (sent_to q zs)) in
     omega (arith, rest, first, split, whole)
 
 module _ (s : Dimensions) (t : Token) where
@@ -109,7 +111,8 @@ module _ (s : Dimensions) (t : Token) where
             let same = ap (at_process t) (pops.processes p pin) in
             let a = between-other u p x apart in
             let b : between v t p x ≡ one_if (is_token t x p m) + in_link t x p (u.link x p) = between-other v p x apart ∙ ap (in_link t x p) pops.first in
-            let links = sum-less (everyone s) (between v t p) (between u t p) x (one_if (is_token t x p m)) (within-everyone s x xin) (λ y there. link-less p y pin (everyone-inside s y there)) (omega (arith, a, b)) in
+            let links = sum-less (everyone s) (between v t p) (between u t p) x (one_if (is_token t x p m)) (within-everyone s x xin)
+            (λ y there. link-less p y pin (everyone-inside s y there)) (omega (arith, a, b)) in
             omega (arith, before, after, same, links)
 
   -- a process makes a step

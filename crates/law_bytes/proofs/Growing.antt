@@ -66,7 +66,9 @@ pub grown : (s : Dimensions) (v : State) (after : ℕ → List Update) (l n : �
     → SessionFollows s (record v { settled = after }) l n plan
 grown s v after l n plan grows is = record {
   within = longer s v.settled after grows l n plan is.within;
-  links = λ x q xin qin apart living. each-weaker (Follows s v.settled l n plan x q) (Follows s after l n plan x q) (λ m. follows-grown s v.settled after grows l n plan is.within x q m xin) (v.link x q) (is.links x q xin qin apart living);
+  links =
+      λ x q xin qin apart living. each-weaker (Follows s v.settled l n plan x q) (Follows s after l n plan x q)
+      (λ m. follows-grown s v.settled after grows l n plan is.within x q m xin) (v.link x q) (is.links x q xin qin apart living);
   processes = λ p pin living. process-grown s v.settled after grows l n plan is.within (v.process p) (is.processes p pin living);
   lost = is.lost;
 }

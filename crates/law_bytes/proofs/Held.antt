@@ -1,5 +1,4 @@
--- What bytes the processes hold: spaces, copies of blocks and rebuilt blocks are those of the settled
--- updates, each partition's up to a number.
+-- The bytes of every living process of a state.
 use Rattle.std.specs.Prelude.{◌≡◌, false}
 use Rattle.group_types.specs.Dimensions.{Dimensions}
 use Rattle.group_types.specs.Names.{IsProcess}

@@ -20,11 +20,11 @@ use Rattle.law_moves.specs.State.{State}
 use Rattle.law_moves.proofs.State.{Opens}
 use Rattle.law_moves.proofs.Members.{IsParity, Members}
 use Rattle.law_bytes.proofs.Held.{HoldsBytes}
-use Rattle.law_bytes.specs.Premises.{SettledWrite}
 use Rattle.law_bytes.proofs.Premises.{AppliesSettled, MarksNew, NextIsNew}
 use Rattle.law_bytes.proofs.LeadingWords.{SessionsFit}
 use Rattle.law_bytes.proofs.Tokens.{TokensHold}
 use Rattle.law_bytes.proofs.Stamps.{SessionsStand}
+use Rattle.law_bytes.specs.Areas.{SettledWrite}
 
 -- what other laws say of a step of a process, with the updates that are settled after it
 pub record StepSettles (s : Dimensions) (settled : ℕ → List Update) (p : Process) (t : ProcessStep) : Type 0 where

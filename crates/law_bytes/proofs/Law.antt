@@ -15,8 +15,8 @@ use Rattle.law_moves.specs.State.{State}
 use Rattle.law_moves.proofs.State.{Opens}
 use Rattle.law_moves.proofs.Members.{Members}
 use Rattle.law_bytes.proofs.Held.{HoldsBytes}
-use Rattle.law_bytes.specs.Premises.{SettledWrite}
 use Rattle.law_bytes.proofs.Premises.{AppliesSettled, SettlesNext, MarksNew, NextIsNew, RebuildsRight}
+use Rattle.law_bytes.specs.Areas.{SettledWrite}
 
 -- what other laws say of a step of a process, with the updates that are settled after it
 pub record StepIsRight (s : Dimensions) (settled : ℕ → List Update) (p : Process) (t : ProcessStep) : Type 0 where

@@ -38,6 +38,7 @@ use Rattle.law_moves.proofs.Runs.{holds_always}
 use Rattle.law_moves.proofs.Members.{Members, Stands}
 use Rattle.law_moves.proofs.Keeping as members
 use Rattle.law_moves.proofs.Standing.{sender-lives}
+use Rattle.law_moves.proofs.Chains.{goes-each, goes-when}
 use Rattle.law_bytes.proofs.Finds.{found-each}
 use Rattle.law_bytes.proofs.LeadingWords.{IsFor, SessionsAlwaysFit, SessionsFit}
 use Rattle.law_bytes.proofs.Marks.{decoded-same}
@@ -57,16 +58,16 @@ module _ (s : Dimensions) where
   then-leads : (p q r : Process) → Leads p q → Leads q r → Leads p r
   then-leads p q r a b = record {
     known = b.known ∙ a.known;
-    sessions = λ all. subst (λ (known : Membership). Each (IsFor s known) r.as_leader.sessions) a.known (b.sessions (subst (λ (known : Membership). Each (IsFor s known) q.as_leader.sessions) (sym a.known) (a.sessions all)));
+    sessions =
+        λ all. subst (λ (known : Membership). Each (IsFor s known) r.as_leader.sessions) a.known
+        (b.sessions (subst (λ (known : Membership). Each (IsFor s known) q.as_leader.sessions) (sym a.known) (a.sessions all)));
   }
 
   each-leads : (xs : List ℕ) (f : ℕ → Process → ProcessStep) (p : Process) → ((x : ℕ) (q : Process) → Leads q (f x q).process) → Leads p (for_each xs f p).process
-  each-leads [] f p all = self-leads p
-  each-leads (x ∷ xs) f p all = then-leads p (f x p).process (for_each xs f (f x p).process).process (all x p) (each-leads xs f (f x p).process all)
+  each-leads = goes-each (λ p q. Leads p q) self-leads then-leads
 
   when-leads : (b : Bool) (p : Process) (step : ProcessStep) → Leads p step.process → Leads p (when b p step).process
-  when-leads true p step leads = leads
-  when-leads false p step leads = self-leads p
+  when-leads = goes-when (λ p q. Leads p q) self-leads
 
   judge-leads : (d : ℕ) (p : Process) → Leads p (judge s d p).process
   judge-leads d p = by (head_at p d) where
@@ -82,9 +83,11 @@ module _ (s : Dimensions) where
   gathered-leads : (complete : Bool) (known : Membership) (g : Gathering) (state : LeaderState) → IsFor s known g → Each (IsFor s known) state.sessions
       → Each (IsFor s known) (gathered_when complete s g state).sessions
   gathered-leads true known g state mine all =
-      subst (Each (IsFor s known)) (sym (decoded-same s g g.lost (record state { sessions = without_session g.number state.sessions })).0) (each-filter (IsFor s known) (λ x. not (x.number == g.number)) state.sessions all)
+      subst (Each (IsFor s known)) (sym (decoded-same s g g.lost (record state { sessions = without_session g.number state.sessions })).0)
+      (each-filter (IsFor s known) (λ x. not (x.number == g.number)) state.sessions all)
   gathered-leads false known g state mine all =
-      each-map (IsFor s known) (λ x. if x.number == g.number then g else x) state.sessions (each-weaker (IsFor s known) (λ x. IsFor s known (if x.number == g.number then g else x)) (λ x fits. by (x.number == g.number) x fits) state.sessions all)
+      each-map (IsFor s known) (λ x. if x.number == g.number then g else x) state.sessions
+      (each-weaker (IsFor s known) (λ x. IsFor s known (if x.number == g.number then g else x)) (λ x fits. by (x.number == g.number) x fits) state.sessions all)
     where
       by : (b : Bool) (x : Gathering) → IsFor s known x → IsFor s known (if b then g else x)
       by true x fits = mine
@@ -96,7 +99,8 @@ module _ (s : Dimensions) where
     by None found all = all
     by (Some g) found all =
         let is = (found-each (λ x. x.number == number) (IsFor s p.known) p.as_leader.sessions g found all).1 in
-        gathered-leads (is_complete s (record g { rows_in = put None g.rows_in i (Some bytes) })) p.known (record g { rows_in = put None g.rows_in i (Some bytes) }) p.as_leader (record { lost = is.lost; rows = is.rows; blocks = is.blocks }) all
+        gathered-leads (is_complete s (record g { rows_in = put None g.rows_in i (Some bytes) })) p.known
+        (record g { rows_in = put None g.rows_in i (Some bytes) }) p.as_leader (record { lost = is.lost; rows = is.rows; blocks = is.blocks }) all
 
   block-leads : (e number : ℕ) (bytes : List ℕ) (p : Process) → e < s.k → knows_dead p.known (DataNode e) ≡ false → Leads p (block_comes s number e bytes p)
   block-leads e number bytes p inside living = record { known = refl; sessions = λ all. by (open_session p.as_leader number) refl all } where
@@ -114,30 +118,32 @@ module _ (s : Dimensions) where
 
   -- a mark
   mark-leads : (l number r block d n : ℕ) (p : Process) → Leads p (mark_comes s l number r block d n p).process
-  mark-leads l number r block d n p = when-leads (accepts_mark p l number r d) p (mark_taken s l number block d n p) (then-leads p q (copy_marked s d n (copy_in q.as_row.copies l number) q).process to_q (found (copy_in q.as_row.copies l number))) where
-    q : Process
-    q = apply_to s d n (begin_copy s l number block p)
+  mark-leads l number r block d n p =
+      when-leads (accepts_mark p l number r d) p (mark_taken s l number block d n p)
+      (then-leads p q (copy_marked s d n (copy_in q.as_row.copies l number) q).process to_q (found (copy_in q.as_row.copies l number))) where
+        q : Process
+        q = apply_to s d n (begin_copy s l number block p)
 
-    begun : (b : Bool) → Leads p (copy_begun b s l number block p)
-    begun true = self-leads p
-    begun false = same-leads p _ refl refl
+        begun : (b : Bool) → Leads p (copy_begun b s l number block p)
+        begun true = self-leads p
+        begun false = same-leads p _ refl refl
 
-    to_q : Leads p q
-    to_q = then-leads p (begin_copy s l number block p) q (begun (is_some (copy_in p.as_row.copies l number))) (same-leads (begin_copy s l number block p) q refl refl)
+        to_q : Leads p q
+        to_q = then-leads p (begin_copy s l number block p) q (begun (is_some (copy_in p.as_row.copies l number))) (same-leads (begin_copy s l number block p) q refl refl)
 
-    finished : (b : Bool) (c : Copy) (z : Process) → Leads z (row_finished b s c z).process
-    finished true c z = row-leads c.leader c.number c.bytes z
-    finished false c z = self-leads z
+        finished : (b : Bool) (c : Copy) (z : Process) → Leads z (row_finished b s c z).process
+        finished true c z = row-leads c.leader c.number c.bytes z
+        finished false c z = self-leads z
 
-    kept : (b : Bool) (c : Copy) → Leads q (copy_kept b s c q).process
-    kept true c =
-        let z : Process = with_copies (without_copy c.leader c.number q.as_row.copies) q in
-        then-leads q z (row_finished (same_process z.name (ParityNode c.leader)) s c z).process (same-leads q z refl refl) (finished (same_process z.name (ParityNode c.leader)) c z)
-    kept false c = same-leads q _ refl refl
+        kept : (b : Bool) (c : Copy) → Leads q (copy_kept b s c q).process
+        kept true c =
+            let z : Process = with_copies (without_copy c.leader c.number q.as_row.copies) q in
+            then-leads q z (row_finished (same_process z.name (ParityNode c.leader)) s c z).process (same-leads q z refl refl) (finished (same_process z.name (ParityNode c.leader)) c z)
+        kept false c = same-leads q _ refl refl
 
-    found : (o : Option Copy) → Leads q (copy_marked s d n o q).process
-    found None = self-leads q
-    found (Some c) = kept (is_marked s (marked d n c)) (marked d n c)
+        found : (o : Option Copy) → Leads q (copy_marked s d n o q).process
+        found None = self-leads q
+        found (Some c) = kept (is_marked s (marked d n c)) (marked d n c)
 
   start-leads : (block : ℕ) (p : Process) → Leads p (start_session s block p).process
   start-leads block p =
@@ -200,7 +206,8 @@ module _ (s : Dimensions) where
       let closed : Process = (close_sessions s q.as_leader.sessions q).process in
       let judged : Process = (for_each (range_with_len 0 s.k) (judge s) closed).process in
       let last : Process = (for_each (range_with_len 0 s.k) (take_over_if s) judged).process in
-      let leads : Leads closed last = then-leads closed judged last (each-leads (range_with_len 0 s.k) (judge s) closed judge-leads) (each-leads (range_with_len 0 s.k) (take_over_if s) judged takes-leads) in
+      let leads : Leads closed last = then-leads closed judged last (each-leads (range_with_len 0 s.k) (judge s) closed judge-leads)
+      (each-leads (range_with_len 0 s.k) (take_over_if s) judged takes-leads) in
       subst (λ (known : Membership). Each (IsFor s known) last.as_leader.sessions) (sym leads.known) (leads.sessions (none q q.as_leader.sessions refl))
     where
       none : (q : Process) (gs : List Gathering) → q.as_leader.sessions ≡ gs → Each (IsFor s (close_sessions s gs q).process.known) (close_sessions s gs q).process.as_leader.sessions
@@ -247,7 +254,9 @@ module _ (s : Dimensions) where
   pub fits-keeps : IsShape s → Keeps s (λ v. Members s v × SessionsFit s v)
   fits-keeps shaped = record {
     opens = λ v starts. (kept.opens v starts, λ p pin lives. subst (λ (y : Process). Each (IsFor s y.known) y.as_leader.sessions) (sym (starts.process p pin)) tt);
-    treats = λ v w p t pin up lives treats both acts. (kept.treats v w p t pin up lives treats both.0 acts, acted-fits v w p t acts both.1 (fits-after (v.process p) t.process (treats-leads (v.process p) t treats) (both.1 p pin lives)));
+    treats =
+        λ v w p t pin up lives treats both acts.
+        (kept.treats v w p t pin up lives treats both.0 acts, acted-fits v w p t acts both.1 (fits-after (v.process p) t.process (treats-leads (v.process p) t treats) (both.1 p pin lives)));
     receives = λ v u w x p m xin pin apart up lives both pops acts. (
       kept.receives v u w x p m xin pin apart up lives both.0 pops acts,
       acted-fits u w p (receive s x m (v.process p)) acts

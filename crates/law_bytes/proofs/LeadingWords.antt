@@ -10,8 +10,7 @@ use Rattle.group_types.specs.declared.process.ProcessId.TheVariants.{DataNode, P
 use Rattle.group_types.specs.Each.{Each}
 use Rattle.membership.specs.Members.{Membership, knows_dead}
 use Rattle.group_run.specs.Process.{Gathering}
-use Rattle.law_moves.specs.Moves.{HoldsAlways}
-use Rattle.law_moves.specs.State.{State}
+use Rattle.law_moves.specs.State.{State, HoldsAlways}
 
 -- the partitions that are lost, and the parity processes that are left, as far as is known
 abbrev pub lost_by : Dimensions → Membership → List ℕ

@@ -109,13 +109,15 @@ module _ (t : Token) where
 
   pub copy-less : (w : Way) (p q : Process) → Fewer p q → in_copy t w q ≡ true → in_copy t w p ≡ true
   copy-less (Row r) p q fewer is =
-      and-turn (same_process p.name (ParityNode r)) (is_marked_in t.partition (copy_in p.as_row.copies t.leader t.number)) (is_marked_in t.partition (copy_in q.as_row.copies t.leader t.number)) fewer.marked
+      and-turn (same_process p.name (ParityNode r)) (is_marked_in t.partition (copy_in p.as_row.copies t.leader t.number))
+      (is_marked_in t.partition (copy_in q.as_row.copies t.leader t.number)) fewer.marked
       (ap (λ (name : ProcessId). same_process name (ParityNode r) && is_marked_in t.partition (copy_in q.as_row.copies t.leader t.number)) (sym fewer.name) ∙ is)
   copy-less Own p q fewer is = is
 
   pub session-less : (p q : Process) → Fewer p q → in_session t q ≡ true → in_session t p ≡ true
   session-less p q fewer is =
-      and-turn (same_process p.name (ParityNode t.leader)) (is_kept_in t.way t.partition (open_session p.as_leader t.number)) (is_kept_in t.way t.partition (open_session q.as_leader t.number)) fewer.kept
+      and-turn (same_process p.name (ParityNode t.leader)) (is_kept_in t.way t.partition (open_session p.as_leader t.number))
+      (is_kept_in t.way t.partition (open_session q.as_leader t.number)) fewer.kept
       (ap (λ (name : ProcessId). same_process name (ParityNode t.leader) && is_kept_in t.way t.partition (open_session q.as_leader t.number)) (sym fewer.name) ∙ is)
 
   pub fewer-at : (p q : Process) → Fewer p q → at_process t q ≤ at_process t p
@@ -205,7 +207,9 @@ module _ (t : Token) where
 
     -- a message to all others
     pub silent-others : (p : Process) (m : Message) → Silent m → Each (λ z. Silent z.message) (to_others s p m)
-    silent-others p m silent = each-map (λ z. Silent z.message) (λ i. record { to = ParityNode i; message = m }) (other_parities s.m p.name p.known) (each-all (λ i. Silent m) (λ i. silent) (other_parities s.m p.name p.known))
+    silent-others p m silent =
+        each-map (λ z. Silent z.message) (λ i. record { to = ParityNode i; message = m }) (other_parities s.m p.name p.known)
+        (each-all (λ i. Silent m) (λ i. silent) (other_parities s.m p.name p.known))
 
     gains-takes : (d : ℕ) (p : Process) → Gains p (take_over_if s d p) 0
     gains-takes d p = gains-when (takes_over p d p.name) p (taken_over s d p) 0 (λ takes.

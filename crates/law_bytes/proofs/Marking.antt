@@ -18,7 +18,6 @@ use Rattle.group_run.specs.Process.{Copy, Process}
 use Rattle.group_run.specs.Replica.{Replica, applied_to, empty_replica, up_to}
 use Rattle.group_run.specs.Rows.{accepts_mark, begin_copy, copy_begun, copy_in, is_copy, is_marked, marked, new_copy, with_copies, without_copy}
 use Rattle.law_bytes.specs.Held.{CopyHolds}
-use Rattle.law_bytes.specs.Premises.{SettledWrite}
 use Rattle.law_bytes.proofs.Premises.{GoesOn, MarkIsNew}
 use Rattle.law_bytes.proofs.Applying.{Holding, applied-here, at-rebuilt}
 use Rattle.law_bytes.proofs.Copies.{begun-holds, holding-same, mark-holds}
@@ -26,6 +25,7 @@ use Rattle.law_bytes.proofs.Finding.{and-join, and-split, found-exchanged, found
 use Rattle.law_bytes.proofs.Finds.{found-behind, found-map, if-some, if-weaker}
 use Rattle.law_bytes.proofs.Stepping.{apply-keeps}
 use Rattle.law_bytes.proofs.Values.{Concerns, Inside, inside-concerned}
+use Rattle.law_bytes.specs.Areas.{SettledWrite}
 
 -- partitions that aren't marked in a copy
 abbrev pub IsOpen : List ℕ → Copy → Type 0
@@ -144,7 +144,8 @@ module _ (s : Dimensions) where
 
     -- a leader marks a partition in its own row, at the number that it has applied
     own-holds : (leader number block d : ℕ) (xs : List ℕ) (p : Process) → Inside s p.name → d < s.k → Each (λ x. x ≢ d) xs → OpenIn leader number (d ∷ xs) p.as_row.copies → Holding s settled old p
-        → Holding s settled old (own_mark s leader number block d p).process × OpenIn leader number xs (own_mark s leader number block d p).process.as_row.copies × ((own_mark s leader number block d p).process.name ≡ p.name)
+        → Holding s settled old (own_mark s leader number block d p).process × OpenIn leader number xs
+        (own_mark s leader number block d p).process.as_row.copies × ((own_mark s leader number block d p).process.name ≡ p.name)
     own-holds leader number block d xs p inside below others all holding = by (accepts_mark p leader number (at 0 p.ranks d) d) where
       n : ℕ
       n = (replica_of p d).applied
@@ -179,13 +180,17 @@ module _ (s : Dimensions) where
           (begun-holds s settled old (is_some (copy_in p.as_row.copies leader number)) leader number block p holding)
 
       q_open : OpenIn leader number (d ∷ xs) q.as_row.copies
-      q_open = open-applied begun.name d (up_to n (replica_of begun d)) leader number (d ∷ xs) begun.as_row.copies (begun-open (is_some (copy_in p.as_row.copies leader number)) leader number block (d ∷ xs) p all)
+      q_open =
+          open-applied begun.name d (up_to n (replica_of begun d)) leader number (d ∷ xs) begun.as_row.copies
+          (begun-open (is_some (copy_in p.as_row.copies leader number)) leader number block (d ∷ xs) p all)
 
       free : IfSome (copy_in q.as_row.copies leader number) (λ c. at None c.marks d ≡ None)
       free = if-weaker (IsOpen (d ∷ xs)) (λ c. at None c.marks d ≡ None) (λ c free_all. free_all.0) (copy_in q.as_row.copies leader number) q_open
 
       by : (b : Bool)
-          → Holding s settled old (when b p (mark_taken s leader number block d n p)).process × OpenIn leader number xs (when b p (mark_taken s leader number block d n p)).process.as_row.copies × ((when b p (mark_taken s leader number block d n p)).process.name ≡ p.name)
+          → Holding s settled old (when b p (mark_taken s leader number block d n p)).process × OpenIn leader number xs
+          (when b p (mark_taken s leader number block d n p)).process.as_row.copies ×
+          ((when b p (mark_taken s leader number block d n p)).process.name ≡ p.name)
       by false = (holding, if-weaker (IsOpen (d ∷ xs)) (IsOpen xs) (λ c free_all. free_all.1) (copy_in p.as_row.copies leader number) all, refl)
       by true = (
         mark-holds s settled old q leader number d n (subst (Inside s) (sym same_name) inside) below q_applied free q_holds,
@@ -215,7 +220,9 @@ module _ (s : Dimensions) where
     pub at-mark : (write : SettledWrite s settled) (p : Process) (leader number block d n : ℕ) → Concerns s p.name d → d < s.k → GoesOn (settled d) (replica_of p d) → MarkIsNew p leader number d n
         → (replica_of (apply_to s d n (begin_copy s leader number block p)) d).applied ≤ length (settled d) → Holding s settled old p → AtMark p leader number block d n
     at-mark write p leader number block d n concerns below goes mark last holding = record {
-      holds = apply-keeps s settled write old begun d n here below last (subst (GoesOn (settled d)) (sym same_replica) goes) (begun-holds s settled old (is_some (copy_in p.as_row.copies leader number)) leader number block p holding);
+      holds =
+          apply-keeps s settled write old begun d n here below last (subst (GoesOn (settled d)) (sym same_replica) goes)
+          (begun-holds s settled old (is_some (copy_in p.as_row.copies leader number)) leader number block p holding);
       applied = q_applied;
       free = free_there;
       name = same.1;
@@ -242,7 +249,8 @@ module _ (s : Dimensions) where
           let log_is = ap (λ (x : Replica). length x.log) same_replica in
           let above = mark.above in
           let issued = mark.issued in
-          let count : length (up_to n (replica_of begun d)) ≡ n - (replica_of begun d).applied = length-take-le (n - (replica_of begun d).applied) (replica_of begun d).log (omega (arith, a_is, log_is, above, issued)) in
+          let count : length (up_to n (replica_of begun d)) ≡ n - (replica_of begun d).applied = length-take-le (n - (replica_of begun d).applied)
+          (replica_of begun d).log (omega (arith, a_is, log_is, above, issued)) in
           omega (arith, is, a_is, above, count)
 
       begun_free : (b : Bool) → IfSome (copy_in p.as_row.copies leader number) (λ c. at None c.marks d ≡ None)
@@ -269,6 +277,7 @@ module _ (s : Dimensions) where
           → Holding s settled old (when b p (mark_taken s leader number block d n p)).process
       by false _ _ = holding
       by true is_new final =
-          let last : (replica_of q d).applied ≤ length (settled d) = subst (λ (rs : List Replica). (at empty_replica rs d).applied ≤ length (settled d)) (marked-same d n (copy_in q.as_row.copies leader number) q).0 final in
+          let last : (replica_of q d).applied ≤ length (settled d) = subst (λ (rs : List Replica). (at empty_replica rs d).applied ≤ length (settled d))
+          (marked-same d n (copy_in q.as_row.copies leader number) q).0 final in
           let there : AtMark p leader number block d n = at-mark write p leader number block d n concerns below goes (is_new refl) last holding in
           mark-holds s settled old q leader number d n (subst (Inside s) (sym there.name) (inside-concerned s p.name d concerns)) below there.applied there.free there.holds

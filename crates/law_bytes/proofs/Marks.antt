@@ -65,7 +65,8 @@ module _ (s : Dimensions) where
   gathered-opens : (complete : Bool) (g h : Gathering) (state : LeaderState) (n number : ℕ) → open_session state number ≡ Some h → g.number ≡ number → (P : Option Gathering → Bool) → P None ≡ false
       → P (open_session (gathered_when complete s g state) n) ≡ true → (P (open_session state n) ≡ true) ⊎ ((n ≡ number) × (P (Some g) ≡ true))
   gathered-opens true g h state n number opens is P none kept =
-      by (not (n == g.number)) (found-filter (λ x. x.number == n) (λ x. not (x.number == g.number)) (not (n == g.number)) state.sessions (λ x passes. ap (λ (a : ℕ). not (a == g.number)) (number-is x n passes))) where
+      by (not (n == g.number))
+      (found-filter (λ x. x.number == n) (λ x. not (x.number == g.number)) (not (n == g.number)) state.sessions (λ x passes. ap (λ (a : ℕ). not (a == g.number)) (number-is x n passes))) where
         same : P (open_session (gathered_when true s g state) n) ≡ P (find (λ x. x.number == n) (without_session g.number state.sessions))
         same = ap (λ (gs : List Gathering). P (find (λ x. x.number == n) gs)) (decoded-same g g.lost (record state { sessions = without_session g.number state.sessions })).0
 

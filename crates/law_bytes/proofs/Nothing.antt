@@ -35,7 +35,8 @@ link-off tok x q (m ∷ ms) low = (bit-off (is_token tok x q m) (omega (arith, l
 module _ (s : Dimensions) (v : State) (tok : Token) (none : tokens s v tok ≤ 0) where
   around-none : (q : ProcessId) → IsProcess s q → v.dead q ≡ false → at_process tok (v.process q) + sum_of (everyone s) (between v tok q) ≤ 0
   around-none q qin lives =
-      let is : around s v tok q ≡ at_process tok (v.process q) + sum_of (everyone s) (between v tok q) = ap (λ (b : Bool). if b then 0 else at_process tok (v.process q) + sum_of (everyone s) (between v tok q)) lives in
+      let is : around s v tok q ≡ at_process tok (v.process q) + sum_of (everyone s)
+      (between v tok q) = ap (λ (b : Bool). if b then 0 else at_process tok (v.process q) + sum_of (everyone s) (between v tok q)) lives in
       let less = sum-at (everyone s) (around s v tok) q (within-everyone s q qin) in
       omega (arith, is, less, none)
 
@@ -182,7 +183,8 @@ renumbered s v u l n d plan other block rows same within may none living_there i
   processes = λ p pin living. process-other s l n u.settled d plan other block rows same (u.process p)
       (λ way. copy-none s u (token l n d way) (none way) p pin living) (λ way. session-none s u (token l n d way) (none way) p pin living) (is.processes p pin living);
   lost = λ p pin living leads.
-      if-both (λ g. ¬ (Contains g.lost d)) (λ g. (e : ℕ) → Contains g.lost e → (plan.numbers e ≤ (replica_of (u.process p) e).applied) × IfSome (head_at (u.process p) e) (λ h. h.inherited ≤ plan.numbers e))
+      if-both (λ g. ¬ (Contains g.lost d))
+      (λ g. (e : ℕ) → Contains g.lost e → (plan.numbers e ≤ (replica_of (u.process p) e).applied) × IfSome (head_at (u.process p) e) (λ h. h.inherited ≤ plan.numbers e))
       (λ g. (e : ℕ) → Contains g.lost e → (other.numbers e ≤ (replica_of (u.process p) e).applied) × IfSome (head_at (u.process p) e) (λ h. h.inherited ≤ other.numbers e))
       (λ g away follows e lost.
       let apart : e ≢ d = λ (here : e ≡ d). away (subst (Contains g.lost) here lost) in

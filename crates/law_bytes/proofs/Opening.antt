@@ -19,7 +19,6 @@ use Rattle.group_run.specs.Process.{Copy, Process}
 use Rattle.group_run.specs.Replica.{Replica, applied_to, empty_replica, up_to}
 use Rattle.group_run.specs.Rows.{accepts_mark, begin_copy, copy_begun, copy_in, is_copy, is_marked, marked, new_copy, with_copies, without_copy}
 use Rattle.erasure_code.proofs.Nodes.{Among}
-use Rattle.law_bytes.specs.Premises.{SettledWrite}
 use Rattle.law_bytes.proofs.Premises.{GoesOn, MarkIsNew}
 use Rattle.law_bytes.proofs.Applying.{Holding}
 use Rattle.law_bytes.proofs.Finding.{and-join, found-exchanged, found-filter, found-passes}
@@ -31,6 +30,7 @@ use Rattle.law_bytes.proofs.Local.{copy-parts}
 use Rattle.law_bytes.proofs.Stamps.{AmongRows, Plan}
 use Rattle.law_bytes.proofs.Following.{Passes, passes-self, passes-then}
 use Rattle.law_bytes.proofs.Receiving.{mark-passes}
+use Rattle.law_bytes.specs.Areas.{SettledWrite}
 
 -- the plan that a leader begins a session with
 abbrev pub opening_plan : Dimensions → ℕ → Process → Plan
@@ -117,7 +117,8 @@ module _ (s : Dimensions) (settled : ℕ → List Update) (l n : ℕ) (plan : Pl
     by : (b : Bool) → replica_of (when b p (mark_taken s leader number block d (replica_of p d).applied p)).process e ≡ replica_of p e
     by false = refl
     by true =
-        ap (λ (rs : List Replica). at empty_replica rs e) (marked-same s d (replica_of p d).applied (copy_in (apply_to s d (replica_of p d).applied (begin_copy s leader number block p)).as_row.copies leader number) (apply_to s d (replica_of p d).applied (begin_copy s leader number block p))).0
+        ap (λ (rs : List Replica). at empty_replica rs e)
+        (marked-same s d (replica_of p d).applied (copy_in (apply_to s d (replica_of p d).applied (begin_copy s leader number block p)).as_row.copies leader number) (apply_to s d (replica_of p d).applied (begin_copy s leader number block p))).0
         ∙ at-put-other empty_replica (begin_copy s leader number block p).replicas d e (applied_to (replica_of p d).applied (replica_of (begin_copy s leader number block p) d)) other
         ∙ ap (λ (rs : List Replica). at empty_replica rs e) (begun-same s _ leader number block p).0
 
@@ -129,7 +130,8 @@ module _ (s : Dimensions) (settled : ℕ → List Update) (l n : ℕ) (plan : Pl
     owns-pass [] z name below differ unmarked same fits holding = passes-self s settled l n plan z
     owns-pass (d ∷ xs) z name below differ unmarked same fits holding =
         let after : Holding s settled old (own_mark s i number block d z).process = owns-hold s settled old i number block (d ∷ []) z inside (below.0, tt) (tt, tt) one_open holding in
-        let passes_one : Passes s settled l n plan z (own_mark s i number block d z) = mark-passes s settled l n plan write old z i number (at 0 z.ranks d) block d (replica_of z d).applied concerns below.0 fit
+        let passes_one : Passes s settled l n plan z (own_mark s i number block d z) = mark-passes s settled l n plan write old z i number
+        (at 0 z.ranks d) block d (replica_of z d).applied concerns below.0 fit
         (subst (GoesOn (settled d)) (sym same.0) (goes d below.0)) (λ is. new) (after.within d below.0) holding in
         passes-then s settled l n plan z (own_mark s i number block d z) (for_each xs (own_mark s i number block)) passes_one
         (owns-pass xs (own_mark s i number block d z).process (passes_one.name ∙ name) below.1 differ.1 (open-own s i number d (replica_of z d).applied xs differ.0 block (at 0 z.ranks d) z unmarked)

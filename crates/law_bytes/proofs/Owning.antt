@@ -18,7 +18,6 @@ use Rattle.group_run.specs.Leaders.{copy_kept, copy_marked, is_complete, mark_co
 use Rattle.group_run.specs.Process.{Copy, Gathering, Head, Process}
 use Rattle.group_run.specs.Replica.{Replica, applied_to, empty_replica, up_to}
 use Rattle.group_run.specs.Rows.{accepts_mark, begin_copy, copy_begun, copy_in, is_marked, marked, with_copies, without_copy}
-use Rattle.law_bytes.specs.Premises.{SettledWrite}
 use Rattle.law_bytes.proofs.Premises.{GoesOn, MarkIsNew}
 use Rattle.law_bytes.proofs.Applying.{Holding, at-rebuilt}
 use Rattle.law_bytes.proofs.Copies.{stays-row}
@@ -38,6 +37,7 @@ use Rattle.law_bytes.proofs.Gathers.{row-sound}
 use Rattle.law_bytes.proofs.Giving.{SoundFor, taken-given}
 use Rattle.law_bytes.proofs.Opening.{open-own, other-replica, owns-pass}
 use Rattle.law_bytes.proofs.Receiving.{mark-holds}
+use Rattle.law_bytes.specs.Areas.{SettledWrite}
 
 module _ (s : Dimensions) where
   -- applied numbers don't fall, heads stay, and so do rebuilt blocks
@@ -94,7 +94,9 @@ module _ (s : Dimensions) where
     begun false = record { applied = λ d. omega arith; heads = refl; blocks = λ d b bytes is. is }
 
     to-marking : Later p (apply_to s e (replica_of p e).applied (begin_copy s leader number block p))
-    to-marking = later-then p (begin_copy s leader number block p) (apply_to s e (replica_of p e).applied (begin_copy s leader number block p)) (begun (is_some (copy_in p.as_row.copies leader number)))
+    to-marking =
+        later-then p (begin_copy s leader number block p) (apply_to s e (replica_of p e).applied (begin_copy s leader number block p))
+        (begun (is_some (copy_in p.as_row.copies leader number)))
         (later-apply e (replica_of p e).applied (begin_copy s leader number block p) (none-applied leader number block e p))
 
     finished : (b : Bool) (c : Copy) (z : Process) → Later z (row_finished b s c z).process
@@ -104,7 +106,8 @@ module _ (s : Dimensions) where
     kept : (b : Bool) (c : Copy) (z : Process) → Later z (copy_kept b s c z).process
     kept true c z =
         let ended : Process = with_copies (without_copy c.leader c.number z.as_row.copies) z in
-        later-then z ended (row_finished (same_process z.name (ParityNode c.leader)) s c ended).process (record { applied = λ d. omega arith; heads = refl; blocks = λ d b bytes is. is }) (finished (same_process z.name (ParityNode c.leader)) c ended)
+        later-then z ended (row_finished (same_process z.name (ParityNode c.leader)) s c ended).process
+        (record { applied = λ d. omega arith; heads = refl; blocks = λ d b bytes is. is }) (finished (same_process z.name (ParityNode c.leader)) c ended)
     kept false c z = record { applied = λ d. omega arith; heads = refl; blocks = λ d b bytes is. is }
 
     found : (o : Option Copy) (z : Process) → Later z (copy_marked s e (replica_of p e).applied o z).process
@@ -135,7 +138,9 @@ module _ (s : Dimensions) where
     sound-row number i bytes p sound = by (open_session p.as_leader number) refl where
       by : (o : Option Gathering) → open_session p.as_leader number ≡ o → IfSome (open_session (row_gathered s i bytes o p.as_leader) n) (SoundFor s known)
       by None is = sound
-      by (Some g) is = gathered-if s (SoundFor s known) (is_complete s (with_row i bytes g)) (with_row i bytes g) g p.as_leader n number is (number-is g number (found-passes (λ x. x.number == number) p.as_leader.sessions g is))
+      by (Some g) is =
+          gathered-if s (SoundFor s known) (is_complete s (with_row i bytes g)) (with_row i bytes g) g p.as_leader n number is
+          (number-is g number (found-passes (λ x. x.number == number) p.as_leader.sessions g is))
           (λ here.
           let before = if-some (SoundFor s known) (open_session p.as_leader n) g (ap (open_session p.as_leader) here ∙ is) sound in
           record { sound = row-sound s settled write plan i bytes g before.sound; lost = before.lost }) sound
@@ -171,7 +176,8 @@ module _ (s : Dimensions) where
       (later-owns leader number block xs (own_mark s leader number block x p).process)
 
   -- a leader's marks in its own row
-  module _ (shaped : IsShape s) (settled : ℕ → List Update) (write : SettledWrite s settled) (plan : Plan) (i n block : ℕ) (known : Membership) (old : ℕ → ℕ → Bool) (p : Process) (goes : (d : ℕ) → d < s.k → GoesOn (settled d) (replica_of p d)) where
+  module _ (shaped : IsShape s) (settled : ℕ → List Update) (write : SettledWrite s settled) (plan : Plan) (i n block : ℕ) (known : Membership)
+      (old : ℕ → ℕ → Bool) (p : Process) (goes : (d : ℕ) → d < s.k → GoesOn (settled d) (replica_of p d)) where
     module _ (d : ℕ) (xs : List ℕ) (z : Process) (name : z.name ≡ ParityNode i) (below : d < s.k) (unmarked : OpenIn i n (d ∷ xs) z.as_row.copies) (same : replica_of z d ≡ replica_of p d)
         (fits : (block ≡ plan.block) × ((replica_of p d).applied ≡ plan.numbers d) × Contains plan.rows i) (holding : Holding s settled old z) where
       concerns-own : Concerns s z.name d

@@ -67,7 +67,9 @@ module _ (s : Dimensions) (settled : ℕ → List Update) (l n : ℕ) (plan : Pl
     number d None b below is some = absurd (cc some)
 
     numbers : (d b : ℕ) → d < s.k → unwrap_or (at None c.marks d) b ≡ plan.numbers d
-    numbers d b below = number d (at None c.marks d) b below refl (all-among (λ e. is_some (at None c.marks e)) (range_with_len 0 s.k) d whole (among-range d 0 s.k (omega arith) (omega (arith, below))))
+    numbers d b below =
+        number d (at None c.marks d) b below refl
+        (all-among (λ e. is_some (at None c.marks e)) (range_with_len 0 s.k) d whole (among-range d 0 s.k (omega arith) (omega (arith, below))))
 
     stamp : (d : ℕ) → d < s.k → at 0 (stamp_of s c) d ≡ plan.numbers d
     stamp d below =
@@ -118,7 +120,9 @@ module _ (s : Dimensions) (settled : ℕ → List Update) (l n : ℕ) (plan : Pl
       by (inl same) =
           let here : (l == c.leader && n == c.number) ≡ true = and-join _ _ (eq-eqb l c.leader (sym same.0)) (eq-eqb n c.number (sym same.1)) in
           subst (λ o. IfSome o (CopyAt r)) (sym (found-filter (is_copy l n) (λ x. not (is_copy c.leader c.number x)) false q.as_row.copies (λ x is. ap not (turned x is ∙ here)))) tt
-      by (inr other) = if-filter (is_copy l n) (λ x. not (is_copy c.leader c.number x)) (CopyAt r) (not (l == c.leader && n == c.number)) q.as_row.copies (λ x is. ap not (turned x is)) (others other r named)
+      by (inr other) =
+          if-filter (is_copy l n) (λ x. not (is_copy c.leader c.number x)) (CopyAt r) (not (l == c.leader && n == c.number)) q.as_row.copies
+          (λ x is. ap not (turned x is)) (others other r named)
 
     ended_follows : ProcessFollows s settled l n plan ended
     ended_follows = record { copy = ended_copy; session = session }

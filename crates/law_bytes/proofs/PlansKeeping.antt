@@ -147,7 +147,8 @@ module _ (s : Dimensions) where
 
       claims : (other : Plan) → Claims s w.settled l n right.write (rebuilt_at (v.process p)) other (v.process p) step
       claims other = treats-claims s w.settled l n right.write (rebuilt_at (v.process p)) other (v.process p) p
-          (record { name = name; some = some; sits = λ d below. backed.members.sits p d pin lives below }) pin (backed.members.not_self p pin lives) right.applies.log next (holding-from s w.settled (v.process p) here) needs step treats
+          (record { name = name; some = some; sits = λ d below. backed.members.sits p d pin lives below }) pin
+          (backed.members.not_self p pin lives) right.applies.log next (holding-from s w.settled (v.process p) here) needs step treats
 
       unopened-here : (v.process p).name ≡ ParityNode l → suc (v.process p).as_leader.last_session ≡ n → open_session (v.process p).as_leader n ≡ None
       unopened-here leads number = by (open_session (v.process p).as_leader n) ((now.processes p pin lives).session leads) where
@@ -181,11 +182,14 @@ module _ (s : Dimensions) where
         nothing : (d : ℕ) → d < s.k → (way : Way) → tokens s v (token l n d way) ≤ 0
         nothing d below way =
             let few = backed.tokens (token l n d way) below lin in
-            let none : one_if (nat_lt n (suc (v.process (ParityNode l)).as_leader.last_session)) ≡ 0 = ap one_if (not-below n (suc (v.process (ParityNode l)).as_leader.last_session) (omega (arith, unopened))) in
+            let none : one_if (nat_lt n (suc (v.process (ParityNode l)).as_leader.last_session)) ≡ 0 = ap one_if
+            (not-below n (suc (v.process (ParityNode l)).as_leader.last_session) (omega (arith, unopened))) in
             omega (arith, few, none)
 
         pub fresh : (block : ℕ) → SessionFollows s (settling w.settled v) l n (opening_plan s block (v.process p))
-        fresh block = unopened-any s v (settling w.settled v) l n lin some plan (opening_plan s block (v.process p)) backed.members.named backed.members.may nothing unopened now (λ d below. here.within d below)
+        fresh block =
+            unopened-any s v (settling w.settled v) l n lin some plan
+            (opening_plan s block (v.process p)) backed.members.named backed.members.may nothing unopened now (λ d below. here.within d below)
 
         lost-begins : (block : ℕ) → step.process.name ≡ (v.process p).name → LostFollows l n (opening_plan s block (v.process p)) step.process
         lost-begins block same = turn (bears-treats s n (v.process p) (unopened-here leads) step treats) where
@@ -227,10 +231,12 @@ module _ (s : Dimensions) where
     passed-coming : (l n : ℕ) (plan : Plan) → SessionFollows s (settling w.settled u) l n plan → Follows s w.settled l n plan x p m
         → ReadsAt s w.settled l n plan m (v.process p) → SessionFollows s w l n plan
     passed-coming l n plan is follows reads =
-        let passes : Passes s w.settled l n plan (v.process p) (receive s x m (v.process p)) = receive-passes s w.settled l n plan right.write (rebuilt_at (v.process p)) v x p m (v.process p) name-coming xin may led reads follows
+        let passes : Passes s w.settled l n plan (v.process p) (receive s x m (v.process p)) = receive-passes s w.settled l n plan right.write
+        (rebuilt_at (v.process p)) v x p m (v.process p) name-coming xin may led reads follows
         (holding-from s w.settled (v.process p) here-coming) new right.applies in
         let all = passes.follows (subst (ProcessFollows s w.settled l n plan) (pops.processes p pin) (is.processes p pin (pops.dead p pin ∙ lives))) in
-        acted-follows l n plan u w p (receive s x m (v.process p)) pin (pops.dead p pin ∙ lives) after acts is all.0 (subst (λ (y : ProcessId). Sends s w.settled l n plan y (receive s x m (v.process p)).sent) name-coming all.1)
+        acted-follows l n plan u w p (receive s x m (v.process p)) pin (pops.dead p pin ∙ lives) after acts is all.0
+        (subst (λ (y : ProcessId). Sends s w.settled l n plan y (receive s x m (v.process p)).sent) name-coming all.1)
         (lost-borne s l n plan (v.process p) (receive s x m (v.process p)).process passes.name (bears-receive s n x m (v.process p)) (subst (LostFollows l n plan) (pops.processes p pin) (is.lost p pin (pops.dead p pin ∙ lives))))
 
     module _ (l n : ℕ) (lin : l < s.m) (plan : Plan) (is : SessionFollows s v l n plan) where

@@ -28,7 +28,6 @@ use Rattle.law_moves.proofs.Calls.{each-below}
 use Rattle.law_moves.proofs.Standing.{sender-lives}
 use Rattle.erasure_code.proofs.Nodes.{Among}
 use Rattle.law_bytes.specs.Decoding.{Rising}
-use Rattle.law_bytes.specs.Premises.{SettledWrite}
 use Rattle.law_bytes.proofs.Premises.{AppliesSettled, MarkIsNew, MarksNew}
 use Rattle.law_bytes.proofs.Applying.{Holding, holding-from, rebuilt_at}
 use Rattle.law_bytes.proofs.Finds.{found-if, rising-take}
@@ -44,6 +43,7 @@ use Rattle.law_bytes.proofs.Stamps.{AmongRows, Follows, LostFollows, Plan, Proce
 use Rattle.law_bytes.proofs.Giving.{SoundFor, block-given, none-acked, none-apply, none-given, none-notice, none-self, none-when, row-given, taken-given}
 use Rattle.law_bytes.proofs.Growing.{grown}
 use Rattle.law_bytes.proofs.Receiving.{mark-holds}
+use Rattle.law_bytes.specs.Areas.{SettledWrite}
 
 -- a parity process by its number
 parity-of : (q : ProcessId) → IsParity q → (l : ℕ) × (q ≡ ParityNode l)
@@ -74,7 +74,8 @@ open-sound s known n sessions all =
 
 module _ (s : Dimensions) (shaped : IsShape s) (settled : ℕ → List Update) (write : SettledWrite s settled) where
   -- a message
-  module _ (old : ℕ → ℕ → Bool) (v : State) (x y : ProcessId) (p : Process) (name : p.name ≡ y) (xin : IsProcess s x) (living : knows_dead p.known x ≡ false) (sound : Each (SoundFor s p.known) p.as_leader.sessions) (holding : Holding s settled old p) where
+  module _ (old : ℕ → ℕ → Bool) (v : State) (x y : ProcessId) (p : Process) (name : p.name ≡ y) (xin : IsProcess s x) (living : knows_dead p.known x ≡ false)
+      (sound : Each (SoundFor s p.known) p.as_leader.sessions) (holding : Holding s settled old p) where
     receive-given : (m : Message) → MayStand s v x y m → IsLed m → MarksNew m p → AppliesSettled s settled p (receive s x m p)
         → ((l n : ℕ) → y ≡ ParityNode l → (plan : Plan) × ProcessFollows s settled l n plan p × LostFollows l n plan p × Follows s settled l n plan x y m)
         → RebuildsGiven s settled p (receive s x m p).process
@@ -134,7 +135,8 @@ module _ (s : Dimensions) (shaped : IsShape s) (settled : ℕ → List Update) (
           → RebuildsGiven s settled p (when b p (mark_taken s (parity_number session.leader) session.number block d.0 k p)).process
       by false _ _ = none-given s settled p p (none-self s p)
       by true is_new final = λ e b more below_e before after.
-          taken-given s shaped settled write me.0 session.number all.0 p.known p (name ∙ me.1) all.1 all.2 (open-sound s p.known session.number p.as_leader.sessions sound) (parity_number session.leader) block d.0 k to.1
+          taken-given s shaped settled write me.0 session.number all.0 p.known p (name ∙ me.1) all.1 all.2
+          (open-sound s p.known session.number p.as_leader.sessions sound) (parity_number session.leader) block d.0 k to.1
           (λ leaders numbers. let mark = all.3 (led_by session.leader led me.0 leaders, refl) in (mark.0, mark.1, subst (AmongRows all.0.rows) (sym name) mark.2))
           (λ leaders numbers c first. mark-holds s settled write old p (parity_number session.leader) session.number block d.0 k concerns to.1 (applies.log d.0 to.1) (is_new refl) last holding c first)
           e b more before after

@@ -16,9 +16,8 @@ use Rattle.group_run.specs.Receiving.{receive}
 use Rattle.law_moves.proofs.Moves.{Acted, Popped, Treats}
 use Rattle.law_moves.specs.State.{IsUp, State}
 use Rattle.law_moves.proofs.Members.{Members}
-use Rattle.law_bytes.specs.Areas.{IsBlock, value}
+use Rattle.law_bytes.specs.Areas.{IsBlock, value, SettledWrite}
 use Rattle.law_bytes.specs.Decoding.{GathersRight}
-use Rattle.law_bytes.specs.Premises.{SettledWrite}
 use Rattle.law_bytes.proofs.Premises.{MarksNew, NextIsNew}
 use Rattle.law_bytes.specs.Leading.{SessionsSound}
 use Rattle.law_bytes.proofs.Kept.{Backed, NeedsInside, StepSettles}

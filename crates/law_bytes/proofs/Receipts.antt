@@ -19,13 +19,13 @@ use Rattle.group_run.specs.Receiving.{ack_to, adopting, log_adopted, read_comes,
 use Rattle.group_run.specs.Replica.{Replica, empty_replica, with_update}
 use Rattle.group_run.specs.Rows.{copies_ceased, parity_number}
 use Rattle.law_bytes.specs.Held.{CopyHolds}
-use Rattle.law_bytes.specs.Premises.{SettledWrite}
 use Rattle.law_bytes.proofs.Premises.{AppliesSettled, GoesOn, MarksNew}
 use Rattle.law_bytes.proofs.Applying.{Holding}
 use Rattle.law_bytes.proofs.Copies.{holding-leader, holding-same, stays-block, stays-row}
 use Rattle.law_bytes.proofs.Marking.{mark-received}
 use Rattle.law_bytes.proofs.Stepping.{Ready, apply-keeps, good-judge, good-notice}
 use Rattle.law_bytes.proofs.Values.{Concerns}
+use Rattle.law_bytes.specs.Areas.{SettledWrite}
 
 -- the partition of a message concerns its receiver
 abbrev pub Addresses : Dimensions → Message → ProcessId → Type 0
@@ -39,12 +39,14 @@ Addresses s _ name = Unit {0}
 module _ (s : Dimensions) (settled : ℕ → List Update) (write : SettledWrite s settled) (old : ℕ → ℕ → Bool) where
   -- another log of a partition
   log-holds : (d : ℕ) (r : Replica) (p : Process) → r.applied ≡ (replica_of p d).applied → Holding s settled old p → Holding s settled old (with_replica d r p)
-  log-holds d r p same holding = holding-same s settled old p (with_replica d r p) (record { stand = record { name = refl; applied = λ e. applied e (cases_eq e d) }; space = refl; rebuilt = λ e b. refl }) holding.copies holding where
-    applied : (e : ℕ) → (e ≡ d) ⊎ (e ≢ d) → (at empty_replica (put empty_replica p.replicas d r) e).applied ≡ (replica_of p e).applied
-    applied e (inr other) = ap (λ (x : Replica). x.applied) (at-put-other empty_replica p.replicas d e r other)
-    applied e (inl here) =
-        ap (λ (j : ℕ). (at empty_replica (put empty_replica p.replicas d r) j).applied) here
-        ∙ ap (λ (x : Replica). x.applied) (at-put empty_replica empty_replica p.replicas d r) ∙ same ∙ ap (λ (j : ℕ). (replica_of p j).applied) (sym here)
+  log-holds d r p same holding =
+      holding-same s settled old p (with_replica d r p)
+      (record { stand = record { name = refl; applied = λ e. applied e (cases_eq e d) }; space = refl; rebuilt = λ e b. refl }) holding.copies holding where
+        applied : (e : ℕ) → (e ≡ d) ⊎ (e ≢ d) → (at empty_replica (put empty_replica p.replicas d r) e).applied ≡ (replica_of p e).applied
+        applied e (inr other) = ap (λ (x : Replica). x.applied) (at-put-other empty_replica p.replicas d e r other)
+        applied e (inl here) =
+            ap (λ (j : ℕ). (at empty_replica (put empty_replica p.replicas d r) j).applied) here
+            ∙ ap (λ (x : Replica). x.applied) (at-put empty_replica empty_replica p.replicas d r) ∙ same ∙ ap (λ (j : ℕ). (replica_of p j).applied) (sym here)
 
   log-applied : (d : ℕ) (r : Replica) (p : Process) → (replica_of (with_replica d r p) d).applied ≡ r.applied
   log-applied d r p = ap (λ (x : Replica). x.applied) (at-put empty_replica empty_replica p.replicas d r)
@@ -53,7 +55,8 @@ module _ (s : Dimensions) (settled : ℕ → List Update) (write : SettledWrite 
   applied-holds : (d n : ℕ) (p : Process) (r : Replica) → Concerns s p.name d → d < s.k → GoesOn (settled d) (replica_of p d) → r.applied ≡ (replica_of (apply_to s d n p) d).applied
       → (replica_of (with_replica d r (apply_to s d n p)) d).applied ≤ length (settled d) → Holding s settled old p → Holding s settled old (with_replica d r (apply_to s d n p))
   applied-holds d n p r concerns below goes same within holding =
-      log-holds d r (apply_to s d n p) same (apply-keeps s settled write old p d n concerns below (subst (λ (k : ℕ). k ≤ length (settled d)) (log-applied d r (apply_to s d n p) ∙ same) within) goes holding)
+      log-holds d r (apply_to s d n p) same
+      (apply-keeps s settled write old p d n concerns below (subst (λ (k : ℕ). k ≤ length (settled d)) (log-applied d r (apply_to s d n p) ∙ same) within) goes holding)
 
   -- an acknowledgement is put, and judged
   acknowledged-holds : (p : Process) (i r d n : ℕ) (o : Option Head) → head_at p d ≡ o → d < s.k → Ready s settled p

@@ -21,9 +21,8 @@ use Rattle.group_run.specs.Replica.{Replica, empty_replica, with_update}
 use Rattle.group_run.specs.Rows.{accepts_mark, begin_copy, block_in, copy_in, is_copy, marked, parity_number}
 use Rattle.law_moves.specs.State.{State}
 use Rattle.law_moves.proofs.Members.{IsParity, MayStand}
-use Rattle.law_bytes.specs.Areas.{IsArea, IsBlock, held, value}
+use Rattle.law_bytes.specs.Areas.{IsArea, IsBlock, held, value, SettledWrite}
 use Rattle.law_bytes.specs.Held.{CopyHolds, stand}
-use Rattle.law_bytes.specs.Premises.{SettledWrite}
 use Rattle.law_bytes.proofs.Premises.{AppliesSettled, GoesOn, MarkIsNew, MarksNew}
 use Rattle.law_bytes.proofs.Applying.{Holding}
 use Rattle.law_bytes.proofs.Copies.{block-of-space, marked-holds}
@@ -73,7 +72,9 @@ module _ (s : Dimensions) (settled : ℕ → List Update) (l n : ℕ) (plan : Pl
         )
 
         marks : Each (λ z. Follows s settled l n plan (DataNode e) z.to z.message) (data_marks session block e (replica_of p e).applied rows)
-        marks = each-map (λ z. Follows s settled l n plan (DataNode e) z.to z.message) (λ i. record { to = ParityNode i; message = tells.Mark session (rank 0) block (partition e) (replica_of p e).applied }) rows
+        marks =
+            each-map (λ z. Follows s settled l n plan (DataNode e) z.to z.message)
+            (λ i. record { to = ParityNode i; message = tells.Mark session (rank 0) block (partition e) (replica_of p e).applied }) rows
             (among-each (λ i. OfSession l n session → (block ≡ plan.block) × ((replica_of p e).applied ≡ plan.numbers e) × Contains plan.rows i) rows
             (λ i among of_it. ((follows of_it).0, sym (reads of_it), subst (λ (is : List ℕ). Contains is i) (follows of_it).1 (among-contains rows i among))))
 
@@ -94,7 +95,9 @@ module _ (s : Dimensions) (settled : ℕ → List Update) (l n : ℕ) (plan : Pl
         let there : AtMark s settled old p leader number block d k = at-mark s settled old write p leader number block d k concerns below goes (is_new refl) last holding in
         record {
           name = (marked-same s d k (copy_in (apply_to s d k (begin_copy s leader number block p)).as_row.copies leader number) (apply_to s d k (begin_copy s leader number block p))).1 ∙ there.name;
-          follows = λ is. taken-follows s settled l n plan p leader number block d k below fits is (λ leaders numbers c first. mark-holds s settled write old p leader number block d k concerns below goes (is_new refl) last holding c first);
+          follows =
+              λ is. taken-follows s settled l n plan p leader number block d k below fits is
+              (λ leaders numbers c first. mark-holds s settled write old p leader number block d k concerns below goes (is_new refl) last holding c first);
         }
       where
         last : (replica_of (apply_to s d k (begin_copy s leader number block p)) d).applied ≤ length (settled d)
@@ -112,7 +115,8 @@ module _ (s : Dimensions) (settled : ℕ → List Update) (l n : ℕ) (plan : Pl
   receive-passes write old v (DataNode e) x (tells.Ack r d k) p name inside may led reads follows holding new applies = passes-self s settled l n plan p
   receive-passes write old v (ParityNode i) x (tells.Ack r d k) p name inside may led reads follows holding new applies = passes-acked s settled l n plan p i r.0 d.0 k (head_at p d.0)
   receive-passes write old v y x (tells.Stable r d k) p name inside may led reads follows holding new applies =
-      passes-when s settled l n plan (nat_le (at 0 p.ranks d.0) r.0) p (quiet (apply_to s d.0 k p)) (λ is. still-passes s settled l n plan p (quiet (apply_to s d.0 k p)) (still-apply s settled l n plan d.0 k p) tt)
+      passes-when s settled l n plan (nat_le (at 0 p.ranks d.0) r.0) p (quiet (apply_to s d.0 k p))
+      (λ is. still-passes s settled l n plan p (quiet (apply_to s d.0 k p)) (still-apply s settled l n plan d.0 k p) tt)
   receive-passes write old v y x (tells.Adopt r d base list) p name inside may led reads follows holding new applies =
       passes-when s settled l n plan (nat_le (at 0 p.ranks d.0) r.0) p (ack_to y r.0 d.0 (base + length list) (log_adopted s r.0 d.0 base list p)) (λ is.
       let ranked : Process = with_rank d.0 r.0 p in
@@ -121,7 +125,8 @@ module _ (s : Dimensions) (settled : ℕ → List Update) (l n : ℕ) (plan : Pl
       (still-then s settled l n plan p ranked _ (still-same s settled l n plan p ranked refl refl refl) (still-then s settled l n plan ranked q _ (still-apply s settled l n plan d.0 base ranked)
       (still-same s settled l n plan q (with_replica d.0 (adopting base list (replica_of q d.0)) q) refl refl refl))) (tt, tt))
   receive-passes write old v y (DataNode e) (tells.ReadBlock session block rows) p name inside may led reads follows holding new applies =
-      subst (λ (z : ProcessId). Passes s settled l n plan p (read_comes s session block rows p z)) (sym name) (read-passes session block rows p e name (λ of_it. reads of_it e name) follows holding.space)
+      subst (λ (z : ProcessId). Passes s settled l n plan p (read_comes s session block rows p z)) (sym name)
+      (read-passes session block rows p e name (λ of_it. reads of_it e name) follows holding.space)
   receive-passes write old v y (ParityNode i) (tells.ReadBlock session block rows) p name inside may led reads follows holding new applies = elim may.2 [ ]
   receive-passes write old v (DataNode e) x (tells.Block session bytes k) p name inside may led reads follows holding new applies =
       still-passes s settled l n plan p (receive s (DataNode e) (tells.Block session bytes k) p)
@@ -130,7 +135,8 @@ module _ (s : Dimensions) (settled : ℕ → List Update) (l n : ℕ) (plan : Pl
   receive-passes write old v y x (tells.Mark session r block d k) p name inside may led reads follows holding new applies =
       let to = addressed s v y x (tells.Mark session r block d k) may in
       mark-passes write old p (parity_number session.leader) session.number r.0 block d.0 k (subst (λ (z : ProcessId). Concerns s z d.0) (sym name) to.0) to.1
-      (λ leaders numbers. let all = follows (led_by session.leader led leaders, numbers) in (all.0, all.1, subst (AmongRows plan.rows) (sym name) all.2)) (applies.log d.0 to.1) new (applies.within d.0 to.1) holding
+      (λ leaders numbers. let all = follows (led_by session.leader led leaders, numbers) in (all.0, all.1, subst (AmongRows plan.rows) (sym name) all.2))
+      (applies.log d.0 to.1) new (applies.within d.0 to.1) holding
     where
       led_by : (z : ProcessId) → IsParity z → parity_number z ≡ l → z ≡ ParityNode l
       led_by (ParityNode i) parity is = ap ParityNode is

@@ -33,9 +33,8 @@ use Rattle.group_run.specs.Replica.{Replica, empty_replica}
 use Rattle.group_run.specs.Rows.{accepts_mark, begin_copy, copy_in, is_copy, is_marked, marked, parity_number, stamp_of, with_copies, without_copy}
 use Rattle.law_moves.proofs.Moves.{Treats, Asks, Collects, Flushes}
 use Rattle.law_moves.proofs.Calls.{each-below}
-use Rattle.law_bytes.specs.Areas.{IsArea, IsBlock, block_size, code, held, value}
+use Rattle.law_bytes.specs.Areas.{IsArea, IsBlock, block_size, code, held, value, SettledWrite}
 use Rattle.law_bytes.specs.Held.{CopyHolds, Holds, marked_stand, stand}
-use Rattle.law_bytes.specs.Premises.{SettledWrite}
 use Rattle.law_bytes.proofs.Premises.{AppliesSettled, GoesOn, MarkIsNew, MarksNew}
 use Rattle.law_bytes.proofs.Applying.{Holding}
 use Rattle.law_bytes.proofs.Copies.{block-of-space, marked-holds}
@@ -175,7 +174,9 @@ module _ (s : Dimensions) (settled : ℕ → List Update) where
       → SendsExact (DataNode e) (read_comes s session block rows p (DataNode e))
   read-sends session block rows p e name below holds = (
     (holds.within e below, (block, block-of-space s settled block (value (stand settled p e)) p.space (subst (λ (x : ProcessId). IsArea 0 (space_of s) (held s x (stand settled p)) p.space) name holds.space))),
-    each-map (λ z. Exact s settled (DataNode e) z.message) (λ i. record { to = ParityNode i; message = tells.Mark session (rank 0) block (partition e) (replica_of p e).applied }) rows (each-all (λ i. (replica_of p e).applied ≤ length (settled e)) (λ i. holds.within e below) rows),
+    each-map (λ z. Exact s settled (DataNode e) z.message)
+        (λ i. record { to = ParityNode i; message = tells.Mark session (rank 0) block (partition e) (replica_of p e).applied }) rows
+        (each-all (λ i. (replica_of p e).applied ≤ length (settled e)) (λ i. holds.within e below) rows),
   )
 
   -- a leader that opens a session
@@ -207,7 +208,9 @@ module _ (s : Dimensions) (settled : ℕ → List Update) where
 
         found : (o : Option Copy) → copy_in q.as_row.copies l number ≡ o → SendsExact x (copy_marked s e (replica_of p e).applied o q)
         found None is = tt
-        found (Some c) is = kept (is_marked s (marked e (replica_of p e).applied c)) (marked e (replica_of p e).applied c) (copy-parts l number c (found-passes (is_copy l number) q.as_row.copies c is)).0
+        found (Some c) is =
+            kept (is_marked s (marked e (replica_of p e).applied c)) (marked e (replica_of p e).applied c)
+            (copy-parts l number c (found-passes (is_copy l number) q.as_row.copies c is)).0
 
   own-name : (l number block e : ℕ) (p : Process) → (own_mark s l number block e p).process.name ≡ p.name
   own-name l number block e p = by (accepts_mark p l number (at 0 p.ranks e) e) where
@@ -221,7 +224,8 @@ module _ (s : Dimensions) (settled : ℕ → List Update) where
   owns-send : (x : ProcessId) (l number block : ℕ) (ls : List ℕ) (p : Process) → p.name ≡ x → OwnRow x l → SendsExact x (for_each ls (own_mark s l number block) p)
   owns-send x l number block [] p name own = tt
   owns-send x l number block (e ∷ ls) p name own =
-      then-sends x (own_mark s l number block e p) (for_each ls (own_mark s l number block)) (own-sends x l number block e p name own) (owns-send x l number block ls (own_mark s l number block e p).process (own-name l number block e p ∙ name) own)
+      then-sends x (own_mark s l number block e p) (for_each ls (own_mark s l number block)) (own-sends x l number block e p name own)
+      (owns-send x l number block ls (own_mark s l number block e p).process (own-name l number block e p ∙ name) own)
 
   own-row : (p : Process) (x : ProcessId) → p.name ≡ x → OwnRow x (parity_number p.name)
   unfolding OwnRow

@@ -58,7 +58,8 @@ filter-two f a (suc n) m = by (f a) (filter-two f (a + 1) n m) where
       head : (c : Bool) → length (filter f (range_with_len a (suc n + m))) ≡ length (cond c (a ∷ filter f (range_with_len (a + 1) (n + m))) (filter f (range_with_len (a + 1) (n + m))))
           → length (filter f (range_with_len (a + 1 + n) m)) ≡ length (filter f (range_with_len (a + suc n) m))
           → length (filter f (range_with_len (a + 1) (n + m))) ≡ length (filter f (range_with_len (a + 1) n)) + length (filter f (range_with_len (a + 1 + n) m))
-          → length (filter f (range_with_len a (suc n + m))) ≡ length (cond c (a ∷ filter f (range_with_len (a + 1) n)) (filter f (range_with_len (a + 1) n))) + length (filter f (range_with_len (a + suc n) m))
+          → length (filter f (range_with_len a (suc n + m))) ≡ length
+          (cond c (a ∷ filter f (range_with_len (a + 1) n)) (filter f (range_with_len (a + 1) n))) + length (filter f (range_with_len (a + suc n) m))
       head true whole moved rest = omega (arith, whole, moved, rest)
       head false whole moved rest = omega (arith, whole, moved, rest)
 
@@ -72,7 +73,8 @@ filter-less test f c a b (suc n) place turns =
       here passes = ap f place ∙ turns a (omega arith) (omega arith) passes
 
       by : (d e : Bool) → test a ≡ d → f b ≡ e → length (filter test (range_with_len (a + 1) n)) ≤ length (filter f (range_with_len (b + 1) n))
-          → length (cond d (a ∷ filter test (range_with_len (a + 1) n)) (filter test (range_with_len (a + 1) n))) ≤ length (cond e (b ∷ filter f (range_with_len (b + 1) n)) (filter f (range_with_len (b + 1) n)))
+          → length (cond d (a ∷ filter test (range_with_len (a + 1) n)) (filter test (range_with_len (a + 1) n))) ≤ length
+          (cond e (b ∷ filter f (range_with_len (b + 1) n)) (filter f (range_with_len (b + 1) n)))
       by true true is it rest = omega (arith, rest)
       by true false is it rest = absurd (cc (it, here is))
       by false true is it rest = omega (arith, rest)
@@ -110,11 +112,15 @@ module _ (s : Dimensions) (v : State) (held : Members s v) (up : IsUp s v) (p : 
   sound g is = record {
     lost = subst Rising (sym is.lost) (rising-filtered (λ d. knows_dead (v.process p).known (DataNode d)) s.k);
     lost_in = subst (Each (λ d. d < s.k)) (sym is.lost) (each-filter (λ d. d < s.k) (λ d. knows_dead (v.process p).known (DataNode d)) (range_with_len 0 s.k) (each-below s.k));
-    rows = subst Rising (sym is.rows) (rising-take (length (lost_by s (v.process p).known)) (left_by s (v.process p).known) (rising-filtered (λ i. not (knows_dead (v.process p).known (ParityNode i))) s.m));
+    rows =
+        subst Rising (sym is.rows)
+        (rising-take (length (lost_by s (v.process p).known)) (left_by s (v.process p).known) (rising-filtered (λ i. not (knows_dead (v.process p).known (ParityNode i))) s.m));
     rows_in = subst (Each (λ i. i < s.m)) (sym is.rows) (each-take (λ i. i < s.m) (length (lost_by s (v.process p).known)) (left_by s (v.process p).known)
         (each-filter (λ i. i < s.m) (λ i. not (knows_dead (v.process p).known (ParityNode i))) (range_with_len 0 s.m) (each-below s.m)));
     as_many = ap length is.rows ∙ length-take-le (length (lost_by s (v.process p).known)) (left_by s (v.process p).known) enough ∙ sym (ap length is.lost);
-    blocks = λ d bytes there. let known_living = is.blocks d bytes there in (known_living.0, λ lost. cc (known_living.1, (among-filter (λ e. knows_dead (v.process p).known (DataNode e)) d (range_with_len 0 s.k) (subst (Among d) is.lost (contains-among g.lost d lost))).1));
+    blocks =
+        λ d bytes there. let known_living = is.blocks d bytes there in
+        (known_living.0, λ lost. cc (known_living.1, (among-filter (λ e. knows_dead (v.process p).known (DataNode e)) d (range_with_len 0 s.k) (subst (Among d) is.lost (contains-among g.lost d lost))).1));
   }
 
 pub sessions_always_sound : SessionsAlwaysSound

@@ -99,11 +99,15 @@ marks-less t x session r block e n (i ∷ is) Own way =
     omega (arith, rest, here, none)
 marks-less t x session r block e n (i ∷ is) (Row j) way = by (e == t.partition) refl (marks-less t x session r block e n is (Row j) way) where
   here : one_if (of_session t session && marks_way t.way t.partition e (ParityNode i)) ≤ one_if (e == t.partition && i == j)
-  here = subst (λ (w : Way). one_if (of_session t session && marks_way w t.partition e (ParityNode i)) ≤ one_if (e == t.partition && i == j)) (sym way) (and-less (of_session t session) (e == t.partition && i == j))
+  here =
+      subst (λ (w : Way). one_if (of_session t session && marks_way w t.partition e (ParityNode i)) ≤ one_if (e == t.partition && i == j)) (sym way)
+      (and-less (of_session t session) (e == t.partition && i == j))
 
   by : (b : Bool) → (e == t.partition) ≡ b
       → in_sent t x (map (λ i. record { to = ParityNode i; message = tells.Mark session (rank r) block (partition e) n }) is) ≤ (if e == t.partition then count j is else 0)
-      → one_if (of_session t session && marks_way t.way t.partition e (ParityNode i)) + in_sent t x (map (λ i. record { to = ParityNode i; message = tells.Mark session (rank r) block (partition e) n }) is) ≤ (if e == t.partition then one_if (i == j) + count j is else 0)
+      → one_if (of_session t session && marks_way t.way t.partition e (ParityNode i)) + in_sent t x
+      (map (λ i. record { to = ParityNode i; message = tells.Mark session (rank r) block (partition e) n }) is) ≤
+      (if e == t.partition then one_if (i == j) + count j is else 0)
   by true is_e rest =
       let a : (if e == t.partition then count j is else 0) ≡ count j is = ap (λ (b : Bool). if b then count j is else 0) is_e in
       let c : (if e == t.partition then one_if (i == j) + count j is else 0) ≡ one_if (i == j) + count j is = ap (λ (b : Bool). if b then one_if (i == j) + count j is else 0) is_e in
@@ -307,7 +311,10 @@ module _ (s : Dimensions) (t : Token) where
         question d = record { to = DataNode d; message = tells.ReadBlock (session_of l number) block (rows_of s p) }
 
         marks-fact : (e : ℕ) → Each (λ z. Fact z.message) (leader_marks s l number block p e)
-        marks-fact e = each-map (λ z. Fact z.message) (λ i. record { to = ParityNode i; message = tells.Mark (session_of l number) (rank (at 0 p.ranks e)) block (partition e) (replica_of p e).applied }) (filter (λ i. not (i == l)) (rows_of s p))
+        marks-fact e =
+            each-map (λ z. Fact z.message)
+            (λ i. record { to = ParityNode i; message = tells.Mark (session_of l number) (rank (at 0 p.ranks e)) block (partition e) (replica_of p e).applied })
+            (filter (λ i. not (i == l)) (rows_of s p))
             (each-all (λ i. Unit {0}) (λ i. tt) (filter (λ i. not (i == l)) (rows_of s p)))
 
         all_marks : (ls : List ℕ) → Each (λ z. Fact z.message) (flat_map (leader_marks s l number block p) ls)
@@ -320,7 +327,9 @@ module _ (s : Dimensions) (t : Token) where
         (mark-gains s t l number (at 0 q.ranks e) block e (replica_of q e).applied q below)
 
     abbrev pub started : ProcessStep
-    started = and_then (sending (session_starts s l (suc p.as_leader.last_session) block p) (session_opened s (suc p.as_leader.last_session) block p)) (for_each (lost_of s p) (own_mark s l (suc p.as_leader.last_session) block))
+    started =
+        and_then (sending (session_starts s l (suc p.as_leader.last_session) block p) (session_opened s (suc p.as_leader.last_session) block p))
+        (for_each (lost_of s p) (own_mark s l (suc p.as_leader.last_session) block))
 
     first-gains : (c : ℕ) → in_sent t p.name (session_starts s l number block p) ≤ c → Gains t p (sending (session_starts s l number block p) opened) c
     first-gains c less = record {
@@ -337,16 +346,21 @@ module _ (s : Dimensions) (t : Token) where
     pub start-new : t.partition < s.k → Gains t p started 1
     unfolding number opened
     start-new below =
-        let own = gains-list (lost_of s p) (own_mark s l number block) (λ e. one_if (same_session t l number && marks_way t.way t.partition e (ParityNode l))) (ParityNode l) opened (opened-fewer.name ∙ name) (own-gains below) in
+        let own = gains-list (lost_of s p) (own_mark s l number block) (λ e. one_if (same_session t l number && marks_way t.way t.partition e (ParityNode l)))
+        (ParityNode l) opened (opened-fewer.name ∙ name) (own-gains below) in
         let asked = questions-less (left_of s p) in
         let sum = starts-sum in
         let marks = marks-sum (lost_of s p) in
         let both = total-both (λ e. marks_of t t.way e (filter (λ i. not (i == l)) rows)) (λ e. one_if (same_session t l number && marks_way t.way t.partition e (ParityNode l))) (lost_of s p) in
-        let one = total-le (λ e. marks_of t t.way e (filter (λ i. not (i == l)) rows) + one_if (same_session t l number && marks_way t.way t.partition e (ParityNode l))) (λ e. one_if (e == t.partition)) (lost_of s p) mark-one in
+        let one = total-le
+        (λ e. marks_of t t.way e (filter (λ i. not (i == l)) rows) + one_if (same_session t l number && marks_way t.way t.partition e (ParityNode l)))
+        (λ e. one_if (e == t.partition)) (lost_of s p) mark-one in
         let counted = total-count (lost_of s p) in
         let split = count-split (λ d. knows_dead p.known (DataNode d)) t.partition (range_with_len 0 s.k) in
         let once = count-once t.partition (range_with_len 0 s.k) (differ-rising _ (rising-range 0 s.k)) in
-        gains-more t p started (in_sent t p.name (session_starts s l number block p) + total (λ e. one_if (same_session t l number && marks_way t.way t.partition e (ParityNode l))) (lost_of s p)) 1 (omega (arith, asked, sum, marks, both, one, counted, split, once))
+        gains-more t p started
+        (in_sent t p.name (session_starts s l number block p) + total (λ e. one_if (same_session t l number && marks_way t.way t.partition e (ParityNode l))) (lost_of s p)) 1
+        (omega (arith, asked, sum, marks, both, one, counted, split, once))
         (gains-then t p (sending (session_starts s l number block p) opened) (for_each (lost_of s p) (own_mark s l number block)) (in_sent t p.name (session_starts s l number block p)) _ (first-gains (in_sent t p.name (session_starts s l number block p)) (omega arith)) own)
 
     total-zero : (ls : List ℕ) → total (λ e. 0) ls ≡ 0

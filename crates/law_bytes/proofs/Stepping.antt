@@ -18,11 +18,11 @@ use Rattle.group_run.specs.Replica.{Replica, empty_replica}
 use Rattle.group_run.specs.Rows.{parity_number}
 use Rattle.law_moves.proofs.Calls.{each-below}
 use Rattle.law_bytes.specs.Held.{CopyHolds}
-use Rattle.law_bytes.specs.Premises.{SettledWrite}
 use Rattle.law_bytes.proofs.Premises.{GoesOn}
 use Rattle.law_bytes.proofs.Applying.{Holding, applied-here, applied-holds, applied-rises, applied-settled, goes-applied, replica-here, replica-other}
 use Rattle.law_bytes.proofs.Copies.{holding-same}
 use Rattle.law_bytes.proofs.Values.{Concerns}
+use Rattle.law_bytes.specs.Areas.{SettledWrite}
 
 -- a process whose logs go on as the settled updates do, and which heads no partition but such as concern it
 pub record Ready (s : Dimensions) (settled : ℕ → List Update) (p : Process) : Type 0 where

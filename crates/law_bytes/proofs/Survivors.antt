@@ -120,7 +120,9 @@ module _ (s : Dimensions) (ps : List ProcessId) (space : ProcessId → List ℕ)
   rows_are = numbers-map (λ i. space (ParityNode i)) (parity_in s ps)
 
   filtered-below : (test : ℕ → Bool) (n : ℕ) → Each (λ x. x < n) (filter test (range_with_len 0 n))
-  filtered-below test n = among-each (λ x. x < n) (filter test (range_with_len 0 n)) (λ x there. let within = range-among x 0 n (among-filter test x (range_with_len 0 n) there).0 in let high = within.1 in omega (arith, high))
+  filtered-below test n =
+      among-each (λ x. x < n) (filter test (range_with_len 0 n))
+      (λ x there. let within = range-among x 0 n (among-filter test x (range_with_len 0 n) there).0 in let high = within.1 in omega (arith, high))
 
   can : CanDecode s.k s.m lost rows known
   unfolding known rows lost data_in parity_in
@@ -139,7 +141,8 @@ module _ (s : Dimensions) (ps : List ProcessId) (space : ProcessId → List ℕ)
         length-map (parity_in s ps) (λ i. record { number = i; bytes = space (ParityNode i) }) ∙ omega (arith, a, b, c, many);
   } where
     either : (d : ℕ) → d < s.k → (b : Bool) → list_any (λ q. same_process q (DataNode d)) ps ≡ b
-        → Among d (filter (λ e. not (list_any (λ q. same_process q (DataNode e)) ps)) (range_with_len 0 s.k)) ⊎ Among d (filter (λ e. list_any (λ q. same_process q (DataNode e)) ps) (range_with_len 0 s.k))
+        → Among d (filter (λ e. not (list_any (λ q. same_process q (DataNode e)) ps)) (range_with_len 0 s.k)) ⊎ Among d
+        (filter (λ e. list_any (λ q. same_process q (DataNode e)) ps) (range_with_len 0 s.k))
     either d below true is = inr (filter-among (λ e. list_any (λ q. same_process q (DataNode e)) ps) d (range_with_len 0 s.k) (among-range d 0 s.k (omega arith) (omega (arith, below))) is)
     either d below false is =
         inl (filter-among (λ e. not (list_any (λ q. same_process q (DataNode e)) ps)) d (range_with_len 0 s.k) (among-range d 0 s.k (omega arith) (omega (arith, below))) (ap not is))
@@ -152,7 +155,9 @@ module _ (s : Dimensions) (ps : List ProcessId) (space : ProcessId → List ℕ)
     holds = all-each (λ c. get_or cs c.number [] ≡ c.bytes) known (each-map (λ c. get_or cs c.number [] ≡ c.bytes) (λ d. record { number = d; bytes = space (DataNode d) }) (data_in s ps)
         (among-each (λ d. get_or cs d [] ≡ space (DataNode d)) (data_in s ps) (λ d there.
         get_or_from_slice_get cs d (space (DataNode d)) [] (has-each (λ p. SpaceIs s cs p (space p)) ps (DataNode d) (among-filter (λ e. list_any (λ q. same_process q (DataNode e)) ps) d (range_with_len 0 s.k) there).1 fit))));
-    codes = all-each (λ c. c.bytes ≡ coded s.m c.number (space_of s) cs) rows (each-map (λ c. c.bytes ≡ coded s.m c.number (space_of s) cs) (λ i. record { number = i; bytes = space (ParityNode i) }) (parity_in s ps)
+    codes =
+        all-each (λ c. c.bytes ≡ coded s.m c.number (space_of s) cs) rows
+        (each-map (λ c. c.bytes ≡ coded s.m c.number (space_of s) cs) (λ i. record { number = i; bytes = space (ParityNode i) }) (parity_in s ps)
         (among-each (λ i. space (ParityNode i) ≡ coded s.m i (space_of s) cs) (parity_in s ps) (λ i there.
         has-each (λ p. SpaceIs s cs p (space p)) ps (ParityNode i) (among-filter (λ e. list_any (λ q. same_process q (ParityNode e)) ps) i (range_with_len 0 s.m) there).1 fit)));
   }

@@ -90,7 +90,8 @@ module _ (s : Dimensions) (t : Token) where
       where
         turn : same_process q.name (ParityNode r) ≡ true
             → (is_marked_in t.partition (copy_in q.as_row.copies t.leader t.number) ≡ true) ⊎ ((same_session t c.leader c.number ≡ true) × (e ≡ t.partition))
-            → ((same_process q.name (ParityNode r) && is_marked_in t.partition (copy_in q.as_row.copies t.leader t.number)) ≡ true) ⊎ ((same_session t c.leader c.number && (e == t.partition && same_process q.name (ParityNode r))) ≡ true)
+            → ((same_process q.name (ParityNode r) && is_marked_in t.partition (copy_in q.as_row.copies t.leader t.number)) ≡ true) ⊎
+            ((same_session t c.leader c.number && (e == t.partition && same_process q.name (ParityNode r))) ≡ true)
         turn name (inl was) = inl (and-join _ _ name was)
         turn name (inr here) = inr (and-join _ _ here.0 (and-join _ _ (eq-eqb e t.partition here.1) name))
 
@@ -139,7 +140,8 @@ module _ (s : Dimensions) (t : Token) where
         (mark-there c.marks e t.partition n (all-among (λ d. is_some (at None (put None c.marks e (Some n)) d)) (range_with_len 0 s.k) t.partition whole (among-range t.partition 0 s.k (omega arith) (omega (arith, below)))))
       where
         turn : (same_session t c.leader c.number ≡ true) × (same_process q.name (ParityNode r) ≡ true) → (is_some (at None c.marks t.partition) ≡ true) ⊎ (e ≡ t.partition)
-            → ((same_process q.name (ParityNode r) && is_marked_in t.partition (copy_in q.as_row.copies t.leader t.number)) ≡ true) ⊎ ((same_session t c.leader c.number && (e == t.partition && same_process q.name (ParityNode r))) ≡ true)
+            → ((same_process q.name (ParityNode r) && is_marked_in t.partition (copy_in q.as_row.copies t.leader t.number)) ≡ true) ⊎
+            ((same_session t c.leader c.number && (e == t.partition && same_process q.name (ParityNode r))) ≡ true)
         turn both (inl was) =
             let same = session-true t c.leader c.number both.0 in
             inl (and-join _ _ both.1 (ap (is_marked_in t.partition) (ap₂ (λ (a b : ℕ). copy_in q.as_row.copies a b) (sym same.0) (sym same.1) ∙ first) ∙ was))
@@ -160,7 +162,8 @@ module _ (s : Dimensions) (t : Token) where
       name = refl;
       last = let same = row-last s c.leader c.bytes (open_session q.as_leader c.number) q.as_leader in omega (arith, same);
       weighs =
-          let sum = bits-kept (in_copy t t.way ended) (in_session t (row_comes s c.number c.leader c.bytes ended)) (in_copy t t.way q) (in_session t q) (comes t.way) (copy-less t t.way q ended ended_fewer) kept in
+          let sum = bits-kept (in_copy t t.way ended) (in_session t (row_comes s c.number c.leader c.bytes ended)) (in_copy t t.way q) (in_session t q)
+          (comes t.way) (copy-less t t.way q ended ended_fewer) kept in
           let same = ap one_if (copy-alike t t.way ended (row_comes s c.number c.leader c.bytes ended) refl refl) in
           omega (arith, sum, same);
       facts = tt;

@@ -77,7 +77,9 @@ module _ (s : Dimensions) (t : Token) (below : t.partition < s.k) where
       (fewer-trans t p q (with_replica d.0 (with_update u (replica_of q d.0)) q) (fewer-apply t s d.0 stable p) (same-tokens q (with_replica d.0 (with_update u (replica_of q d.0)) q) refl refl refl)) (tt, tt)))
   receive-gains (DataNode e) (tells.Ack r d n) p fact comes = gains-fewer t p (quiet p) (fewer-self t p) tt
   receive-gains (ParityNode i) (tells.Ack r d n) p fact comes = acked-gains p i r.0 d.0 n (head_at p d.0)
-  receive-gains x (tells.Stable r d n) p fact comes = from-none x p (tells.Stable r d n) _ (gains-when t (nat_le (at 0 p.ranks d.0) r.0) p (quiet (apply_to s d.0 n p)) 0 (λ is. gains-fewer t p (quiet (apply_to s d.0 n p)) (fewer-apply t s d.0 n p) tt))
+  receive-gains x (tells.Stable r d n) p fact comes =
+      from-none x p (tells.Stable r d n) _
+      (gains-when t (nat_le (at 0 p.ranks d.0) r.0) p (quiet (apply_to s d.0 n p)) 0 (λ is. gains-fewer t p (quiet (apply_to s d.0 n p)) (fewer-apply t s d.0 n p) tt))
   receive-gains x (tells.Adopt r d base list) p fact comes =
       from-none x p (tells.Adopt r d base list) _ (gains-when t (nat_le (at 0 p.ranks d.0) r.0) p (ack_to x r.0 d.0 (base + length list) (log_adopted s r.0 d.0 base list p)) 0 (λ is.
       let ranked : Process = with_rank d.0 r.0 p in
@@ -90,7 +92,10 @@ module _ (s : Dimensions) (t : Token) (below : t.partition < s.k) where
     by (ParityNode i) is data_here = elim data_here [ ]
   receive-gains (DataNode e) (tells.Block session bytes n) p fact comes = by session.leader refl where
     by : (y : ProcessId) → session.leader ≡ y → Gains t p (receive s (DataNode e) (tells.Block session bytes n) p) (one_if (of_session t session && block_way t.way t.partition (DataNode e)))
-    by (ParityNode l) is = subst (λ (z : ProcessId). Gains t p (receive s (DataNode e) (tells.Block session bytes n) p) (one_if ((same_process z (ParityNode t.leader) && session.number == t.number) && block_way t.way t.partition (DataNode e)))) (sym is)
+    by (ParityNode l) is =
+        subst
+        (λ (z : ProcessId). Gains t p (receive s (DataNode e) (tells.Block session bytes n) p) (one_if ((same_process z (ParityNode t.leader) && session.number == t.number) && block_way t.way t.partition (DataNode e))))
+        (sym is)
         (block-gains s t l session.number e bytes p (sym comes ∙ is))
     by (DataNode d) is = absurd (subst IsParity is fact)
   receive-gains (ParityNode i) (tells.Block session bytes n) p fact comes = from-none (ParityNode i) p (tells.Block session bytes n) (quiet p) (gains-fewer t p (quiet p) (fewer-self t p) tt)
@@ -103,7 +108,10 @@ module _ (s : Dimensions) (t : Token) (below : t.partition < s.k) where
   receive-gains (DataNode e) (tells.Row session bytes stamp) p fact comes = from-none (DataNode e) p (tells.Row session bytes stamp) (quiet p) (gains-fewer t p (quiet p) (fewer-self t p) tt)
   receive-gains (ParityNode i) (tells.Row session bytes stamp) p fact comes = by session.leader refl where
     by : (y : ProcessId) → session.leader ≡ y → Gains t p (receive s (ParityNode i) (tells.Row session bytes stamp) p) (one_if (of_session t session && row_way t.way (ParityNode i)))
-    by (ParityNode l) is = subst (λ (z : ProcessId). Gains t p (receive s (ParityNode i) (tells.Row session bytes stamp) p) (one_if ((same_process z (ParityNode t.leader) && session.number == t.number) && row_way t.way (ParityNode i)))) (sym is)
+    by (ParityNode l) is =
+        subst
+        (λ (z : ProcessId). Gains t p (receive s (ParityNode i) (tells.Row session bytes stamp) p) (one_if ((same_process z (ParityNode t.leader) && session.number == t.number) && row_way t.way (ParityNode i))))
+        (sym is)
         (row-gains s t l session.number i bytes p (sym comes ∙ is))
     by (DataNode d) is = absurd (subst IsParity is fact)
   receive-gains (DataNode e) (tells.Cease upto) p fact comes = gains-fewer t p (quiet p) (fewer-self t p) tt
@@ -122,10 +130,13 @@ module _ (s : Dimensions) (t : Token) (below : t.partition < s.k) where
   Claims p step = Gains t p step 0 ⊎ OpensIt p step
 
   start-claims : (block l : ℕ) (p : Process) (name : p.name ≡ ParityNode l) → Claims p (start_session s block p)
-  start-claims block l p name = subst (λ (z : ℕ). Claims p (and_then (sending (session_starts s z (suc p.as_leader.last_session) block p) (session_opened s (suc p.as_leader.last_session) block p)) (for_each (lost_of s p) (own_mark s z (suc p.as_leader.last_session) block)))) (sym (ap parity_number name)) (by (session-cases t l (suc p.as_leader.last_session))) where
-    by : ((l ≡ t.leader) × (suc p.as_leader.last_session ≡ t.number)) ⊎ (same_session t l (suc p.as_leader.last_session) ≡ false) → Claims p (started s t block l p name)
-    by (inl same) = inr (record { leader = name ∙ ap ParityNode same.0; number = sym same.1; last = start-last s t block l p name below; gains = start-new s t block l p name below })
-    by (inr other) = inl (start-other s t block l p name other below)
+  start-claims block l p name =
+      subst
+      (λ (z : ℕ). Claims p (and_then (sending (session_starts s z (suc p.as_leader.last_session) block p) (session_opened s (suc p.as_leader.last_session) block p)) (for_each (lost_of s p) (own_mark s z (suc p.as_leader.last_session) block))))
+      (sym (ap parity_number name)) (by (session-cases t l (suc p.as_leader.last_session))) where
+        by : ((l ≡ t.leader) × (suc p.as_leader.last_session ≡ t.number)) ⊎ (same_session t l (suc p.as_leader.last_session) ≡ false) → Claims p (started s t block l p name)
+        by (inl same) = inr (record { leader = name ∙ ap ParityNode same.0; number = sym same.1; last = start-last s t block l p name below; gains = start-new s t block l p name below })
+        by (inr other) = inl (start-other s t block l p name other below)
 
   module _ (p : Process) (x : ProcessId) (name : p.name ≡ x) (inside : IsProcess s x) (living : knows_dead p.known x ≡ false) where
     session-claims : (block : ℕ) → SentWell Owes s.k (start_session s block p).process (start_session s block p).sent
@@ -147,7 +158,8 @@ module _ (s : Dimensions) (t : Token) (below : t.partition < s.k) where
     issued-gains : (d : ℕ) (h : Head) (u : Update) → Gains t p (issued s d h u p) 0
     issued-gains d h u =
         let told : Process = with_replica d (with_update u (replica_of p d)) p in
-        gains-then t p (sending (to_others s p _) told) (judge s d) 0 0 (gains-fewer t p (sending (to_others s p _) told) (same-tokens p told refl refl refl) (silent-others t s p _ tt)) (gains-judge t s d told)
+        gains-then t p (sending (to_others s p _) told) (judge s d) 0 0
+        (gains-fewer t p (sending (to_others s p _) told) (same-tokens p told refl refl refl) (silent-others t s p _ tt)) (gains-judge t s d told)
 
     ticketed-gains : (b : Bool) (d : ℕ) (u : Update) (step : ProcessStep) → Gains t p step 0 → Gains t p (ticketed b d u step).step 0
     ticketed-gains true d u step gains = gains

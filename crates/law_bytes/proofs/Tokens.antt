@@ -13,8 +13,7 @@ use Rattle.group_message.specs.declared.message.Session.{Session}
 use Rattle.group_run.specs.Leaders.{open_session}
 use Rattle.group_run.specs.Process.{Copy, Gathering, Process}
 use Rattle.group_run.specs.Rows.{copy_in}
-use Rattle.law_moves.specs.Moves.{HoldsAlways}
-use Rattle.law_moves.specs.State.{State}
+use Rattle.law_moves.specs.State.{State, HoldsAlways}
 
 -- what a session may have under way for a partition: for the row of a parity process, or its own block
 pub data Way : Type 0 where

@@ -97,7 +97,9 @@ module _ (s : Dimensions) where
     last-same : (t : Token) → t.leader < s.m → ((u.process p).as_leader.last_session ≤ step.process.as_leader.last_session) → last_of u t ≤ last_of w t
     last-same t inside rises = by (same-cases (ParityNode t.leader) p) where
       by : (ParityNode t.leader ≡ p) ⊎ (ParityNode t.leader ≢ p) → (u.process (ParityNode t.leader)).as_leader.last_session ≤ (w.process (ParityNode t.leader)).as_leader.last_session
-      by (inl is) = subst (λ (y : ProcessId). (u.process y).as_leader.last_session ≤ (w.process y).as_leader.last_session) (sym is) (let now = ap (λ (y : Process). y.as_leader.last_session) acts.process in omega (arith, now, rises))
+      by (inl is) =
+          subst (λ (y : ProcessId). (u.process y).as_leader.last_session ≤ (w.process y).as_leader.last_session) (sym is)
+          (let now = ap (λ (y : Process). y.as_leader.last_session) acts.process in omega (arith, now, rises))
       by (inr other) = let same = ap (λ (y : Process). y.as_leader.last_session) (acts.others (ParityNode t.leader) inside other) in omega (arith, same)
 
     pub acted-gains : (t : Token) (c : ℕ) → (u.process p).name ≡ p → Gains t (u.process p) step c → tokens s w t ≤ tokens s u t + c
@@ -115,7 +117,9 @@ module _ (s : Dimensions) where
         some = let first = shaped.k in omega (arith, first)
 
         claims : (t : Token) (below : t.partition < s.k) → Claims s t below (v.process p) step
-        claims t below = treats-claims s t below (v.process p) p (carried.members.named p pin) pin (carried.members.not_self p pin lives) step treats (record { name = carried.members.named p pin; some = some; sits = λ d low. carried.members.sits p d pin lives low })
+        claims t below =
+            treats-claims s t below (v.process p) p (carried.members.named p pin) pin (carried.members.not_self p pin lives) step treats
+            (record { name = carried.members.named p pin; some = some; sits = λ d low. carried.members.sits p d pin lives low })
 
         any : Token
         any = record { leader = 0; number = 0; partition = 0; way = Own }
@@ -239,7 +243,8 @@ module _ (s : Dimensions) where
   opening-none : (t : Token) (p : ProcessId) → at_process t (opening_process s p) ≡ 0
   opening-none t p =
       let a : one_if (in_copy t t.way (opening_process s p)) ≡ 0 = ap one_if (copy t.way) in
-      let b : one_if (in_session t (opening_process s p)) ≡ 0 = ap one_if (true-false (in_session t (opening_process s p)) (λ is. cc (sym (and-split (same_process p (ParityNode t.leader)) (is_kept_in t.way t.partition None) is).1 ∙ kept t.way))) in
+      let b : one_if (in_session t (opening_process s p)) ≡ 0 = ap one_if
+      (true-false (in_session t (opening_process s p)) (λ is. cc (sym (and-split (same_process p (ParityNode t.leader)) (is_kept_in t.way t.partition None) is).1 ∙ kept t.way))) in
       omega (arith, a, b)
     where
       copy : (w : Way) → in_copy t w (opening_process s p) ≡ false

@@ -30,7 +30,6 @@ use Rattle.group_types.specs.Names.{IsProcess}
 use Rattle.group_types.specs.declared.process.ProcessId.{ProcessId}
 use Rattle.group_types.specs.Each.{Each}
 use Rattle.group_types.proofs.Eaches.{each-weaker, each-filter}
-use Rattle.law_bytes.specs.Premises.{SettledWrite}
 use Rattle.law_bytes.proofs.Premises.{AppliesSettled, SettlesNext, NextIsNew}
 use Rattle.law_bytes.proofs.Applying.{Holding, applied-holds}
 use Rattle.law_bytes.proofs.Copies.{holding-same}
@@ -39,6 +38,7 @@ use Rattle.law_bytes.proofs.Marking.{Differ, IsOpen, owns-hold}
 use Rattle.law_bytes.proofs.Stepping.{Ready}
 use Rattle.law_bytes.proofs.Unasked.{never-asks}
 use Rattle.law_bytes.proofs.Values.{Concerns, Inside}
+use Rattle.law_bytes.specs.Areas.{SettledWrite}
 
 -- what is settled of one partition is of it
 settled-one : (d : ℕ) (us : List Update) → settled_in d (settlements d us) ≡ us
@@ -97,7 +97,9 @@ module _ (s : Dimensions) (settled : ℕ → List Update) (write : SettledWrite 
 
     told_holds : Holding s settled old p → Holding s settled old told
     unfolding told
-    told_holds holding = holding-same s settled old p told (record { stand = record { name = refl; applied = λ e. told_applied e (cases_eq e d) }; space = refl; rebuilt = λ e b. refl }) holding.copies holding
+    told_holds holding =
+        holding-same s settled old p told
+        (record { stand = record { name = refl; applied = λ e. told_applied e (cases_eq e d) }; space = refl; rebuilt = λ e b. refl }) holding.copies holding
 
     pub issued-holds : (replica_of (issued s d h u p).process d).applied ≤ length (settled d)
         → take ((replica_of p d).applied + length (settled_in d (issued s d h u p).settled)) (settled d) ≡ take (replica_of p d).applied (settled d) ++ settled_in d (issued s d h u p).settled
@@ -133,7 +135,8 @@ module _ (s : Dimensions) (settled : ℕ → List Update) (write : SettledWrite 
       opened : Process
       opened = session_opened s number block p
 
-  module _ (p : Process) (x : ProcessId) (name : p.name ≡ x) (in_group : IsProcess s x) (living : knows_dead p.known x ≡ false) (inside : Inside s p.name) (new : NextIsNew s p) (holding : Holding s settled old p) where
+  module _ (p : Process) (x : ProcessId) (name : p.name ≡ x) (in_group : IsProcess s x) (living : knows_dead p.known x ≡ false) (inside : Inside s p.name)
+      (new : NextIsNew s p) (holding : Holding s settled old p) where
     session-holds : (block : ℕ) → SentWell Owes s.k (start_session s block p).process (start_session s block p).sent
         → (start_session s block p).process.name ≡ p.name → Holding s settled old (start_session s block p).process
     session-holds block well same = by x name in_group living where
@@ -192,7 +195,8 @@ module _ (s : Dimensions) (settled : ℕ → List Update) (write : SettledWrite 
       → Holding s settled old p → Holding s settled old t.process
   treats-hold p x _ seated in_group living (Asks call op bytes) ready inside new applies next holding =
       let well = step-treats s p x _ seated (Asks call op bytes) in
-      ask-holds p x seated.name in_group living inside new holding call op (home_of (key_of op.act) s.k) (head_at p (home_of (key_of op.act) s.k)) refl ready below well.sent well.same.name applies next
+      ask-holds p x seated.name in_group living inside new holding call op (home_of (key_of op.act) s.k)
+      (head_at p (home_of (key_of op.act) s.k)) refl ready below well.sent well.same.name applies next
     where
       some : 0 < s.k
       some = seated.some

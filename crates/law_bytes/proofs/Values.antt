@@ -128,7 +128,8 @@ module _ (s : Dimensions) (name : ProcessId) (d : ℕ) where
   space-added [] space long write = added-nothing (λ x. share s name d 0) space (λ x. share-zero s name d)
   space-added (u ∷ us) space long write =
       let one : IsAdded (λ x. share s name d (change u.body x)) space (space_added s name d u.body space) = space-one u.body space long u refl write.0 in
-      added-both (λ x. share s name d (change u.body x)) (λ x. share s name d (value us x)) (λ x. share s name d (value (u ∷ us) x)) space (space_added s name d u.body space) (space_after s name d (u ∷ us) space)
+      added-both (λ x. share s name d (change u.body x)) (λ x. share s name d (value us x)) (λ x. share s name d (value (u ∷ us) x)) space
+      (space_added s name d u.body space) (space_after s name d (u ∷ us) space)
       (λ x. shares u us x write.0 write.1) one (space-added us (space_added s name d u.body space) (one.long ∙ long) write.1)
 
   block-one : (b : ℕ) (body : Body) (bytes : List ℕ) → IsAdded (λ x. share s name d (change body (b * s.block + x))) bytes (block_added s name d b body bytes)

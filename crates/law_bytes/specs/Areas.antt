@@ -5,6 +5,7 @@ use Rattle.field_byte.specs.Vectors.{field_sum}
 use Rattle.group_types.specs.Dimensions.{Dimensions, space_of}
 use Rattle.group_types.specs.declared.process.ProcessId.{ProcessId}
 use Rattle.group_types.specs.declared.process.ProcessId.TheVariants.{DataNode, ParityNode}
+use Rattle.group_types.specs.Each.{Each}
 use Rattle.group_message.specs.declared.update.Body.{Body}
 use Rattle.group_message.specs.declared.update.Body.TheVariants.{Put, Remove, Touch}
 use Rattle.group_message.specs.declared.update.Update.{Update}
@@ -59,3 +60,7 @@ HasBytes (Touch _) = ⊤
 pub record WritesBytes (s : Dimensions) (u : Update) : Type 0 where
   pub writes : Writes (space_of s) u.body
   pub bytes : HasBytes u.body
+
+-- every settled update writes in the space, and bytes
+abbrev pub SettledWrite : Dimensions → (ℕ → List Update) → Type 0
+SettledWrite s settled = (d : ℕ) → d < s.k → Each (WritesBytes s) (settled d)

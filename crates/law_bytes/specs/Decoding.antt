@@ -14,9 +14,8 @@ use Rattle.group_run.specs.Applying.{space_after}
 use Rattle.group_run.specs.Leaders.{decoded_of, is_complete}
 use Rattle.group_run.specs.Meaning.{AreDistinct}
 use Rattle.group_run.specs.Process.{Gathering, Process}
-use Rattle.law_bytes.specs.Areas.{IsBlock, code, value}
+use Rattle.law_bytes.specs.Areas.{IsBlock, code, value, SettledWrite}
 use Rattle.law_bytes.specs.Held.{Holds, stand}
-use Rattle.law_bytes.specs.Premises.{SettledWrite}
 
 -- each number is above those before it
 abbrev pub Rising : List ℕ → Type 0

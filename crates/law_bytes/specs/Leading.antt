@@ -1,5 +1,4 @@
--- What a leader's open sessions are for: the partitions whose data processes it knows to be dead, and as rows
--- the first so many parity processes that it doesn't.
+-- What decoding asks of a leader's open sessions.
 use Rattle.std.specs.Prelude.{ℕ, ◌≡◌, ◌<◌, false, List, length, Contains, Some, None}
 use Rattle.group_types.specs.Dimensions.{Dimensions}
 use Rattle.group_types.specs.Lists.{at}
@@ -7,8 +6,7 @@ use Rattle.group_types.specs.Names.{IsProcess}
 use Rattle.group_types.specs.declared.process.ProcessId.{ProcessId}
 use Rattle.group_types.specs.Each.{Each}
 use Rattle.group_run.specs.Process.{Gathering}
-use Rattle.law_moves.specs.Moves.{HoldsAlways}
-use Rattle.law_moves.specs.State.{IsUp, State}
+use Rattle.law_moves.specs.State.{IsUp, State, HoldsAlways}
 use Rattle.law_bytes.specs.Decoding.{Rising}
 
 -- a session's lost partitions and rows are in order and of the group, the rows are as many, and no block is of

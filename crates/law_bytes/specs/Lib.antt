@@ -2,4 +2,3 @@ pub mod Areas
 pub mod Decoding
 pub mod Held
 pub mod Leading
-pub mod Premises

@@ -129,7 +129,8 @@ module _ (s : Dimensions) (shaped : IsShape s) where
     given-at settled q = rebuilt-at s settled (v.process p) q p (all.group.stands.carried.members.named p pin) (all.group.stands.carried.members.not_self p pin lives) keeps-own
 
     -- a process that treats something
-    module _ (w : State) (t : ProcessStep) (more : List Call) (grown : (d a : ℕ) (h : List Update) → FineIn s calls d a h → FineIn s more d a h) (up : IsUp s v) (treats : Treats s (v.process p) t) (acts : Acted s v w p t) (both : LeavesEach s more v w p) where
+    module _ (w : State) (t : ProcessStep) (more : List Call) (grown : (d a : ℕ) (h : List Update) → FineIn s calls d a h → FineIn s more d a h) (up : IsUp s v)
+        (treats : Treats s (v.process p) t) (acts : Acted s v w p t) (both : LeavesEach s more v w p) where
       after : Members s w
       after = (members.keeps s shaped).treats v w p t pin up lives treats all.group.stands.carried.members acts
 
@@ -157,7 +158,9 @@ module _ (s : Dimensions) (shaped : IsShape s) where
   asked calls v w p c pin up lives next all acts = record {
     group = offs.asked s shaped calls v w p c pin up lives next all.group acts rebuilds;
     fits = treated-fits calls v all p pin lives w step more grown up treats acts both;
-    led = asked-led s v w all.group.stands.carried.members p pin lives all.led c.name c.op below acts known (treated-fits calls v all p pin lives w step more grown up treats acts both) (λ d low. (both d low).1);
+    led =
+        asked-led s v w all.group.stands.carried.members p pin lives all.led c.name c.op below acts known
+        (treated-fits calls v all p pin lives w step more grown up treats acts both) (λ d low. (both d low).1);
     stamps = treated-stamps calls v all p pin lives w step more grown up treats acts both;
   } where
     step : ProcessStep
@@ -261,7 +264,8 @@ module _ (s : Dimensions) (shaped : IsShape s) where
       of-open : (n : ℕ) (g : Gathering) → open_session (v.process p).as_leader n ≡ Some g → HeadsIt (v.process p) d
       of-open n g opens =
           let is : IsFor s (v.process p).known g = (found-each (λ y. y.number == n) (IsFor s (v.process p).known) (v.process p).as_leader.sessions g opens (all.fits p pin lives)).1 in
-          let there = among-contains (lost_by s (v.process p).known) d (filter-among (λ e. knows_dead (v.process p).known (DataNode e)) d (range_with_len 0 s.k) (among-range d 0 s.k (omega arith) (omega (arith, low))) lost) in
+          let there = among-contains (lost_by s (v.process p).known) d
+          (filter-among (λ e. knows_dead (v.process p).known (DataNode e)) d (range_with_len 0 s.k) (among-range d 0 s.k (omega arith) (omega (arith, low))) lost) in
           all.led p pin lives n g opens d (subst (λ (ls : List ℕ). Contains ls d) (sym is.lost) there) low
 
       by : ((e : ℕ) → NoneNew e (v.process p) (receive s x m (v.process p)).process) ⊎ HasOpen (v.process p) → HeadsIt (v.process p) d

@@ -13,7 +13,6 @@ use Rattle.group_run.specs.Replica.{Replica, empty_replica}
 use Rattle.group_run.specs.History.{history}
 use Rattle.law_moves.specs.State.{State}
 use Rattle.law_histories.proofs.LaneWords.{Prolongs}
-use Rattle.law_histories.proofs.HistoryWords.{Begins}
 use Rattle.law_histories.proofs.Reach.{IsKeeper, PartitionReaches, Reach, ReplicaReaches}
 use Rattle.law_histories.proofs.Around.{FollowsBy, GrewBy, Since}
 use Rattle.law_histories.proofs.Histories.{length-history, log-is}
@@ -33,10 +32,10 @@ goes-on settled r applied prolongs m short within =
     ∙ ap (λ (us : List Update). take m (drop r.applied us)) prolongs.front
 
 -- and as what is settled later, where a longer history prolongs that
-pub goes-grown : (settled more : List Update) (r : Replica) (whole : List Update) → r.applied ≤ length settled → Begins (history settled r) whole → Prolongs more whole → GoesOn more r
+pub goes-grown : (settled more : List Update) (r : Replica) (whole : List Update) → r.applied ≤ length settled → Prolongs (history settled r) whole → Prolongs more whole → GoesOn more r
 goes-grown settled more r whole applied begins prolongs m short within =
     ap (take m) (sym (log-is settled r applied))
-    ∙ ap (λ (us : List Update). take m (drop r.applied us)) (sym begins.same)
+    ∙ ap (λ (us : List Update). take m (drop r.applied us)) (sym begins.front)
     ∙ cut m r.applied (length (history settled r)) whole (let long = length-history settled r applied in omega (arith, long, short))
     ∙ sym (cut m r.applied (length more) whole within)
     ∙ ap (λ (us : List Update). take m (drop r.applied us)) prolongs.front
@@ -67,7 +66,9 @@ module _ (F : ℕ → ℕ → List Update → Type 0) (s : Dimensions) (v w : St
 
     by : GrewBy d (v.settled d) (w.settled d) (w.process p) → GoesOn (w.settled d) (replica_of (v.process p) d)
     by (inl same) = subst (λ (us : List Update). GoesOn us (replica_of (v.process p) d)) (sym same) (goes-on (v.settled d) (replica_of (v.process p) d) was.applied was.prolongs)
-    by (inr has) = goes-grown (v.settled d) (w.settled d) (replica_of (v.process p) d) (history (w.settled d) (replica_of (w.process p) d)) was.applied ((both d below).3 has.head has.heads) now.prolongs
+    by (inr has) =
+        goes-grown (v.settled d) (w.settled d) (replica_of (v.process p) d) (history (w.settled d) (replica_of (w.process p) d)) was.applied
+        ((both d below).3 has.head has.heads) now.prolongs
 
   pub applies : AppliesSettled s w.settled (v.process p) t
   applies = record {

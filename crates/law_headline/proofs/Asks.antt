@@ -24,14 +24,13 @@ use Rattle.law_moves.proofs.Moves.{Acted, Asks}
 use Rattle.law_moves.specs.State.{IsUp, State}
 use Rattle.law_moves.proofs.Members.{Members}
 use Rattle.law_moves.proofs.Keeping as members
-use Rattle.law_histories.proofs.HistoryWords.{Begins}
 use Rattle.law_histories.proofs.Lanes.{begins-append}
 use Rattle.law_histories.proofs.Reach.{ReplicaReaches}
 use Rattle.law_histories.proofs.Around.{Grown}
+use Rattle.law_histories.proofs.LaneWords.{Prolongs}
 use Rattle.law_log.specs.Book.{call_if}
 use Rattle.law_log.proofs.CallWords.{IsNextCall}
-use Rattle.law_bytes.specs.Areas.{WritesBytes}
-use Rattle.law_bytes.specs.Premises.{SettledWrite}
+use Rattle.law_bytes.specs.Areas.{WritesBytes, SettledWrite}
 use Rattle.law_bytes.proofs.Premises.{AppliesSettled, SettlesNext}
 use Rattle.law_bytes.proofs.Applying.{each-behind}
 use Rattle.law_bytes.proofs.Fresh.{marks-new}
@@ -86,8 +85,8 @@ module _ (s : Dimensions) (shaped : IsShape s) (calls : List Call) (v w : State)
   applies : AppliesSettled s w.settled (v.process p) t
   applies = applies-after s shaped calls more grown v w p t pin lives whole acts.process acts.others acts.dead after both
 
-  begins : (d : ℕ) → d < s.k → Begins (v.settled d) (w.settled d)
-  begins d below = subst (Begins (v.settled d)) (sym (acts.settled d below)) (begins-append (v.settled d) (new_ones (length (v.settled d)) (settled_in d t.settled)))
+  begins : (d : ℕ) → d < s.k → Prolongs (v.settled d) (w.settled d)
+  begins d below = subst (Prolongs (v.settled d)) (sym (acts.settled d below)) (begins-append (v.settled d) (new_ones (length (v.settled d)) (settled_in d t.settled)))
 
   module _ (i : ℕ) (is : p ≡ ParityNode i) where
     stays : (d : ℕ) → d < s.k → StaysBuilt d (v.process p) (w.process p)
@@ -123,7 +122,8 @@ module _ (s : Dimensions) (shaped : IsShape s) (calls : List Call) (v w : State)
           ap (λ (x : Process). history (w.settled e) (replica_of x e)) acts.process
           ∙ ap (λ (x : ProcessStep). history (w.settled e) (replica_of x.process e)) asked-is
           ∙ ap (history (w.settled e)) (ticketed-replica now e u made)
-          ∙ history-issued s e h u (v.process p) heads (v.settled e) (w.settled e) (was-reached s calls more v w p pin lives whole.reach acts.others acts.dead begins both i e is below-home).applied (begins e below-home) next-here
+          ∙ history-issued s e h u (v.process p) heads (v.settled e) (w.settled e)
+          (was-reached s calls more v w p pin lives whole.reach acts.others acts.dead begins both i e is below-home).applied (begins e below-home) next-here
 
       same-inherited : (g : Head) → head_at (w.process p) e ≡ Some g → g.inherited ≡ h.inherited
       same-inherited g is_head =
@@ -147,7 +147,8 @@ module _ (s : Dimensions) (shaped : IsShape s) (calls : List Call) (v w : State)
       issued-off : HeadOff s e (v.settled e) (v.process p) → HeadOff s e (w.settled e) (w.process p)
       issued-off off =
           let reached : ReplicaReaches (FineIn s calls) e (v.settled e) (v.process p) = was-reached s calls more v w p pin lives whole.reach acts.others acts.dead begins both i e is below-home in
-          off-issued s e (v.settled e) (w.settled e) (v.process p) (w.process p) reached.applied (is-reached s calls more v w p pin lives whole.reach acts.others acts.dead begins both i e is below-home).applied (stays e below-home)
+          off-issued s e (v.settled e) (w.settled e) (v.process p) (w.process p) reached.applied
+          (is-reached s calls more v w p pin lives whole.reach acts.others acts.dead begins both i e is below-home).applied (stays e below-home)
           h u heads (reached.heads h heads).inherited same-inherited grown-history stays-apart off
 
     -- what it does of its decision
@@ -176,7 +177,9 @@ module _ (s : Dimensions) (shaped : IsShape s) (calls : List Call) (v w : State)
     own : (d : ℕ) → d < s.k → HeadOff s d (v.settled d) (v.process p) → HeadOff s d (w.settled d) (w.process p)
     own d below off = by (head_at (v.process p) e) refl where
       by : (o : Option Head) → head_at (v.process p) e ≡ o → HeadOff s d (w.settled d) (w.process p)
-      by None heads = long-own d below (subst (Long d (v.process p)) (sym (acts.process ∙ ap (λ (o : Option Head). (ask_head s c.name c.op e (v.process p) o).step.process) heads)) (long-refl d (v.process p))) off
+      by None heads =
+          long-own d below
+          (subst (Long d (v.process p)) (sym (acts.process ∙ ap (λ (o : Option Head). (ask_head s c.name c.op e (v.process p) o).step.process) heads)) (long-refl d (v.process p))) off
       by (Some h) heads = act-off d below h (decision-of h) heads refl (cases_eq e d) off
 
   pub asked : HeadsOff s v → HeadsOff s w

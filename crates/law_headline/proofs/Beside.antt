@@ -33,9 +33,9 @@ use Rattle.law_updates.proofs.Laws.{FineFits}
 use Rattle.law_updates.specs.Store.{no_store}
 use Rattle.law_updates.proofs.Fines.{fine_histories_fit}
 use Rattle.law_updates.proofs.Histories.{store-items}
-use Rattle.law_bytes.specs.Premises.{SettledWrite}
 use Rattle.law_bytes.proofs.LeadingWords.{SessionsFit}
 use Rattle.law_bytes.proofs.Fresh.{marks-new}
+use Rattle.law_bytes.specs.Areas.{SettledWrite}
 use Rattle.law_headline.proofs.Issues.{FineIn, fine-writes, fits, replica-of-history}
 use Rattle.law_headline.proofs.Joint.{Whole}
 use Rattle.law_headline.proofs.Needs.{WantsWhere, needs-inside, wants-where}
@@ -80,7 +80,9 @@ module _ (s : Dimensions) (shaped : IsShape s) where
       replica = replica-of-history (FineIn s calls) d (v.settled d) r (head_at (v.process p) d) reached
 
       items : Each (λ x. x.1.at + x.1.len ≤ space_of s) r.items
-      items = subst (λ (xs : Items). Each (λ x. x.1.at + x.1.len ≤ space_of s) xs) (store-items s d (no_store s) (take r.applied (history (v.settled d) r)) ∙ sym replica.items) (fine.store r.applied).inside
+      items =
+          subst (λ (xs : Items). Each (λ x. x.1.at + x.1.len ≤ space_of s) xs)
+          (store-items s d (no_store s) (take r.applied (history (v.settled d) r)) ∙ sym replica.items) (fine.store r.applied).inside
 
     pub needs-sound : (p : ProcessId) → IsProcess s p → v.dead p ≡ false → (op : Asked) → NeedsSound s (v.process p) op
     needs-sound p pin lives op h b heads decided = needs-at p pin lives (home_of (key_of op.act) s.k) (below-own (fnv1a (key_of op.act)) s.k shaped.k.0) op h b heads decided
@@ -88,12 +90,14 @@ module _ (s : Dimensions) (shaped : IsShape s) where
     -- every move keeps what messages carry
     pub sound-treated : (w : State) (p : ProcessId) (t : ProcessStep) → IsProcess s p → IsUp s v → v.dead p ≡ false → Treats s (v.process p) t → LinksSound s v → Acted s v w p t → LinksSound s w
     sound-treated w p t pin up lives treats sound acts =
-        (sound_kept s shaped).treats v w p t pin lives treats whole.carried.members ((members.keeps s shaped).treats v w p t pin up lives treats whole.carried.members acts) whole.bytes (needs-sound p pin lives) sound acts
+        (sound_kept s shaped).treats v w p t pin lives treats whole.carried.members
+        ((members.keeps s shaped).treats v w p t pin up lives treats whole.carried.members acts) whole.bytes (needs-sound p pin lives) sound acts
 
     pub sound-received : (u w : State) (x p : ProcessId) (m : Message) → IsProcess s x → IsProcess s p → x ≢ p → IsUp s v → v.dead p ≡ false → LinksSound s v
         → Popped s v u x p m → Acted s u w p (receive s x m (v.process p)) → LinksSound s w
     sound-received u w x p m xin pin apart up lives sound pops acts =
-        (sound_kept s shaped).receives v u w x p m xin pin apart lives whole.carried.members ((members.keeps s shaped).receives v u w x p m xin pin apart up lives whole.carried.members pops acts) whole.bytes sound pops acts
+        (sound_kept s shaped).receives v u w x p m xin pin apart lives whole.carried.members
+        ((members.keeps s shaped).receives v u w x p m xin pin apart up lives whole.carried.members pops acts) whole.bytes sound pops acts
 
     -- all that the law of messages asks for
     pub group-stands : SessionsFit s v → LinksSound s v → GroupStands s calls v

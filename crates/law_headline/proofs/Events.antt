@@ -18,12 +18,11 @@ use Rattle.law_moves.specs.State.{IsUp, State}
 use Rattle.law_moves.proofs.State.{Opens}
 use Rattle.law_moves.proofs.Members.{Members}
 use Rattle.law_moves.proofs.Keeping as members
-use Rattle.law_histories.proofs.HistoryWords.{Begins}
 use Rattle.law_histories.proofs.Lanes.{begins-append}
 use Rattle.law_histories.proofs.Calls.{still-collect, still-flush}
 use Rattle.law_histories.proofs.Keeping as reaching
-use Rattle.law_bytes.specs.Areas.{IsBlock, value}
-use Rattle.law_bytes.specs.Premises.{SettledWrite}
+use Rattle.law_histories.proofs.LaneWords.{Prolongs}
+use Rattle.law_bytes.specs.Areas.{IsBlock, value, SettledWrite}
 use Rattle.law_bytes.proofs.Premises.{AppliesSettled, SettlesNext}
 use Rattle.law_bytes.proofs.Fresh.{marks-new}
 use Rattle.law_headline.proofs.Issues.{FineIn, fine-laws}
@@ -42,8 +41,8 @@ module _ (s : Dimensions) (shaped : IsShape s) where
     after : Members s w
     after = (members.keeps s shaped).treats v w p t pin up lives treats whole.carried.members acts
 
-    begins : (d : ℕ) → d < s.k → Begins (v.settled d) (w.settled d)
-    begins d below = subst (Begins (v.settled d)) (sym (acts.settled d below)) (begins-append (v.settled d) (new_ones (length (v.settled d)) (settled_in d t.settled)))
+    begins : (d : ℕ) → d < s.k → Prolongs (v.settled d) (w.settled d)
+    begins d below = subst (Prolongs (v.settled d)) (sym (acts.settled d below)) (begins-append (v.settled d) (new_ones (length (v.settled d)) (settled_in d t.settled)))
 
     write : SettledWrite s w.settled
     write = write-after s shaped calls calls (λ d a h fine. fine) v w p t pin lives whole acts.process acts.others acts.dead after both

@@ -15,15 +15,15 @@ use Rattle.group_run.specs.Process.{Head, Process}
 use Rattle.group_run.specs.Replica.{Replica, applied_to, empty_replica, last_of, up_to, with_update}
 use Rattle.group_run.specs.World.{settled_in}
 use Rattle.group_run.specs.History.{history}
-use Rattle.law_histories.proofs.HistoryWords.{Begins}
 use Rattle.law_histories.proofs.Histories.{history-grown, length-history, settled-in-own}
 use Rattle.law_histories.proofs.Heads.{replica-apply_to}
+use Rattle.law_histories.proofs.LaneWords.{Prolongs}
 use Rattle.law_headline.proofs.Apart.{HeadOff, StaysOff}
 use Rattle.law_headline.proofs.Longs.{Inherits, Long}
 
 -- a list that begins with another, and is no longer, is that
-pub begins-same : (us vs : List Update) → Begins us vs → length vs ≡ length us → vs ≡ us
-begins-same us vs begins long = sym (take_all (length us) vs (omega (arith, long))) ∙ begins.same
+pub begins-same : (us vs : List Update) → Prolongs us vs → length vs ≡ length us → vs ≡ us
+begins-same us vs begins long = sym (take_all (length us) vs (omega (arith, long))) ∙ begins.front
 
 -- the updates behind a place, with one more
 pub drop-behind : (n : ℕ) (us : List Update) (u : Update) → n ≤ length us → drop n (us ++ u ∷ []) ≡ drop n us ++ u ∷ []
@@ -42,10 +42,11 @@ unbuilt-before d b p q stays none = by (rebuilt_block p.as_leader d b) refl wher
   by None is = is
   by (Some bytes) is = absurd (cc (sym (stays b (ap is_some is)) ∙ ap is_some none))
 
-module _ (s : Dimensions) (d : ℕ) (old new : List Update) (p q : Process) (within : (replica_of p d).applied ≤ length old) (within_now : (replica_of q d).applied ≤ length new) (stays : StaysBuilt d p q) where
+module _ (s : Dimensions) (d : ℕ) (old new : List Update) (p q : Process) (within : (replica_of p d).applied ≤ length old)
+    (within_now : (replica_of q d).applied ≤ length new) (stays : StaysBuilt d p q) where
   -- nothing was put behind the log
   pub off-long : ((h : Head) → head_at q d ≡ Some h → Long d p q)
-      → ((h : Head) → head_at q d ≡ Some h → Begins (history old (replica_of p d)) (history new (replica_of q d))) → HeadOff s d old p → HeadOff s d new q
+      → ((h : Head) → head_at q d ≡ Some h → Prolongs (history old (replica_of p d)) (history new (replica_of q d))) → HeadOff s d old p → HeadOff s d new q
   off-long long follows off h b heads none = subst (λ (us : List Update). Each (StaysOff s b) (drop h.inherited us)) (sym same) (by ((long h heads).heads h heads)) where
     before : length (history old (replica_of p d)) ≡ last_of (replica_of p d)
     before = length-history old (replica_of p d) within
@@ -98,7 +99,7 @@ module _ (s : Dimensions) (d : ℕ) (h : Head) (u : Update) (p : Process) (heads
   issued-replica = ap (λ (o : Option Head). replica_of (judge_head s d told o).process d) heads ∙ replica-apply_to s d least told ∙ ap (applied_to least) replica_told
 
   -- what is issued stands behind the history
-  pub history-issued : (settled more : List Update) → (replica_of p d).applied ≤ length settled → Begins settled more
+  pub history-issued : (settled more : List Update) → (replica_of p d).applied ≤ length settled → Prolongs settled more
       → take ((replica_of p d).applied + length (settled_in d (issued s d h u p).settled)) more ≡ take (replica_of p d).applied more ++ settled_in d (issued s d h u p).settled
       → history more (replica_of (issued s d h u p).process d) ≡ history settled (replica_of p d) ++ u ∷ []
   history-issued settled more applied begins next =

@@ -40,11 +40,10 @@ use Rattle.law_updates.proofs.Fines.{fine_histories_fit, histories_are_fine, iss
 use Rattle.law_histories.proofs.HistoryWords.{HistoryLaws}
 use Rattle.law_histories.proofs.Reach.{IsKeeper, Reach, ReplicaFits, ReplicaReaches}
 use Rattle.law_histories.proofs.Histories.{front-long, length-history, log-is}
-use Rattle.law_bytes.specs.Areas.{HasBytes, WritesBytes}
+use Rattle.law_bytes.specs.Areas.{HasBytes, WritesBytes, SettledWrite}
 use Rattle.law_bytes.specs.Decoding.{columns, values}
 use Rattle.law_bytes.specs.Held.{stand}
 use Rattle.law_bytes.proofs.Held.{HoldsBytes}
-use Rattle.law_bytes.specs.Premises.{SettledWrite}
 use Rattle.law_bytes.proofs.Decode.{spaces_stand}
 use Rattle.law_log.proofs.CallWords.{IsNextCall}
 use Rattle.law_headline.proofs.Reading.{reads}
@@ -109,7 +108,8 @@ column-at s us d space below is =
       zero-plus : 0 + d ≡ d
       zero-plus = omega arith
 
-module _ (s : Dimensions) (shaped : IsShape s) (calls : List Call) (v : State) (members : Members s v) (reach : Reach (FineIn s calls) s v) (write : SettledWrite s v.settled) (holds : HoldsBytes s v) where
+module _ (s : Dimensions) (shaped : IsShape s) (calls : List Call) (v : State) (members : Members s v) (reach : Reach (FineIn s calls) s v)
+    (write : SettledWrite s v.settled) (holds : HoldsBytes s v) where
   module _ (p : ProcessId) (pin : IsProcess s p) (lives : v.dead p ≡ false) (d : ℕ) (below : d < s.k) (h : Head) (heads : head_at (v.process p) d ≡ Some h) where
     pub keeps : IsKeeper d p
     keeps = head-keeps (v.process p) d h p (members.sits p d pin lives below) heads

@@ -47,7 +47,6 @@ use Rattle.law_log.proofs.CallWords.{IsNextCall}
 use Rattle.law_log.proofs.Entries.{accepted-from}
 use Rattle.law_bytes.proofs.Held.{HoldsBytes}
 use Rattle.law_bytes.proofs.Law.{StepIsRight}
-use Rattle.law_bytes.specs.Premises.{SettledWrite}
 use Rattle.law_bytes.proofs.Premises.{AppliesSettled, MarksNew, RebuildsRight, SettlesNext}
 use Rattle.law_bytes.proofs.BytesKeeping.{bytes_kept}
 use Rattle.law_bytes.proofs.Exact.{MessagesExact}
@@ -55,6 +54,7 @@ use Rattle.law_bytes.proofs.FreshWords.{IsUnmarked}
 use Rattle.law_bytes.proofs.Exacts.{exact_kept}
 use Rattle.law_bytes.proofs.Fresh.{marks-new}
 use Rattle.law_bytes.proofs.TokensKeeping as sessions
+use Rattle.law_bytes.specs.Areas.{SettledWrite}
 use Rattle.law_headline.proofs.Applies.{Unkept, applies}
 use Rattle.law_headline.proofs.Issues.{FineIn, fine-laws, fine-writes, fits, head-keeps, issue}
 use Rattle.law_headline.proofs.Nexts.{act-next, nothing-next}
@@ -179,7 +179,8 @@ module _ (s : Dimensions) (shaped : IsShape s) where
     asked-head h heads = fits s shaped calls v whole.carried.members whole.reach write whole.bytes p pin lives home home-below h heads
 
     pub fine-issue : (h : Head) (body : Body) (outcome : Outcome) → head_at (v.process p) home ≡ Some h → decision-of h ≡ decides.Issue body outcome
-        → FineIn s (calls ++ c ∷ []) home (replica_of (v.process p) home).applied (history (v.settled home) (replica_of (v.process p) home) ++ update_of c.name c.op home body outcome (v.process p) ∷ [])
+        → FineIn s (calls ++ c ∷ []) home (replica_of (v.process p) home).applied
+        (history (v.settled home) (replica_of (v.process p) home) ++ update_of c.name c.op home body outcome (v.process p) ∷ [])
     fine-issue h body outcome heads decided = issue s shaped calls v whole.carried.members whole.reach write whole.bytes p pin lives home home-below h heads c body outcome refl next decided
 
     issues : IssueKeeps (FineIn s more) s v p c.name c.op
@@ -190,7 +191,9 @@ module _ (s : Dimensions) (shaped : IsShape s) where
         (fine-issue h body outcome heads decided)
 
     pub asked-leaves : LeavesEach s more v w p
-    asked-leaves = reaching.asks-both (FineIn s more) (fine-laws s more) s shaped v w p c.name c.op pin up lives next.bytes issues whole.carried.members (reach-weaker (FineIn s calls) (FineIn s more) more-fine s v whole.reach) acts
+    asked-leaves =
+        reaching.asks-both (FineIn s more) (fine-laws s more) s shaped v w p c.name c.op pin up lives next.bytes issues whole.carried.members
+        (reach-weaker (FineIn s calls) (FineIn s more) more-fine s v whole.reach) acts
 
     after_last : (d : ℕ) (body : Body) (outcome : Outcome) → (replica_of (v.process p) d).applied ≤ length (v.settled d)
         → (update_of c.name c.op d body outcome (v.process p)).number ≡ 1 + length (history (v.settled d) (replica_of (v.process p) d))

@@ -1,6 +1,6 @@
--- The headline for every shape and every run, and what stands beside it.
+-- Each block session follows a plan, along every run.
 use Rattle.group_types.specs.Dimensions.{Dimensions}
-use Rattle.law_moves.specs.Moves.{HoldsAlways}
+use Rattle.law_moves.specs.State.{HoldsAlways}
 use Rattle.law_bytes.proofs.Stamps.{SessionsStand}
 
 -- each block session follows a plan: all of it is of one block, and stands at one number of each partition

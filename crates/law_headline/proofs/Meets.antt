@@ -47,7 +47,8 @@ as-parity : (s : Dimensions) (x : ProcessId) → IsProcess s x → IsParity x �
 as-parity s (ParityNode i) there parity = (i, refl, there)
 as-parity s (DataNode d) there parity = absurd parity
 
-module _ (s : Dimensions) (calls : List Call) (v : State) (stands : GroupStands s calls v) (x p : ProcessId) (xin : IsProcess s x) (pin : IsProcess s p) (apart : x ≢ p) (lives : v.dead p ≡ false) where
+module _ (s : Dimensions) (calls : List Call) (v : State) (stands : GroupStands s calls v) (x p : ProcessId) (xin : IsProcess s x) (pin : IsProcess s p)
+    (apart : x ≢ p) (lives : v.dead p ≡ false) where
   abbrev First : Message → List Message → Type 0
   First m rest = v.link x p ≡ m ∷ rest
 

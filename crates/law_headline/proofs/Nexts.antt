@@ -56,7 +56,8 @@ mark-none s leader number r block d n p = by (accepts_mark p leader number r d) 
 marks-none : (s : Dimensions) (leader number block : ℕ) (ls : List ℕ) (p : Process) → (for_each ls (own_mark s leader number block) p).settled ≡ []
 marks-none s leader number block [] p = refl
 marks-none s leader number block (l ∷ ls) p =
-    ap (λ (xs : List Settlement). xs ++ (for_each ls (own_mark s leader number block) (own_mark s leader number block l p).process).settled) (mark-none s leader number (at 0 p.ranks l) block l (replica_of p l).applied p)
+    ap (λ (xs : List Settlement). xs ++ (for_each ls (own_mark s leader number block) (own_mark s leader number block l p).process).settled)
+    (mark-none s leader number (at 0 p.ranks l) block l (replica_of p l).applied p)
     ∙ marks-none s leader number block ls (own_mark s leader number block l p).process
 
 pub start-none : (s : Dimensions) (block : ℕ) (p : Process) → (start_session s block p).settled ≡ []
@@ -131,7 +132,9 @@ module _ (s : Dimensions) (d : ℕ) (h : Head) (u : Update) (p : Process) (heads
       let taken = length-take (least - (replica_of p d).applied) ((replica_of p d).log ++ u ∷ []) in
       let within : (replica_of p d).applied + length (up_to least (with_update u (replica_of p d))) ≤ length more = omega (arith, count, taken, applied) in
       let goes : GoesOn more (with_update u (replica_of p d)) =
-      goes-grown settled more (with_update u (replica_of p d)) (history settled (with_update u (replica_of p d))) applied (begins-refl (history settled (with_update u (replica_of p d)))) (front-prolongs more (max (length settled) least) (history settled (with_update u (replica_of p d))) is_front) in
+      goes-grown settled more (with_update u (replica_of p d)) (history settled (with_update u (replica_of p d))) applied
+      (begins-refl (history settled (with_update u (replica_of p d))))
+      (front-prolongs more (max (length settled) least) (history settled (with_update u (replica_of p d))) is_front) in
       ap (λ (us : List Update). take ((replica_of p d).applied + length us) more) own
       ∙ applied-settled more (with_update u (replica_of p d)) least goes within
       ∙ ap (λ (us : List Update). take (replica_of p d).applied more ++ us) (sym own)
@@ -142,7 +145,8 @@ ticketed-settled true d u t = refl
 ticketed-settled false d u t = refl
 
 -- what a head settles as it is asked is next
-module _ (s : Dimensions) (p : Process) (settled more : ℕ → List Update) (name : CallName) (op : Asked) (e : ℕ) (inside : e < s.k) (applied : (replica_of p e).applied ≤ length (settled e)) (prolongs : Prolongs (settled e) (history (settled e) (replica_of p e))) where
+module _ (s : Dimensions) (p : Process) (settled more : ℕ → List Update) (name : CallName) (op : Asked) (e : ℕ) (inside : e < s.k)
+    (applied : (replica_of p e).applied ≤ length (settled e)) (prolongs : Prolongs (settled e) (history (settled e) (replica_of p e))) where
   pub act-next : (h : Head) (decision : Decision) → head_at p e ≡ Some h
       → ((body : Body) (outcome : Outcome) → decision ≡ decides.Issue body outcome → NumberedFrom 1 (history (settled e) (replica_of p e) ++ update_of name op e body outcome p ∷ []))
       → ((d : ℕ) → d < s.k → more d ≡ settled_with (act_on s name op e h p decision).step.settled d (settled d)) → SettlesNext s more p (act_on s name op e h p decision).step
@@ -153,11 +157,16 @@ module _ (s : Dimensions) (p : Process) (settled more : ℕ → List Update) (na
       nothing-next s more p (act_on s name op e h p (decides.NeedBlock b)).step (λ d. ap (settled_in d) (retry-none s b (oldest_inherited p (range_with_len 0 s.k)) p))
   act-next h (decides.Issue body outcome) heads numbers is = λ d below. by d below (cases_eq e d) where
     same : (act_on s name op e h p (decides.Issue body outcome)).step.settled ≡ (issued s e h (update_of name op e body outcome p) p).settled
-    same = ticketed-settled (nat_le (suc (last_of (replica_of p e))) (replica_of (issued s e h (update_of name op e body outcome p) p).process e).applied) e (update_of name op e body outcome p) (issued s e h (update_of name op e body outcome p) p)
+    same =
+        ticketed-settled (nat_le (suc (last_of (replica_of p e))) (replica_of (issued s e h (update_of name op e body outcome p) p).process e).applied) e
+        (update_of name op e body outcome p) (issued s e h (update_of name op e body outcome p) p)
 
     by : (d : ℕ) → d < s.k → (e ≡ d) ⊎ (e ≢ d)
-        → take ((replica_of p d).applied + length (settled_in d (act_on s name op e h p (decides.Issue body outcome)).step.settled)) (more d) ≡ take (replica_of p d).applied (more d) ++ settled_in d (act_on s name op e h p (decides.Issue body outcome)).step.settled
-    by d below (inl here) = subst (λ (j : ℕ). take ((replica_of p j).applied + length (settled_in j (act_on s name op e h p (decides.Issue body outcome)).step.settled)) (more j) ≡ take (replica_of p j).applied (more j) ++ settled_in j (act_on s name op e h p (decides.Issue body outcome)).step.settled) here
+        → take ((replica_of p d).applied + length (settled_in d (act_on s name op e h p (decides.Issue body outcome)).step.settled)) (more d) ≡ take
+        (replica_of p d).applied (more d) ++ settled_in d (act_on s name op e h p (decides.Issue body outcome)).step.settled
+    by d below (inl here) =
+        subst
+        (λ (j : ℕ). take ((replica_of p j).applied + length (settled_in j (act_on s name op e h p (decides.Issue body outcome)).step.settled)) (more j) ≡ take (replica_of p j).applied (more j) ++ settled_in j (act_on s name op e h p (decides.Issue body outcome)).step.settled) here
         (subst (λ (ss : List Settlement). take ((replica_of p e).applied + length (settled_in e ss)) (more e) ≡ take (replica_of p e).applied (more e) ++ settled_in e ss) (sym same)
         (issued-next s e h (update_of name op e body outcome p) p heads (settled e) (more e) applied prolongs (numbers body outcome refl) (is e inside ∙ ap (λ (ss : List Settlement). settled_with ss e (settled e)) same)))
     by d below (inr other) =

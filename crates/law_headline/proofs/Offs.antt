@@ -53,7 +53,9 @@ module _ (s : Dimensions) (shaped : IsShape s) where
       → WholeOff s calls v → Popped s v u x p m → Acted s u w p (receive s x m (v.process p))
       → RebuildsAt s w.settled (v.process p) (receive s x m (v.process p)).process → WholeOff s calls w
   received calls v u w x p m xin pin apart up lives all pops acts rebuilds = record {
-    stands = whole.received s shaped calls v u w x p m xin pin apart up lives all.stands pops acts (received-right s shaped calls v u w x p m xin pin apart up lives all.stands pops acts all.off rebuilds);
+    stands =
+        whole.received s shaped calls v u w x p m xin pin apart up lives all.stands pops acts
+        (received-right s shaped calls v u w x p m xin pin apart up lives all.stands pops acts all.off rebuilds);
     off = receives.received s shaped calls v u w x p m xin pin apart up lives all.stands pops acts all.off;
   }
 

@@ -60,7 +60,8 @@ module _ (s : Dimensions) (calls : List Call) (v : State) (stands : GroupStands 
   row-asked (ParityNode i) (ParityNode l) (tells.Row session bytes stamp) rest xin pin apart lives first may =
       let plan : (plan : Plan) × SessionFollows s v l session.number plan = plans l session.number pin in
       let row = follows-first s calls v stands plans (ParityNode i) xin l session.number pin (ParityNode l) (tells.Row session bytes stamp) rest pin apart lives first (may.0, refl) in
-      if-weaker (λ g. (session.number ≤ (v.process (ParityNode l)).as_leader.last_session) × GatheringFollows s v.settled plan.0 g) (λ g. Contains g.rows i) (λ g both. subst (λ (rows : List ℕ). Contains rows i) (sym both.1.rows) row.0) (open_session (v.process (ParityNode l)).as_leader session.number)
+      if-weaker (λ g. (session.number ≤ (v.process (ParityNode l)).as_leader.last_session) × GatheringFollows s v.settled plan.0 g) (λ g. Contains g.rows i)
+      (λ g both. subst (λ (rows : List ℕ). Contains rows i) (sym both.1.rows) row.0) (open_session (v.process (ParityNode l)).as_leader session.number)
       ((plan.1.processes (ParityNode l) pin lives).session (stands.members.named (ParityNode l) pin))
   row-asked (DataNode d) p (tells.Row session bytes stamp) rest xin pin apart lives first may = absurd may.1
   row-asked x p (tells.Update r d u stable) rest xin pin apart lives first may = tt

@@ -40,11 +40,10 @@ use Rattle.law_log.proofs.Held.{held_always}
 use Rattle.law_log.proofs.HeldWords.{HeldIsSettled}
 use Rattle.law_bytes.specs.Decoding.{AreSpaces, SpaceIs, columns, values}
 use Rattle.law_bytes.specs.Held.{stand}
-use Rattle.law_bytes.specs.Premises.{SettledWrite}
 use Rattle.law_bytes.proofs.Decode.{AreAreas, areas-bytes, areas-long, columns-areas, spaces_stand}
 use Rattle.law_bytes.proofs.Survivors.{spaces_determine}
 use Rattle.law_bytes.proofs.Values.{value-byte}
-use Rattle.law_bytes.specs.Areas.{WritesBytes, value}
+use Rattle.law_bytes.specs.Areas.{WritesBytes, value, SettledWrite}
 use Rattle.law_headline.proofs.Issues.{FineIn, column-at, fine-writes, fits, head-reads}
 use Rattle.law_headline.proofs.Joint.{Whole}
 use Rattle.law_headline.proofs.Reading.{store-values}
@@ -184,7 +183,9 @@ module _ (h : History) (calls : List Call) (shaped : IsShape h.world.shape) (who
   stamp-spaces stamp many = subst (AreSpaces h.world.shape) (stamp-columns (upto stamp) stamp many (λ d n below is. ap (λ (x : ℕ). take x (at [] h.settled d)) (number-of stamp d n is))) (record {
     many = areas.many;
     long = areas-long h.world.shape.k 0 (space_of h.world.shape) (λ d. value (upto stamp d)) (columns h.world.shape (upto stamp)) areas;
-    bytes = areas-bytes h.world.shape.k 0 (space_of h.world.shape) (λ d. value (upto stamp d)) (columns h.world.shape (upto stamp)) areas (λ d x below. value-byte h.world.shape (upto stamp d) x (writes d below));
+    bytes =
+        areas-bytes h.world.shape.k 0 (space_of h.world.shape) (λ d. value (upto stamp d)) (columns h.world.shape (upto stamp)) areas
+        (λ d x below. value-byte h.world.shape (upto stamp d) x (writes d below));
   }) where
     writes : SettledWrite h.world.shape (upto stamp)
     writes d below = each-take (WritesBytes h.world.shape) (at 0 stamp d) (at [] h.settled d) (write d below)

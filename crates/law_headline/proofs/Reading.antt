@@ -109,7 +109,10 @@ module _ (s : Dimensions) (d : ℕ) (us : List Update) (write : Each (WritesByte
           in_range : (b : Bool) → (run.len == 0) ≡ b → Each (λ b. not (is_some (rebuilt_block l d b)) ≡ false) (if b then [] else range_with_len first (last - first + 1))
               → not (is_some (rebuilt_block l d ((run.at + i) / s.block))) ≡ false
           in_range true is all = absurd (let none_there : run.len ≡ 0 = grind (arith, common_steps) in omega (arith, none_there, below))
-          in_range false is all = each-in-range (λ b. not (is_some (rebuilt_block l d b)) ≡ false) first (last - first + 1) ((run.at + i) / s.block) all (div-rises s.block run.at (run.at + i) some (omega arith)) (let high = div-rises s.block (run.at + i) (run.at + run.len - 1) some (omega (arith, below)) in omega (arith, high))
+          in_range false is all =
+              each-in-range (λ b. not (is_some (rebuilt_block l d b)) ≡ false) first (last - first + 1) ((run.at + i) / s.block) all
+              (div-rises s.block run.at (run.at + i) some (omega arith))
+              (let high = div-rises s.block (run.at + i) (run.at + run.len - 1) some (omega (arith, below)) in omega (arith, high))
 
 -- a data process finds the values in its space, and a parity process in the blocks that it rebuilt
 pub reads : (s : Dimensions) (settled : ℕ → List Update) (d : ℕ) (p : Process) (name : ProcessId) → d < s.k → 0 < s.block

@@ -162,7 +162,9 @@ module _ (s : Dimensions) (d : ℕ) where
 
     by : (l ≡ d) ⊎ (l ≢ d) → (replica_of (own_mark s leader number block l p).process d).applied ≡ (replica_of p d).applied
     by (inr other) = ap (λ (x : Replica). x.applied) (still-mark s d leader number (at 0 p.ranks l) block l (replica_of p l).applied p other).same.replica
-    by (inl same) = subst (λ (k : ℕ). (replica_of (own_mark s leader number block k p).process d).applied ≡ (replica_of p d).applied) (sym same) (marks (accepts_mark p leader number (at 0 p.ranks d) d))
+    by (inl same) =
+        subst (λ (k : ℕ). (replica_of (own_mark s leader number block k p).process d).applied ≡ (replica_of p d).applied) (sym same)
+        (marks (accepts_mark p leader number (at 0 p.ranks d) d))
 
   owns-apply : (leader number block : ℕ) (ls : List ℕ) (p : Process) → (replica_of (for_each ls (own_mark s leader number block) p).process d).applied ≡ (replica_of p d).applied
   owns-apply leader number block [] p = refl

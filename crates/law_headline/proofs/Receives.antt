@@ -18,12 +18,12 @@ use Rattle.group_run.specs.World.{Call, new_ones, settled_in}
 use Rattle.law_moves.proofs.Moves.{Acted, Popped}
 use Rattle.law_moves.specs.State.{IsUp, State}
 use Rattle.law_moves.proofs.Members.{MayStand}
-use Rattle.law_histories.proofs.HistoryWords.{Begins}
 use Rattle.law_histories.proofs.Lanes.{begins-append}
 use Rattle.law_histories.proofs.Around.{enters}
 use Rattle.law_histories.proofs.Ranks.{Used, head-from, lower-rank, used}
-use Rattle.law_bytes.specs.Premises.{SettledWrite}
+use Rattle.law_histories.proofs.LaneWords.{Prolongs}
 use Rattle.law_bytes.proofs.Premises.{AppliesSettled}
+use Rattle.law_bytes.specs.Areas.{SettledWrite}
 use Rattle.law_headline.proofs.Issues.{FineIn}
 use Rattle.law_headline.proofs.Joint.{LeavesEach, Whole, applies-after, both_received, dead_received, marks-received, members_received, same_received, write-after}
 use Rattle.law_headline.proofs.Apart.{HeadOff, HeadsOff}
@@ -56,7 +56,8 @@ module _ (s : Dimensions) (shaped : IsShape s) (calls : List Call) (v u w : Stat
   head-spared (tells.Update r e y stable) may d below h heads = untaken d e.0 r.0 below h
       (sym (same-head (nat_le (at 0 (v.process p).ranks e.0) r.0) d (ack_to x r.0 e.0 y.number (update_taken s e.0 y stable (v.process p))) refl) ∙ heads) (λ here. used s v d x e.0 r.0 here may.0)
   head-spared (tells.Adopt r e base list) may d below h heads = untaken d e.0 r.0 below h
-      (sym (same-head (nat_le (at 0 (v.process p).ranks e.0) r.0) d (ack_to x r.0 e.0 (base + length list) (log_adopted s r.0 e.0 base list (v.process p))) refl) ∙ heads) (λ here. used s v d x e.0 r.0 here may.0)
+      (sym (same-head (nat_le (at 0 (v.process p).ranks e.0) r.0) d (ack_to x r.0 e.0 (base + length list) (log_adopted s r.0 e.0 base list (v.process p))) refl) ∙ heads)
+      (λ here. used s v d x e.0 r.0 here may.0)
   head-spared (tells.Ack r e n) may d below h heads = tt
   head-spared (tells.Stable r e n) may d below h heads = tt
   head-spared (tells.ReadBlock session block rows) may d below h heads = tt
@@ -78,15 +79,19 @@ module _ (s : Dimensions) (shaped : IsShape s) (calls : List Call) (v u w : Stat
   abbrev dead : (q : ProcessId) → IsProcess s q → w.dead q ≡ v.dead q
   dead = dead_received s shaped calls v u w x p m xin pin apart up lives whole pops acts
 
-  pub begins : (d : ℕ) → d < s.k → Begins (v.settled d) (w.settled d)
-  begins d below = subst (λ (us : List Update). Begins us (w.settled d)) (pops.settled d)
-      (subst (Begins (u.settled d)) (sym (acts.settled d below)) (begins-append (u.settled d) (new_ones (length (u.settled d)) (settled_in d (receive s x m (v.process p)).settled))))
+  pub begins : (d : ℕ) → d < s.k → Prolongs (v.settled d) (w.settled d)
+  begins d below = subst (λ (us : List Update). Prolongs us (w.settled d)) (pops.settled d)
+      (subst (Prolongs (u.settled d)) (sym (acts.settled d below)) (begins-append (u.settled d) (new_ones (length (u.settled d)) (settled_in d (receive s x m (v.process p)).settled))))
 
   write : SettledWrite s w.settled
-  write = write-after s shaped calls calls (λ d a h fine. fine) v w p (receive s x m (v.process p)) pin lives whole acts.process same dead (members_received s shaped calls v u w x p m xin pin apart up lives whole pops acts) both
+  write =
+      write-after s shaped calls calls (λ d a h fine. fine) v w p (receive s x m (v.process p)) pin lives whole acts.process same dead
+      (members_received s shaped calls v u w x p m xin pin apart up lives whole pops acts) both
 
   applies : AppliesSettled s w.settled (v.process p) (receive s x m (v.process p))
-  applies = applies-after s shaped calls calls (λ d a h fine. fine) v w p (receive s x m (v.process p)) pin lives whole acts.process same dead (members_received s shaped calls v u w x p m xin pin apart up lives whole pops acts) both
+  applies =
+      applies-after s shaped calls calls (λ d a h fine. fine) v w p (receive s x m (v.process p)) pin lives whole acts.process same dead
+      (members_received s shaped calls v u w x p m xin pin apart up lives whole pops acts) both
 
   own : (i d : ℕ) → p ≡ ParityNode i → d < s.k → HeadOff s d (v.settled d) (v.process p) → HeadOff s d (w.settled d) (w.process p)
   own i d is below off = long-off s calls calls v w p pin lives whole.reach same dead begins both i d is below

@@ -24,10 +24,9 @@ use Rattle.law_log.proofs.ReplicaWords.{ReplicaStands}
 use Rattle.law_log.proofs.Shown.{LogShows}
 use Rattle.group_run.specs.Headline.{KeepsAll}
 use Rattle.group_run.specs.Replica.{Replica}
-use Rattle.law_bytes.specs.Areas.{IsBlock, WritesBytes, block_size, code, held, value}
+use Rattle.law_bytes.specs.Areas.{IsBlock, WritesBytes, block_size, code, held, value, SettledWrite}
 use Rattle.law_bytes.specs.Decoding.{columns, values}
 use Rattle.law_bytes.specs.Held.{CopyHolds, marked_at, marked_stand}
-use Rattle.law_bytes.specs.Premises.{SettledWrite}
 use Rattle.law_bytes.proofs.Copies.{block-of-space}
 use Rattle.law_bytes.proofs.Decode.{area-one, coded-area, columns-areas, values-area}
 use Rattle.law_headline.proofs.Joint.{Whole}

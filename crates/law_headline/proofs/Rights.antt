@@ -27,11 +27,11 @@ use Rattle.group_run.specs.World.{Call, flush_process, new_ones, settled_in}
 use Rattle.law_moves.proofs.Moves.{Acted, Popped}
 use Rattle.law_moves.specs.State.{IsUp, State}
 use Rattle.law_moves.proofs.Members.{IsParity, MayStand}
-use Rattle.law_histories.proofs.HistoryWords.{Begins}
 use Rattle.law_histories.proofs.Histories.{history-grown}
 use Rattle.law_histories.proofs.Lanes.{begins-append}
 use Rattle.law_histories.proofs.Messages.{parity-is}
 use Rattle.law_histories.proofs.Ranks.{used}
+use Rattle.law_histories.proofs.LaneWords.{Prolongs}
 use Rattle.law_bytes.specs.Areas.{IsBlock, value}
 use Rattle.law_bytes.proofs.Premises.{RebuildsRight}
 use Rattle.law_headline.proofs.Joint.{Whole}
@@ -64,7 +64,8 @@ pub flushed-right : (s : Dimensions) (settled : ℕ → List Update) (p : Proces
 flushed-right s settled p = none-right s settled p p (λ d b none. none)
 
 -- a living process before a step, with what is settled after it
-module _ (s : Dimensions) (calls : List Call) (v w : State) (p : ProcessId) (pin : IsProcess s p) (lives : v.dead p ≡ false) (whole : Whole s calls v) (grows : (d : ℕ) → d < s.k → Begins (v.settled d) (w.settled d)) where
+module _ (s : Dimensions) (calls : List Call) (v w : State) (p : ProcessId) (pin : IsProcess s p) (lives : v.dead p ≡ false) (whole : Whole s calls v)
+    (grows : (d : ℕ) → d < s.k → Prolongs (v.settled d) (w.settled d)) where
   applied-before : IsParity (v.process p).name → (d : ℕ) → d < s.k → (replica_of (v.process p) d).applied ≤ length (v.settled d)
   applied-before parity d below = by (parity-is p (subst IsParity (whole.carried.members.named p pin) parity)) where
     by : (i : ℕ) × (p ≡ ParityNode i) → (replica_of (v.process p) d).applied ≤ length (v.settled d)
@@ -73,7 +74,7 @@ module _ (s : Dimensions) (calls : List Call) (v w : State) (p : ProcessId) (pin
 
   same-values : HeadsOff s v → IsParity (v.process p).name → (d : ℕ) → d < s.k → SameValues s d (w.settled d) (v.process p)
   same-values off parity d below =
-      off-value s d (w.settled d) (v.process p) (let long = (grows d below).longer in let low = applied-before parity d below in omega (arith, long, low))
+      off-value s d (w.settled d) (v.process p) (let long = (grows d below).reaches in let low = applied-before parity d below in omega (arith, long, low))
       (λ h b heads unbuilt. subst (λ (us : List Update). Each (StaysOff s b) (drop h.inherited us)) (sym (history-grown (v.settled d) (replica_of (v.process p) d) (applied-before parity d below) (w.settled d) (grows d below)))
       (own h b heads unbuilt))
     where
@@ -88,7 +89,7 @@ module _ (s : Dimensions) (calls : List Call) (v w : State) (p : ProcessId) (pin
       let low = applied-before gave.parity d below in
       let to = gave.applied in
       let same : take gave.number (v.settled d) ≡ take gave.number (w.settled d) =
-      ap (take gave.number) (sym (grows d below).same) ∙ take-take gave.number (length (v.settled d)) (w.settled d) (omega (arith, low, to)) in
+      ap (take gave.number) (sym (grows d below).front) ∙ take-take gave.number (length (v.settled d)) (w.settled d) (omega (arith, low, to)) in
       record {
         parity = gave.parity;
         head = gave.head;
@@ -100,8 +101,8 @@ module _ (s : Dimensions) (calls : List Call) (v w : State) (p : ProcessId) (pin
       }
 
 module _ (s : Dimensions) (shaped : IsShape s) (calls : List Call) (v w : State) (p : ProcessId) (pin : IsProcess s p) (lives : v.dead p ≡ false) (whole : Whole s calls v) (off : HeadsOff s v) where
-  grown-by : (t : ProcessStep) → Acted s v w p t → (d : ℕ) → d < s.k → Begins (v.settled d) (w.settled d)
-  grown-by t acts d below = subst (Begins (v.settled d)) (sym (acts.settled d below)) (begins-append (v.settled d) (new_ones (length (v.settled d)) (settled_in d t.settled)))
+  grown-by : (t : ProcessStep) → Acted s v w p t → (d : ℕ) → d < s.k → Prolongs (v.settled d) (w.settled d)
+  grown-by t acts d below = subst (Prolongs (v.settled d)) (sym (acts.settled d below)) (begins-append (v.settled d) (new_ones (length (v.settled d)) (settled_in d t.settled)))
 
   -- what a process rebuilds as it is asked
   pub asked-right : (name : CallName) (op : Asked) → Acted s v w p (ask_process s name op (v.process p)).step

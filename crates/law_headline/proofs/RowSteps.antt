@@ -104,11 +104,14 @@ module _ (s : Dimensions) where
   gathered-fine : (complete : Bool) (g : Gathering) (state : LeaderState) → Numbered state → Numbered (gathered_when complete s g state)
   gathered-fine true g state fine =
       same-numbered (record state { sessions = without_session g.number state.sessions }) _
-      (decoded-same s g g.lost (record state { sessions = without_session g.number state.sessions })).0 (decoded-same s g g.lost (record state { sessions = without_session g.number state.sessions })).1
+      (decoded-same s g g.lost (record state { sessions = without_session g.number state.sessions })).0
+      (decoded-same s g g.lost (record state { sessions = without_session g.number state.sessions })).1
       (record { rises = fewer-rise (λ x. not (x.number == g.number)) state.sessions fine.rises; below = each-filter (λ x. x.number ≤ state.last_session) (λ x. not (x.number == g.number)) state.sessions fine.below })
   gathered-fine false g state fine = record {
     rises = subst Rising (sym (same-numbers g state.sessions)) fine.rises;
-    below = numbers-each (λ n. n ≤ state.last_session) _ (subst (Each (λ n. n ≤ state.last_session)) (sym (same-numbers g state.sessions)) (each-numbers (λ n. n ≤ state.last_session) state.sessions fine.below));
+    below =
+        numbers-each (λ n. n ≤ state.last_session) _
+        (subst (Each (λ n. n ≤ state.last_session)) (sym (same-numbers g state.sessions)) (each-numbers (λ n. n ≤ state.last_session) state.sessions fine.below));
   }
 
   row-fine : (i number : ℕ) (bytes : List ℕ) (p : Process) → Numbered p.as_leader → Numbered (row_comes s number i bytes p).as_leader
@@ -177,7 +180,9 @@ module _ (s : Dimensions) where
 
       open_fine : Numbered opened.as_leader
       open_fine = record {
-        rises = rise-behind p.as_leader.sessions (new_session s number block p) fine.rises (each-weaker (λ g. g.number ≤ p.as_leader.last_session) (λ g. g.number < number) (λ g low. omega (arith, low)) p.as_leader.sessions fine.below);
+        rises =
+            rise-behind p.as_leader.sessions (new_session s number block p) fine.rises
+            (each-weaker (λ g. g.number ≤ p.as_leader.last_session) (λ g. g.number < number) (λ g low. omega (arith, low)) p.as_leader.sessions fine.below);
         below = each-append (λ g. g.number ≤ number) p.as_leader.sessions (new_session s number block p ∷ [])
             (each-weaker (λ g. g.number ≤ p.as_leader.last_session) (λ g. g.number ≤ number) (λ g low. omega (arith, low)) p.as_leader.sessions fine.below) (omega arith, tt);
       }
@@ -263,7 +268,8 @@ module _ (s : Dimensions) where
       let judged : ProcessStep = and_then closed (for_each (range_with_len 0 s.k) (judge s)) in
       let closes : Does q closed = close-does q.as_leader.sessions q (forgotten-fine dead (record p { known = with_dead p.known dead }) fine) in
       let judges : Does q judged = then-does q closed (for_each (range_with_len 0 s.k) (judge s)) closes (each-does (range_with_len 0 s.k) (judge s) closed.process judge-does closes.sessions) in
-      let all : Does q (notice_comes s dead p) = then-does q judged (for_each (range_with_len 0 s.k) (take_over_if s)) judges (each-does (range_with_len 0 s.k) (take_over_if s) judged.process takes-does judges.sessions) in
+      let all : Does q (notice_comes s dead p) = then-does q judged (for_each (range_with_len 0 s.k) (take_over_if s)) judges
+      (each-does (range_with_len 0 s.k) (take_over_if s) judged.process takes-does judges.sessions) in
       named p q (notice_comes s dead p) (forgotten-name dead (record p { known = with_dead p.known dead })) all
 
   -- an acknowledgement

@@ -14,9 +14,8 @@ use Rattle.group_run.specs.Applying.{ProcessStep}
 use Rattle.group_run.specs.Process.{Process}
 use Rattle.group_run.specs.Receiving.{receive}
 use Rattle.group_run.specs.World.{sent_to}
-use Rattle.law_moves.specs.Moves.{HoldsAlways}
 use Rattle.law_moves.proofs.Moves.{Acted, Died, Keeps, Popped, Treats}
-use Rattle.law_moves.specs.State.{State}
+use Rattle.law_moves.specs.State.{State, HoldsAlways}
 use Rattle.law_moves.proofs.State.{Opens}
 use Rattle.law_moves.proofs.Runs.{holds_always}
 use Rattle.law_moves.proofs.Members.{Members}

@@ -99,7 +99,9 @@ module _ (h : History) (calls : List Call) (shaped : IsShape h.world.shape) (who
           (rows.links (ParityNode i) (ParityNode l) below lives.0 lives.1) comes
 
       row : RowFollows h.world.shape (λ d. at [] h.settled d) plan (ParityNode i) bytes stamp
-      row = each-contained (Follows h.world.shape (λ d. at [] h.settled d) l g.number plan (ParityNode i) (ParityNode l)) (link h.world (ParityNode i) (ParityNode l)) (tells.Row (session_of l g.number) bytes stamp)
+      row =
+          each-contained (Follows h.world.shape (λ d. at [] h.settled d) l g.number plan (ParityNode i) (ParityNode l))
+          (link h.world (ParityNode i) (ParityNode l)) (tells.Row (session_of l g.number) bytes stamp)
           (follows.links (ParityNode i) (ParityNode l) below lives.0 sound.1 lives.1) comes (refl, refl)
 
       same : stamp ≡ stamp_at

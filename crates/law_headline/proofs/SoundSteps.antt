@@ -78,7 +78,9 @@ module _ (s : Dimensions) where
 
   -- a message to all others
   others-sound : (p : Process) (m : Message) → Sound s p.name m → Each (λ z. Sound s p.name z.message) (to_others s p m)
-  others-sound p m sound = each-map (λ z. Sound s p.name z.message) (λ i. record { to = ParityNode i; message = m }) (other_parities s.m p.name p.known) (each-all (λ i. Sound s p.name m) (λ i. sound) (other_parities s.m p.name p.known))
+  others-sound p m sound =
+      each-map (λ z. Sound s p.name z.message) (λ i. record { to = ParityNode i; message = m }) (other_parities s.m p.name p.known)
+      (each-all (λ i. Sound s p.name m) (λ i. sound) (other_parities s.m p.name p.known))
 
   -- what is applied
   apply-sound : (d n : ℕ) (p : Process) → ProcessSound s p → ProcessSound s (apply_to s d n p)
@@ -100,9 +102,11 @@ module _ (s : Dimensions) where
   gathered-sound : (complete : Bool) (name : ProcessId) (g : Gathering) (state : LeaderState) → SessionSound s name g
       → Each (SessionSound s name) state.sessions → Each (SessionSound s name) (gathered_when complete s g state).sessions
   gathered-sound true name g state mine all =
-      subst (Each (SessionSound s name)) (sym (decoded-same s g g.lost (record state { sessions = without_session g.number state.sessions })).0) (each-filter (SessionSound s name) (λ x. not (x.number == g.number)) state.sessions all)
+      subst (Each (SessionSound s name)) (sym (decoded-same s g g.lost (record state { sessions = without_session g.number state.sessions })).0)
+      (each-filter (SessionSound s name) (λ x. not (x.number == g.number)) state.sessions all)
   gathered-sound false name g state mine all =
-      each-map (SessionSound s name) (λ x. if x.number == g.number then g else x) state.sessions (each-weaker (SessionSound s name) (λ x. SessionSound s name (if x.number == g.number then g else x)) (λ x sound. by (x.number == g.number) x sound) state.sessions all)
+      each-map (SessionSound s name) (λ x. if x.number == g.number then g else x) state.sessions
+      (each-weaker (SessionSound s name) (λ x. SessionSound s name (if x.number == g.number then g else x)) (λ x sound. by (x.number == g.number) x sound) state.sessions all)
     where
       by : (b : Bool) (x : Gathering) → SessionSound s name x → SessionSound s name (if b then g else x)
       by true x sound = mine
@@ -114,7 +118,8 @@ module _ (s : Dimensions) where
     by None found = sound.sessions
     by (Some g) found =
         let is = (found-each (λ x. x.number == number) (SessionSound s p.name) p.as_leader.sessions g found sound.sessions).1 in
-        gathered-sound (is_complete s (record g { rows_in = put None g.rows_in i (Some bytes) })) p.name (record g { rows_in = put None g.rows_in i (Some bytes) }) p.as_leader (record { leader = is.leader; inside = is.inside }) sound.sessions
+        gathered-sound (is_complete s (record g { rows_in = put None g.rows_in i (Some bytes) })) p.name
+        (record g { rows_in = put None g.rows_in i (Some bytes) }) p.as_leader (record { leader = is.leader; inside = is.inside }) sound.sessions
 
   block-sound : (e number : ℕ) (bytes : List ℕ) (p : Process) → ProcessSound s p → ProcessSound s (block_comes s number e bytes p)
   block-sound e number bytes p sound = record { copies = sound.copies; sessions = by (open_session p.as_leader number) refl } where
@@ -122,7 +127,8 @@ module _ (s : Dimensions) where
     by None found = sound.sessions
     by (Some g) found =
         let is = (found-each (λ x. x.number == number) (SessionSound s p.name) p.as_leader.sessions g found sound.sessions).1 in
-        gathered-sound (is_complete s (record g { blocks_in = put None g.blocks_in e (Some bytes) })) p.name (record g { blocks_in = put None g.blocks_in e (Some bytes) }) p.as_leader (record { leader = is.leader; inside = is.inside }) sound.sessions
+        gathered-sound (is_complete s (record g { blocks_in = put None g.blocks_in e (Some bytes) })) p.name
+        (record g { blocks_in = put None g.blocks_in e (Some bytes) }) p.as_leader (record { leader = is.leader; inside = is.inside }) sound.sessions
 
   -- a mark
   with-copies : (p : Process) (cs : List Copy) → Each (CopySound s) cs → ProcessSound s p → ProcessSound s (with_copies cs p)
@@ -140,7 +146,8 @@ module _ (s : Dimensions) where
   kept-does : (whole : Bool) (c : Copy) (p : Process) → CopySound s c → ProcessSound s p → Does p (copy_kept whole s c p)
   kept-does true c p copy sound =
       let q : Process = with_copies (without_copy c.leader c.number p.as_row.copies) p in
-      let does : Does q (row_finished (same_process p.name (ParityNode c.leader)) s c q) = finished-does (same_process p.name (ParityNode c.leader)) c q copy (with-copies p _ (each-filter (CopySound s) (λ x. not (is_copy c.leader c.number x)) p.as_row.copies sound.copies) sound) in
+      let does : Does q (row_finished (same_process p.name (ParityNode c.leader)) s c q) = finished-does (same_process p.name (ParityNode c.leader)) c q copy
+      (with-copies p _ (each-filter (CopySound s) (λ x. not (is_copy c.leader c.number x)) p.as_row.copies sound.copies) sound) in
       record { name = does.name; process = does.process; sent = does.sent }
   kept-does false c p copy sound = record { name = refl; process = with-copies p _ swapped sound; sent = tt } where
     by : (b : Bool) (x : Copy) → CopySound s x → CopySound s (if b then c else x)
@@ -300,7 +307,9 @@ module _ (s : Dimensions) where
     ask-does : (call : CallName) (op : Asked) → NeedsSound s p op → (o : Option Head) → head_at p (home_of (key_of op.act) s.k) ≡ o → Does p (ask_head s call op (home_of (key_of op.act) s.k) p o).step
     ask-does call op needs None is = self-does p sound
     ask-does call op needs (Some h) is =
-        act-does call op (home_of (key_of op.act) s.k) h (decide (space_of s) h.inherited (replica_of p (home_of (key_of op.act) s.k)) op (found_at s (home_of (key_of op.act) s.k) p p.name)) (λ b decided. needs h b is decided)
+        act-does call op (home_of (key_of op.act) s.k) h
+        (decide (space_of s) h.inherited (replica_of p (home_of (key_of op.act) s.k)) op (found_at s (home_of (key_of op.act) s.k) p p.name))
+        (λ b decided. needs h b is decided)
 
     collect-does : (caller call : ℕ) (ds : List ℕ) → Does p (collect_from caller call p ds).step
     collect-does caller call [] = self-does p sound
@@ -354,7 +363,8 @@ module _ (s : Dimensions) where
       let fine : ProcessSound s q = forgotten-sound dead (record p { known = with_dead p.known dead }) (same-sound p _ refl refl refl sound) in
       let closes : Does q closed = close-does q.as_leader.sessions q fine.sessions fine in
       let judges : Does q judged = then-does q closed (for_each (range_with_len 0 s.k) (judge s)) closes (each-does (range_with_len 0 s.k) (judge s) closed.process judge-does closes.process) in
-      let all : Does q (notice_comes s dead p) = then-does q judged (for_each (range_with_len 0 s.k) (take_over_if s)) judges (each-does (range_with_len 0 s.k) (take_over_if s) judged.process takes-does judges.process) in
+      let all : Does q (notice_comes s dead p) = then-does q judged (for_each (range_with_len 0 s.k) (take_over_if s)) judges
+      (each-does (range_with_len 0 s.k) (take_over_if s) judged.process takes-does judges.process) in
       record { name = all.name ∙ named; process = all.process; sent = subst (λ (x : ProcessId). Each (λ z. Sound s x z.message) (notice_comes s dead p).sent) named all.sent }
 
   -- an acknowledgement

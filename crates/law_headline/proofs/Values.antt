@@ -72,7 +72,9 @@ off-value s d settled p within off h b n x heads unbuilt from to inside =
         ap (λ (k : ℕ). drop k (history settled (replica_of p d))) split ∙ sym (drop-drop (n - h.inherited) h.inherited (history settled (replica_of p d)))
 
     mid-off : Each (StaysOff s b) mid
-    mid-off = each-left (StaysOff s b) mid log (subst (Each (StaysOff s b)) (sym further ∙ behind) (each-drop (StaysOff s b) (n - h.inherited) (drop h.inherited (history settled (replica_of p d))) (off h b heads unbuilt)))
+    mid-off =
+        each-left (StaysOff s b) mid log
+        (subst (Each (StaysOff s b)) (sym further ∙ behind) (each-drop (StaysOff s b) (n - h.inherited) (drop h.inherited (history settled (replica_of p d))) (off h b heads unbuilt)))
 
 -- the same, as a law
 pub blocks_rest : BlocksRest

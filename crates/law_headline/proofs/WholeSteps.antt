@@ -18,11 +18,10 @@ use Rattle.group_run.specs.History.{history}
 use Rattle.law_moves.proofs.Moves.{Acted, Popped, Treats}
 use Rattle.law_moves.specs.State.{State}
 use Rattle.law_moves.proofs.Members.{MayStand, Members}
-use Rattle.law_histories.proofs.HistoryWords.{Begins}
 use Rattle.law_histories.proofs.Histories.{history-grown}
 use Rattle.law_histories.proofs.Reach.{IsKeeper, Reach, ReplicaReaches}
+use Rattle.law_histories.proofs.LaneWords.{Prolongs}
 use Rattle.law_bytes.proofs.Held.{HoldsBytes}
-use Rattle.law_bytes.specs.Premises.{SettledWrite}
 use Rattle.law_bytes.proofs.Premises.{AppliesSettled, MarksNew, NextIsNew, SettlesNext}
 use Rattle.law_bytes.proofs.Applying.{Holding, holding-from, rebuilt_at}
 use Rattle.law_bytes.proofs.BytesKeeping.{addressed, before-holds}
@@ -30,6 +29,7 @@ use Rattle.law_bytes.proofs.Receipts.{Addresses, received-holds}
 use Rattle.law_bytes.proofs.Stepping.{Ready}
 use Rattle.law_bytes.proofs.Treating.{treats-hold}
 use Rattle.law_bytes.proofs.Values.{Concerns, Inside}
+use Rattle.law_bytes.specs.Areas.{SettledWrite}
 use Rattle.law_headline.proofs.Issues.{FineIn}
 use Rattle.law_headline.proofs.Joint.{LeavesEach}
 use Rattle.law_headline.proofs.Apart.{HeadOff, HeadsOff, StaysOff}
@@ -58,7 +58,8 @@ treats-built s shaped v w p t i is pin lives treated members holds new write app
 
   holding : Holding s w.settled (rebuilt_at (v.process p)) t.process
   holding =
-      treats-hold s w.settled write (rebuilt_at (v.process p)) (v.process p) p t (record { name = members.named p pin; some = some; sits = λ e low. members.sits p e pin lives low }) pin (members.not_self p pin lives) treated
+      treats-hold s w.settled write (rebuilt_at (v.process p)) (v.process p) p t
+      (record { name = members.named p pin; some = some; sits = λ e low. members.sits p e pin lives low }) pin (members.not_self p pin lives) treated
       (parity-ready s w.settled (v.process p) i named t applies) (parity-inside s w.settled (v.process p) i named) new applies next
       (holding-from s w.settled (v.process p) (before-holds s v v w p t pin members (λ q qin. refl) (λ q qin. refl) (λ e. refl) acts lives holds))
 
@@ -78,7 +79,7 @@ received-built s v u w x p m i is pin lives members holds may marks write applie
 
 -- one process made a step
 module _ (s : Dimensions) (calls more : List Call) (v w : State) (p : ProcessId) (pin : IsProcess s p) (lives : v.dead p ≡ false) (reach : Reach (FineIn s calls) s v)
-    (others : (q : ProcessId) → IsProcess s q → q ≢ p → w.process q ≡ v.process q) (dead : (q : ProcessId) → IsProcess s q → w.dead q ≡ v.dead q) (begins : (d : ℕ) → d < s.k → Begins (v.settled d) (w.settled d)) where
+    (others : (q : ProcessId) → IsProcess s q → q ≢ p → w.process q ≡ v.process q) (dead : (q : ProcessId) → IsProcess s q → w.dead q ≡ v.dead q) (begins : (d : ℕ) → d < s.k → Prolongs (v.settled d) (w.settled d)) where
   -- another process's history is as it was
   other-off : (i d : ℕ) → i < s.m → v.dead (ParityNode i) ≡ false → d < s.k → ParityNode i ≢ p → HeadOff s d (v.settled d) (v.process (ParityNode i))
       → HeadOff s d (w.settled d) (w.process (ParityNode i))
@@ -96,7 +97,9 @@ module _ (s : Dimensions) (calls more : List Call) (v w : State) (p : ProcessId)
 
     by : (ParityNode i ≡ p) ⊎ (ParityNode i ≢ p) → HeadOff s d (w.settled d) (w.process (ParityNode i))
     by (inr apart) = other-off i d iin lived below apart (off i d iin lived below)
-    by (inl same) = subst (λ (y : ProcessId). HeadOff s d (w.settled d) (w.process y)) (sym same) (own i d (sym same) below (subst (λ (y : ProcessId). HeadOff s d (v.settled d) (v.process y)) same (off i d iin lived below)))
+    by (inl same) =
+        subst (λ (y : ProcessId). HeadOff s d (w.settled d) (w.process y)) (sym same)
+        (own i d (sym same) below (subst (λ (y : ProcessId). HeadOff s d (v.settled d) (v.process y)) same (off i d iin lived below)))
 
   module _ (both : LeavesEach s more v w p) (i d : ℕ) (is : p ≡ ParityNode i) (below : d < s.k) where
     pub parity-keeps : IsKeeper d p

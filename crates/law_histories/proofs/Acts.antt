@@ -18,9 +18,9 @@ use Rattle.group_run.specs.Replica.{Replica, last_of}
 use Rattle.group_run.specs.History.{history}
 use Rattle.law_moves.specs.State.{State}
 use Rattle.law_moves.proofs.Members.{MayStand, Members}
-use Rattle.law_histories.proofs.LaneWords.{AckBelow, AckFits, Goes, MarkGoes, NumberGoes, Seen, is_live, next, raised}
+use Rattle.law_moves.proofs.Reading.{some-same}
+use Rattle.law_histories.proofs.LaneWords.{AckBelow, AckFits, Goes, MarkGoes, NumberGoes, Seen, is_live, next, raised, Prolongs}
 use Rattle.law_histories.proofs.Reach.{EndsAt, IsKeeper, LaneReaches, ReplicaFits, ReplicaReaches, seen_at}
-use Rattle.law_histories.proofs.HistoryWords.{Begins}
 use Rattle.law_histories.proofs.Around.{Around, HeadSits, grew-turned, keeper-rank, since-head, since-trans}
 use Rattle.law_histories.proofs.Folds.{along-append, run-append, run, Along}
 use Rattle.law_histories.proofs.Histories.{length-history}
@@ -71,13 +71,16 @@ module _ (F : ℕ → ℕ → List Update → Type 0) (s : Dimensions) (v : Stat
     outward = λ i iin other living.
         subst (λ (r : Replica). LaneReaches F d settled p i false (head_at new d) r (seen_at d settled (v.process (ParityNode i))) (out (ParityNode i)) (inn (ParityNode i))) (sym same.replica)
         (subst (λ (h : Option Head). LaneReaches F d settled p i false h (replica_of old d) (seen_at d settled (v.process (ParityNode i))) (out (ParityNode i)) (inn (ParityNode i))) (sym same.head) (around.outward i iin other living));
-    inward = λ x i is xin other. subst (λ (y : Seen). LaneReaches F d settled x i (v.dead x) (head_at (v.process x) d) (replica_of (v.process x) d) y (inn x) (out x)) (sym same_seen) (around.inward x i is xin other);
+    inward =
+        λ x i is xin other. subst
+        (λ (y : Seen). LaneReaches F d settled x i (v.dead x) (head_at (v.process x) d) (replica_of (v.process x) d) y (inn x) (out x)) (sym same_seen)
+        (around.inward x i is xin other);
     silent = λ none. around.silent (sym same.head ∙ none);
     may = around.may;
     since = since-trans around.since (since-head d old new (replica_of old d) same.head same.replica (omega arith) (omega arith));
     unkept = λ not. same.replica ∙ around.unkept not;
     quiet = λ none. around.quiet (sym same.head ∙ none);
-    follows = λ h heads. subst (λ (r : Replica). Begins (history (v.settled d) (replica_of (v.process p) d)) (history settled r)) (sym same.replica) (around.follows h (sym same.head ∙ heads));
+    follows = λ h heads. subst (λ (r : Replica). Prolongs (history (v.settled d) (replica_of (v.process p) d)) (history settled r)) (sym same.replica) (around.follows h (sym same.head ∙ heads));
     grew = grew-turned d (v.settled d) settled old new (λ has. record { head = has.head; heads = same.head ∙ has.heads; all = ap (λ (x : Replica). x.applied) same.replica ∙ has.all }) around.grew;
     issued_here = λ i h iin other heads. subst (λ (x : Replica). Each (AckBelow d (last_of x)) (inn (ParityNode i))) (sym same.replica) (around.issued_here i h iin other (sym same.head ∙ heads));
     issued_there = around.issued_there;
@@ -138,11 +141,17 @@ module _ (F : ℕ → ℕ → List Update → Type 0) (s : Dimensions) (v : Stat
 
     in_by : (y : ProcessId) (i : ℕ) → p ≡ ParityNode i → IsProcess s y → y ≢ p → (y ≡ x) ⊎ (y ≢ x)
         → LaneReaches F d settled y i (v.dead y) (head_at (v.process y) d) (replica_of (v.process y) d) (seen_at d settled proc) (left y) (out y)
-    in_by y i is yin other (inr apart) = subst (λ (link : List Message). LaneReaches F d settled y i (v.dead y) (head_at (v.process y) d) (replica_of (v.process y) d) (seen_at d settled proc) link (out y)) (sym (rest y yin apart)) (around.inward y i is yin other)
+    in_by y i is yin other (inr apart) =
+        subst
+        (λ (link : List Message). LaneReaches F d settled y i (v.dead y) (head_at (v.process y) d) (replica_of (v.process y) d) (seen_at d settled proc) link (out y))
+        (sym (rest y yin apart)) (around.inward y i is yin other)
     in_by y i is yin other (inl same) =
         subst (λ (z : ProcessId). LaneReaches F d settled z i (v.dead z) (head_at (v.process z) d) (replica_of (v.process z) d) (seen_at d settled proc) (left z) (out z)) (sym same) tail where
           lane : LaneReaches F d settled x i (v.dead x) (head_at (v.process x) d) (replica_of (v.process x) d) (seen_at d settled proc) (m ∷ left x) (out x)
-          lane = subst (λ (link : List Message). LaneReaches F d settled x i (v.dead x) (head_at (v.process x) d) (replica_of (v.process x) d) (seen_at d settled proc) link (out x)) first (around.inward x i is xin xother)
+          lane =
+              subst
+              (λ (link : List Message). LaneReaches F d settled x i (v.dead x) (head_at (v.process x) d) (replica_of (v.process x) d) (seen_at d settled proc) link (out x)) first
+              (around.inward x i is xin xother)
 
           tail : LaneReaches F d settled x i (v.dead x) (head_at (v.process x) d) (replica_of (v.process x) d) (seen_at d settled proc) (left x) (out x)
           tail = record {
@@ -160,12 +169,7 @@ module _ (F : ℕ → ℕ → List Update → Type 0) (s : Dimensions) (v : Stat
       Ends seen = EndsAt settled (replica_of proc d) h seen
 
       is_head : (g : Head) → head_at proc d ≡ Some g → g ≡ h
-      is_head g e = some_one g h (sym e ∙ heads) where
-        some_one : (a b : Head) → Some a ≡ Some b → a ≡ b
-        some_one a b e = ap (in_some a) e where
-          in_some : Head → Option Head → Head
-          in_some d None = d
-          in_some d (Some x) = x
+      is_head g e = some-same g h (sym e ∙ heads)
 
       raised-ends : (b : Bool) (n : ℕ) (seen : Seen) → Ends seen → (b ≡ true → n ≤ (replica_of proc d).applied) → Ends (raised b n seen)
       raised-ends true n seen end low = record { rank = end.rank; history_is = end.history_is; number = let was = end.number in let most = low refl in omega (arith, was, most) }
@@ -269,7 +273,7 @@ module _ (F : ℕ → ℕ → List Update → Type 0) (s : Dimensions) (v : Stat
         let from : Used s v d x h.rank = head-from s v d members below x h xin living heads in
         let rank_same : r.0 ≡ h.rank = rank-one d r.0 h.rank (sym parts.0 ∙ from.0) in
         let begins = same-rank-begins F d settled (seen_at d settled proc) (inn x) lane.goes (end.rank ∙ sym rank_same ∙ sym parts.1) in
-        let longer = begins.longer in
+        let longer = begins.reaches in
         let whole : length (run (next d) (seen_at d settled proc) (inn x)).history ≡ length (history settled (replica_of (v.process x) d)) = ap length end.history_is in
         let own = length-history settled (replica_of proc d) (around.own (subst (IsKeeper d) (sym is) tt)).applied in
         let theirs = length-history settled (replica_of (v.process x) d) (around.replicas x xin other living (keeper-rank d h.rank x from.0)).applied in

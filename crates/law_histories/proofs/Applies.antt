@@ -12,12 +12,12 @@ use Rattle.group_run.specs.Heading.{settlements}
 use Rattle.group_run.specs.History.{settled_with, history}
 use Rattle.group_run.specs.Replica.{Items, Replica, applied_to, callers, item_settled, items_after, kept_after, last_of, up_to}
 use Rattle.law_histories.proofs.LaneWords.{Prolongs}
-use Rattle.law_histories.proofs.HistoryWords.{Begins, ItemsFit, AppliedIsSettled}
+use Rattle.law_histories.proofs.HistoryWords.{ItemsFit, AppliedIsSettled}
 use Rattle.law_histories.proofs.Histories.{applied-is, length-history, log-is, settled-more, settled-no-more}
 use Rattle.law_histories.proofs.Lanes.{begins-append}
 
 -- what was settled stays in front
-pub settled-begins : (t : List Settlement) (d : ℕ) (settled : List Update) → Begins settled (settled_with t d settled)
+pub settled-begins : (t : List Settlement) (d : ℕ) (settled : List Update) → Prolongs settled (settled_with t d settled)
 settled-begins t d settled = begins-append settled _
 
 -- part of a history up to n, behind the first a
@@ -70,10 +70,10 @@ items-applied settled r n applied prolongs low holds = record {
       ∙ ap (λ (us : List Update). take r.applied settled ++ us) (sym (applies-settled settled r n applied prolongs low))
 
 -- where more is settled it holds the same
-pub items-grown : (settled more : List Update) (r : Replica) → r.applied ≤ length settled → Begins settled more → ItemsFit settled r → ItemsFit more r
+pub items-grown : (settled more : List Update) (r : Replica) → r.applied ≤ length settled → Prolongs settled more → ItemsFit settled r → ItemsFit more r
 items-grown settled more r applied begins holds = record { items = holds.items ∙ ap (items_after []) same; kept = holds.kept ∙ ap (kept_after (replicate callers None)) same } where
   same : take r.applied settled ≡ take r.applied more
-  same = ap (take r.applied) (sym begins.same) ∙ take-take r.applied (length settled) more applied
+  same = ap (take r.applied) (sym begins.front) ∙ take-take r.applied (length settled) more applied
 
 -- what is settled after a head settled up to a number: its history up to there, or what was settled if that
 -- is more

@@ -20,11 +20,10 @@ use Rattle.group_run.specs.History.{history}
 use Rattle.law_moves.specs.State.{State}
 use Rattle.law_moves.proofs.Members.{MayStand, Members, Sits, seat_of}
 use Rattle.law_moves.proofs.Calls.{seat-known, seat-lower}
-use Rattle.law_histories.proofs.LaneWords.{AckBelow, AckFits, Seen}
+use Rattle.law_histories.proofs.LaneWords.{AckBelow, AckFits, Seen, Prolongs}
 use Rattle.law_histories.proofs.Reach.{IsKeeper, LaneReaches, PartitionReaches, ReplicaReaches, seen_at}
 use Rattle.law_histories.proofs.Lanes.{Stale, ranked-weaker, begins-refl}
 use Rattle.law_histories.proofs.Ranks.{Used, head-from, may-used}
-use Rattle.law_histories.proofs.HistoryWords.{Begins}
 
 -- the head has its rank, under which its replica stands, and all of lower rank are dead
 pub record HeadSits (v : State) (d : ℕ) (p : ProcessId) (proc : Process) (h : Head) : Type 0 where
@@ -81,7 +80,7 @@ grew-turned d old settled p q turn (inr has) = inr (turn has)
 
 -- where the process heads the partition, its history begins with one from before
 abbrev pub FollowsBy : ℕ → List Update → Replica → List Update → Process → Type 0
-FollowsBy d old r settled p = (h : Head) → head_at p d ≡ Some h → Begins (history old r) (history settled (replica_of p d))
+FollowsBy d old r settled p = (h : Head) → head_at p d ≡ Some h → Prolongs (history old r) (history settled (replica_of p d))
 
 -- no more is acknowledged than was issued, still where more was
 pub below-more : (d a b : ℕ) → a ≤ b → (m : Message) → AckBelow d a m → AckBelow d b m
@@ -132,9 +131,14 @@ module _ (F : ℕ → ℕ → List Update → Type 0) (s : Dimensions) (v : Stat
     sits = sits_at;
     replicas = λ q qin other living keeps. reach.replicas q qin living keeps;
     among = λ x i xin iin xother iother apart living. reach.lanes x i xin iin apart living;
-    outward = λ i iin other living. subst (λ (b : Bool). LaneReaches F d (v.settled d) p i b (head_at (v.process p) d) (replica_of (v.process p) d) (seen_at d (v.settled d) (v.process (ParityNode i))) (v.link p (ParityNode i)) (v.link (ParityNode i) p)) lives
+    outward =
+        λ i iin other living. subst
+        (λ (b : Bool). LaneReaches F d (v.settled d) p i b (head_at (v.process p) d) (replica_of (v.process p) d) (seen_at d (v.settled d) (v.process (ParityNode i))) (v.link p (ParityNode i)) (v.link (ParityNode i) p)) lives
         (reach.lanes p i pin iin (λ same. other (sym same)) living);
-    inward = λ x i is xin other. subst (λ (y : ProcessId). LaneReaches F d (v.settled d) x i (v.dead x) (head_at (v.process x) d) (replica_of (v.process x) d) (seen_at d (v.settled d) (v.process y)) (v.link x y) (v.link y x)) (sym is)
+    inward =
+        λ x i is xin other. subst
+        (λ (y : ProcessId). LaneReaches F d (v.settled d) x i (v.dead x) (head_at (v.process x) d) (replica_of (v.process x) d) (seen_at d (v.settled d) (v.process y)) (v.link x y) (v.link y x))
+        (sym is)
         (reach.lanes x i xin (subst (IsProcess s) is pin) (λ same. other (same ∙ sym is)) (ap v.dead (sym is) ∙ lives));
     silent = λ none i iin other living. each-weaker (MayStand s v p (ParityNode i)) (Stale d 0)
         (λ m may. ranked-weaker d (Used s v d p) (λ r. r < 0) (λ r from. absurd (leads r none from)) m (may-used s v d p (ParityNode i) m may))
@@ -146,7 +150,9 @@ module _ (F : ℕ → ℕ → List Update → Type 0) (s : Dimensions) (v : Stat
     follows = λ h heads. begins-refl (history (v.settled d) (replica_of (v.process p) d));
     grew = inl refl;
     issued_here = λ i h iin other heads. reach.issued p i h pin lives iin (λ same. other (sym same)) heads;
-    issued_there = λ x i h is xin other living heads. subst (λ (y : ProcessId). Each (AckBelow d (last_of (replica_of (v.process x) d))) (v.link y x)) (sym is) (reach.issued x i h xin living (subst (IsProcess s) is pin) (λ same. other (same ∙ sym is)) heads);
+    issued_there =
+        λ x i h is xin other living heads. subst (λ (y : ProcessId). Each (AckBelow d (last_of (replica_of (v.process x) d))) (v.link y x)) (sym is)
+        (reach.issued x i h xin living (subst (IsProcess s) is pin) (λ same. other (same ∙ sym is)) heads);
     issued_else = λ x i h xin other living iin iother apart heads. reach.issued x i h xin living iin apart heads;
   } where
     seat : (h : Head) → head_at (v.process p) d ≡ Some h → seat_of (v.process p) d ≡ Some h.rank
@@ -203,12 +209,16 @@ module _ (F : ℕ → ℕ → List Update → Type 0) (s : Dimensions) (v w : St
   replica_by q qin living keeps (inr other) = subst (ReplicaReaches F d settled) (sym (leaves.others q qin other)) (around.replicas q qin other (sym (leaves.dead q qin) ∙ living) keeps)
 
   abbrev Lane : ProcessId → ℕ → Type 0
-  Lane x i = LaneReaches F d settled x i (w.dead x) (head_at (w.process x) d) (replica_of (w.process x) d) (seen_at d settled (w.process (ParityNode i))) (w.link x (ParityNode i)) (w.link (ParityNode i) x)
+  Lane x i =
+      LaneReaches F d settled x i (w.dead x) (head_at (w.process x) d) (replica_of (w.process x) d) (seen_at d settled (w.process (ParityNode i)))
+      (w.link x (ParityNode i)) (w.link (ParityNode i) x)
 
   lane_by : (x : ProcessId) (i : ℕ) → IsProcess s x → i < s.m → x ≢ ParityNode i → w.dead (ParityNode i) ≡ false → (x ≡ p) ⊎ (x ≢ p) → (ParityNode i ≡ p) ⊎ (ParityNode i ≢ p) → Lane x i
   lane_by x i xin iin apart living (inl xp) (inl ip) = absurd (apart (xp ∙ sym ip))
   lane_by x i xin iin apart living (inr xother) (inr iother) =
-      lane-is F d settled x i (v.dead x) (w.dead x) (head_at (v.process x) d) (head_at (w.process x) d) (replica_of (v.process x) d) (replica_of (w.process x) d) (seen_at d settled (v.process (ParityNode i))) (seen_at d settled (w.process (ParityNode i))) (v.link x (ParityNode i)) (w.link x (ParityNode i)) (v.link (ParityNode i) x) (w.link (ParityNode i) x)
+      lane-is F d settled x i (v.dead x) (w.dead x) (head_at (v.process x) d) (head_at (w.process x) d) (replica_of (v.process x) d)
+      (replica_of (w.process x) d) (seen_at d settled (v.process (ParityNode i))) (seen_at d settled (w.process (ParityNode i))) (v.link x (ParityNode i))
+      (w.link x (ParityNode i)) (v.link (ParityNode i) x) (w.link (ParityNode i) x)
       (leaves.dead x xin) (ap (λ (y : Process). head_at y d) (leaves.others x xin xother)) (ap (λ (y : Process). replica_of y d) (leaves.others x xin xother))
       (ap (seen_at d settled) (leaves.others (ParityNode i) iin iother)) (leaves.between x (ParityNode i) xin iin xother iother) (λ dies. leaves.between (ParityNode i) x iin xin iother xother)
       (around.among x i xin iin xother iother apart (sym (leaves.dead (ParityNode i) iin) ∙ living))
@@ -216,12 +226,16 @@ module _ (F : ℕ → ℕ → List Update → Type 0) (s : Dimensions) (v w : St
       subst (λ (y : ProcessId). Lane y i) (sym xp)
       (lane-is F d settled p i false (w.dead p) (head_at proc d) (head_at (w.process p) d) (replica_of proc d) (replica_of (w.process p) d) (seen_at d settled (v.process (ParityNode i))) (seen_at d settled (w.process (ParityNode i))) (out (ParityNode i)) (w.link p (ParityNode i)) (inn (ParityNode i)) (w.link (ParityNode i) p)
       (leaves.dead p pin ∙ lives) (ap (λ (y : Process). head_at y d) leaves.process) (ap (λ (y : Process). replica_of y d) leaves.process)
-      (ap (seen_at d settled) (leaves.others (ParityNode i) iin iother)) (leaves.out_is (ParityNode i) iin iother (sym (leaves.dead (ParityNode i) iin) ∙ living)) (λ dies. leaves.inn_is (ParityNode i) iin iother)
+      (ap (seen_at d settled) (leaves.others (ParityNode i) iin iother))
+      (leaves.out_is (ParityNode i) iin iother (sym (leaves.dead (ParityNode i) iin) ∙ living)) (λ dies. leaves.inn_is (ParityNode i) iin iother)
       (around.outward i iin iother (sym (leaves.dead (ParityNode i) iin) ∙ living)))
   lane_by x i xin iin apart living (inr xother) (inl ip) =
-      lane-is F d settled x i (v.dead x) (w.dead x) (head_at (v.process x) d) (head_at (w.process x) d) (replica_of (v.process x) d) (replica_of (w.process x) d) (seen_at d settled proc) (seen_at d settled (w.process (ParityNode i))) (inn x) (w.link x (ParityNode i)) (out x) (w.link (ParityNode i) x)
+      lane-is F d settled x i (v.dead x) (w.dead x) (head_at (v.process x) d) (head_at (w.process x) d) (replica_of (v.process x) d)
+      (replica_of (w.process x) d) (seen_at d settled proc) (seen_at d settled (w.process (ParityNode i))) (inn x) (w.link x (ParityNode i)) (out x)
+      (w.link (ParityNode i) x)
       (leaves.dead x xin) (ap (λ (y : Process). head_at y d) (leaves.others x xin xother)) (ap (λ (y : Process). replica_of y d) (leaves.others x xin xother))
-      (ap (λ (y : ProcessId). seen_at d settled (w.process y)) ip ∙ ap (seen_at d settled) leaves.process) (ap (w.link x) ip ∙ leaves.inn_is x xin xother) (λ dies. ap (λ (y : ProcessId). w.link y x) ip ∙ leaves.out_is x xin xother dies)
+      (ap (λ (y : ProcessId). seen_at d settled (w.process y)) ip ∙ ap (seen_at d settled) leaves.process) (ap (w.link x) ip ∙ leaves.inn_is x xin xother)
+      (λ dies. ap (λ (y : ProcessId). w.link y x) ip ∙ leaves.out_is x xin xother dies)
       (around.inward x i (sym ip) xin xother)
 
   issued_by : (x : ProcessId) (i : ℕ) (h : Head) → IsProcess s x → w.dead x ≡ false → i < s.m → x ≢ ParityNode i → head_at (w.process x) d ≡ Some h
@@ -245,6 +259,9 @@ module _ (F : ℕ → ℕ → List Update → Type 0) (s : Dimensions) (v w : St
   left = record {
     issued = λ x i h xin living iin apart heads. issued_by x i h xin living iin apart heads (same-cases x p) (same-cases (ParityNode i) p);
     replicas = λ q qin living keeps. subst (λ (us : List Update). ReplicaReaches F d us (w.process q)) (sym leaves.settled_is) (replica_by q qin living keeps (same-cases q p));
-    lanes = λ x i xin iin apart living. subst (λ (us : List Update). LaneReaches F d us x i (w.dead x) (head_at (w.process x) d) (replica_of (w.process x) d) (seen_at d us (w.process (ParityNode i))) (w.link x (ParityNode i)) (w.link (ParityNode i) x)) (sym leaves.settled_is)
+    lanes =
+        λ x i xin iin apart living. subst
+        (λ (us : List Update). LaneReaches F d us x i (w.dead x) (head_at (w.process x) d) (replica_of (w.process x) d) (seen_at d us (w.process (ParityNode i))) (w.link x (ParityNode i)) (w.link (ParityNode i) x))
+        (sym leaves.settled_is)
         (lane_by x i xin iin apart living (same-cases x p) (same-cases (ParityNode i) p));
   }

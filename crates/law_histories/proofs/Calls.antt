@@ -78,7 +78,9 @@ sent-one s p m i within other unknown =
     (ap (λ (b : Bool). not b && not (knows_dead p.known (ParityNode i))) (same-ne p.name (ParityNode i) (λ same. other (sym same))) ∙ ap not unknown)
 
 pub sent-each : (P : Message → Type 0) (s : Dimensions) (p : Process) (m : Message) (q : ProcessId) → P m → Each P (sent_to q (to_others s p m))
-sent-each P s p m q holds = each-sent_to (λ to. P) q (to_others s p m) (each-map (λ z. P z.message) (λ i. record { to = ParityNode i; message = m }) (other_parities s.m p.name p.known) (each-all (λ i. P m) (λ i. holds) (other_parities s.m p.name p.known)))
+sent-each P s p m q holds =
+    each-sent_to (λ to. P) q (to_others s p m)
+    (each-map (λ z. P z.message) (λ i. record { to = ParityNode i; message = m }) (other_parities s.m p.name p.known) (each-all (λ i. P m) (λ i. holds) (other_parities s.m p.name p.known)))
 
 module _ (s : Dimensions) (d : ℕ) where
   still-ticketed : (b : Bool) (e : ℕ) (u : Update) (p : Process) (t : ProcessStep) → Still d p t → Still d p (ticketed b e u t).step
@@ -87,7 +89,9 @@ module _ (s : Dimensions) (d : ℕ) where
       let same : SameIn d t.process (holding e u t.process) = record { name = refl; known = refl; head = refl; rank = refl; replica = refl } in
       record {
         same = same-in-trans still.same same;
-        sent = each-weaker (λ z. Tells d t.process z.to z.message) (λ z. Tells d (holding e u t.process) z.to z.message) (λ z may. tells-same d t.process (holding e u t.process) same z.to z.message may) t.sent still.sent;
+        sent =
+            each-weaker (λ z. Tells d t.process z.to z.message) (λ z. Tells d (holding e u t.process) z.to z.message)
+            (λ z may. tells-same d t.process (holding e u t.process) same z.to z.message may) t.sent still.sent;
         quiet = still.quiet;
       }
 
@@ -130,7 +134,9 @@ module _ (s : Dimensions) (d : ℕ) where
   pub still-flush : (p : Process) → Still d p (flush_process s p).step
   still-flush p = record {
     same = same-in-refl d p;
-    sent = each-flat_map (λ z. Tells d p z.to z.message) (λ e. tell_stable s p e (head_at p e)) (range_with_len 0 s.k) (each-all (λ e. Each (λ z. Tells d p z.to z.message) (tell_stable s p e (head_at p e))) (λ e. stable-told p e (head_at p e) refl) (range_with_len 0 s.k));
+    sent =
+        each-flat_map (λ z. Tells d p z.to z.message) (λ e. tell_stable s p e (head_at p e)) (range_with_len 0 s.k)
+        (each-all (λ e. Each (λ z. Tells d p z.to z.message) (tell_stable s p e (head_at p e))) (λ e. stable-told p e (head_at p e) refl) (range_with_len 0 s.k));
     quiet = refl;
   }
 
@@ -142,13 +148,15 @@ module _ (s : Dimensions) (d : ℕ) where
       let decision : Decision = decide (space_of s) h.inherited (replica_of p e) op (found_at s e p p.name) in
       still-act name op e h p decision other (LeadsLost s p) (λ lost. lost) (decides-well (space_of s) (replica_of p e) op (found_at s e p p.name) (LeadsLost s p) (leads h refl) h.inherited)
 
-module _ (F : ℕ → ℕ → List Update → Type 0) (laws : HistoryLaws F) (s : Dimensions) (v : State) (members : Members s v) (d : ℕ) (below : d < s.k) (p : ProcessId) (pin : IsProcess s p) (lives : v.dead p ≡ false) (inn : ProcessId → List Message) where
+module _ (F : ℕ → ℕ → List Update → Type 0) (laws : HistoryLaws F) (s : Dimensions) (v : State) (members : Members s v) (d : ℕ) (below : d < s.k)
+    (p : ProcessId) (pin : IsProcess s p) (lives : v.dead p ≡ false) (inn : ProcessId → List Message) where
   -- the head issues an update, and settles
   issued-leads : (settled : List Update) (proc : Process) (h : Head) (u : Update) → head_at proc d ≡ Some h → proc.name ≡ p → Spares F laws s v members d below p pin lives inn proc.known
       → length (replica_of proc d).log < window → u.number ≡ suc (last_of (replica_of proc d)) → F d (replica_of proc d).applied (history settled (replica_of proc d) ++ u ∷ [])
       → LeadsFrom F laws s v members d below p pin lives inn settled proc (issued s d h u proc)
   issued-leads settled proc h u heads name spares few number keeps =
-      then-from F laws s v members d below p pin lives inn settled proc (sending (to_others s proc m) told) (judge s d) first (judge-leads F laws s v members d below p pin lives inn d told name spares) (inl refl)
+      then-from F laws s v members d below p pin lives inn settled proc (sending (to_others s proc m) told) (judge s d) first
+      (judge-leads F laws s v members d below p pin lives inn d told name spares) (inl refl)
     where
       m : Message
       m = tells.Update (rank h.rank) (partition d) u (replica_of proc d).applied
@@ -171,7 +179,9 @@ module _ (F : ℕ → ℕ → List Update → Type 0) (laws : HistoryLaws F) (s 
       → LeadsFrom F laws s v members d below p pin lives inn settled proc (ticketed b d u t).step
   ticketed-leads settled proc true u t leads out around = leads out around
   ticketed-leads settled proc false u t leads out around =
-      turn-same F laws s v members d below p pin lives inn t.process (holding d u t.process) (record { name = refl; known = refl; head = refl; rank = refl; replica = refl }) (λ q. out q ++ sent_to q t.sent) (settled_with t.settled d settled) (leads out around)
+      turn-same F laws s v members d below p pin lives inn t.process (holding d u t.process)
+      (record { name = refl; known = refl; head = refl; rank = refl; replica = refl }) (λ q. out q ++ sent_to q t.sent) (settled_with t.settled d settled)
+      (leads out around)
 
   act-leads : (settled : List Update) (proc : Process) (name : CallName) (op : Asked) (h : Head) (decision : Decision) → head_at proc d ≡ Some h → proc.name ≡ p
       → Spares F laws s v members d below p pin lives inn proc.known → (Lost : Type 0) → (Lost → LeadsLost s proc)
@@ -188,7 +198,8 @@ module _ (F : ℕ → ℕ → List Update → Type 0) (laws : HistoryLaws F) (s 
       still-leads F laws s v members d below p pin lives inn proc _ (still-retry s d proc b (oldest_inherited proc (range_with_len 0 s.k)) refl (leads well)) out settled around
   act-leads settled proc name op h (decides.Issue body outcome) heads named spares Lost leads well keeps out around =
       let u : Update = update_of name op d body outcome proc in
-      ticketed-leads settled proc (nat_le u.number (replica_of (issued s d h u proc).process d).applied) u (issued s d h u proc) (issued-leads settled proc h u heads named spares well refl (keeps body outcome refl)) out around
+      ticketed-leads settled proc (nat_le u.number (replica_of (issued s d h u proc).process d).applied) u (issued s d h u proc)
+      (issued-leads settled proc h u heads named spares well refl (keeps body outcome refl)) out around
 
   pub ask-leads : (settled : List Update) (proc : Process) (name : CallName) (op : Asked) (h : Option Head) → head_at proc d ≡ h → proc.name ≡ p
       → Spares F laws s v members d below p pin lives inn proc.known

@@ -136,7 +136,8 @@ module _ (s : Dimensions) where
 
   spared-session : (block : ℕ) (p : Process) → IsSpared p → IsSpared (start_session s block p).process
   spared-session block p spared = spared-each (lost_of s p) (own_mark s (parity_number p.name) (suc p.as_leader.last_session) block)
-      (λ l q old. spared-mark (parity_number p.name) (suc p.as_leader.last_session) (at 0 q.ranks l) block l (replica_of q l).applied q old) (session_opened s (suc p.as_leader.last_session) block p) spared
+      (λ l q old. spared-mark (parity_number p.name) (suc p.as_leader.last_session) (at 0 q.ranks l) block l (replica_of q l).applied q old)
+      (session_opened s (suc p.as_leader.last_session) block p) spared
 
   -- calls
   spared-retry : (b : ℕ) (o : Option Oldest) (p : Process) → IsSpared p → IsSpared (retry_block s b o p).step.process
@@ -241,13 +242,16 @@ module _ (s : Dimensions) where
   keeps-spared = record {
     opens = λ v starts p pin. subst IsSpared (sym (starts.process p pin)) tt;
     treats = λ v w p t pin up lives treated all acts. one-spared v w p acts.others (subst IsSpared (sym acts.process) (spared-treats (v.process p) t treated (all p pin))) all;
-    receives = λ v u w x p m xin pin apart up lives all pops acts. one-spared v w p (λ q qin other. acts.others q qin other ∙ pops.processes q qin) (subst IsSpared (sym acts.process) (spared-receives x m (v.process p) (all p pin))) all;
+    receives =
+        λ v u w x p m xin pin apart up lives all pops acts. one-spared v w p (λ q qin other. acts.others q qin other ∙ pops.processes q qin)
+        (subst IsSpared (sym acts.process) (spared-receives x m (v.process p) (all p pin))) all;
     dies = λ v w p keep pin all died q qin. subst IsSpared (sym (died.processes q qin)) (all q qin);
   }
 
 forgotten : (h : History) → Members h.world.shape (state_of h) → AllSpared h.world.shape (state_of h) → IsDrained h.world → DeadForgotten h.world
 forgotten h members all drained i l lives lin dead =
-    each-weaker (λ c. knows_dead ((state_of h).process (ParityNode i)).known (ParityNode c.leader) ≡ false) (λ c. c.leader ≢ l) (λ c unknown same. cc (unknown, ap (λ (n : ℕ). knows_dead ((state_of h).process (ParityNode i)).known (ParityNode n)) same, knows))
+    each-weaker (λ c. knows_dead ((state_of h).process (ParityNode i)).known (ParityNode c.leader) ≡ false) (λ c. c.leader ≢ l)
+    (λ c unknown same. cc (unknown, ap (λ (n : ℕ). knows_dead ((state_of h).process (ParityNode i)).known (ParityNode n)) same, knows))
     ((state_of h).process (ParityNode i)).as_row.copies (all (ParityNode i) lives.0)
   where
     apart : ParityNode l ≢ ParityNode i

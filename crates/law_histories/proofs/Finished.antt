@@ -40,7 +40,9 @@ pub keeps-told : (s : Dimensions) → IsShape s → Keeps s (λ v. Reached s v �
 keeps-told s shaped = record {
   opens = λ v starts. ((keeps_reach s shaped).opens v starts, told-opens s shaped v starts);
   treats = λ v w p t pin up lives treated both acts. ((keeps_reach s shaped).treats v w p t pin up lives treated both.0 acts, told-treats s shaped v w p t pin up lives treated both.0 both.1 acts);
-  receives = λ v u w x p m xin pin apart up lives both pops acts. ((keeps_reach s shaped).receives v u w x p m xin pin apart up lives both.0 pops acts, told-receives s shaped v u w x p xin pin apart up lives both.0 both.1 m pops acts);
+  receives =
+      λ v u w x p m xin pin apart up lives both pops acts.
+      ((keeps_reach s shaped).receives v u w x p m xin pin apart up lives both.0 pops acts, told-receives s shaped v u w x p xin pin apart up lives both.0 both.1 m pops acts);
   dies = λ v w p keep pin both died. ((keeps_reach s shaped).dies v w p keep pin both.0 died, told-dies s shaped v w p keep pin both.1 died);
 }
 
@@ -69,7 +71,8 @@ living-by x true false link stands unknown empty = absurd (behind stands.front (
   behind [] e = cc e
   behind (m ∷ ms) e = cc e
 
-module _ (s : Dimensions) (v : State) (reached : Reached s v) (told : Told s v) (empty : IsEmpty s v) (p : ProcessId) (d : ℕ) (h : Head) (pin : IsProcess s p) (lives : v.dead p ≡ false) (below : d < s.k) (heads : head_at (v.process p) d ≡ Some h) where
+module _ (s : Dimensions) (v : State) (reached : Reached s v) (told : Told s v) (empty : IsEmpty s v) (p : ProcessId) (d : ℕ) (h : Head) (pin : IsProcess s p)
+    (lives : v.dead p ≡ false) (below : d < s.k) (heads : head_at (v.process p) d ≡ Some h) where
   pub keeps-it : IsKeeper d p
   keeps-it = keeper-rank d h.rank p (head-from s v d reached.0 below p h pin lives heads).0
 
@@ -80,7 +83,10 @@ module _ (s : Dimensions) (v : State) (reached : Reached s v) (told : Told s v) 
         (reached.0.stands (ParityNode i) p iin pin (λ same. other (sym same)) lives) unknown (empty (ParityNode i) p iin pin lives (λ same. other (sym same)))
 
     ends : EndsAt (v.settled d) (replica_of (v.process p) d) h (seen_at d (v.settled d) (v.process (ParityNode i)))
-    ends = subst (λ (ms : List Message). EndsAt (v.settled d) (replica_of (v.process p) d) h (run (next d) (seen_at d (v.settled d) (v.process (ParityNode i))) ms)) (empty p (ParityNode i) pin iin lives-too other)
+    ends =
+        subst
+        (λ (ms : List Message). EndsAt (v.settled d) (replica_of (v.process p) d) h (run (next d) (seen_at d (v.settled d) (v.process (ParityNode i))) ms))
+        (empty p (ParityNode i) pin iin lives-too other)
         (((reached.1 d below).lanes p i pin iin other lives-too).ends lives h heads)
 
     -- it has acknowledged all that the head has

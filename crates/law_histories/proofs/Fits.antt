@@ -81,7 +81,8 @@ module _ (F : ℕ → ℕ → List Update → Type 0) (d : ℕ) (settled : List 
     from_base : 1 + length (take base (history settled r)) ≡ suc base
     from_base = omega (arith, base_long)
 
-module _ (F : ℕ → ℕ → List Update → Type 0) (s : Dimensions) (v : State) (members : Members s v) (reach : Reach F s v) (x p : ProcessId) (xin : IsProcess s x) (pin : IsProcess s p) (apart : x ≢ p) (lives : v.dead p ≡ false) where
+module _ (F : ℕ → ℕ → List Update → Type 0) (s : Dimensions) (v : State) (members : Members s v) (reach : Reach F s v) (x p : ProcessId) (xin : IsProcess s x)
+    (pin : IsProcess s p) (apart : x ≢ p) (lives : v.dead p ≡ false) where
   abbrev First : Message → List Message → Type 0
   First m rest = v.link x p ≡ m ∷ rest
 
@@ -154,7 +155,8 @@ module _ (F : ℕ → ℕ → List Update → Type 0) (s : Dimensions) (v : Stat
       accepted-low : accepts_mark (v.process p) (parity_number session.leader) session.number r.0 e.0 ≡ true → at 0 (v.process p).ranks e.0 ≤ r.0
       accepted-low accepts = grind (arith, common_steps)
   fits-numbers (tells.Notice dead) rest first =
-      let stood = stands-notice x (v.dead x) (knows_dead (v.process p).known x) dead rest (subst (Stands x (v.dead x) (knows_dead (v.process p).known x)) first (members.stands x p xin pin apart lives)) in
+      let stood = stands-notice x (v.dead x) (knows_dead (v.process p).known x) dead rest
+      (subst (Stands x (v.dead x) (knows_dead (v.process p).known x)) first (members.stands x p xin pin apart lives)) in
       record {
         process = subst (IsProcess s) (sym stood.2) xin;
         other = λ same. apart (sym stood.2 ∙ same ∙ members.named p pin);

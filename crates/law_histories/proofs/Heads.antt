@@ -25,9 +25,10 @@ use Rattle.group_run.specs.Process.{Head, Process}
 use Rattle.group_run.specs.Replica.{Replica, applied_to, empty_replica, last_of, up_to, with_update}
 use Rattle.law_moves.specs.State.{State}
 use Rattle.law_moves.proofs.Members.{MayStand, Members}
+use Rattle.law_moves.proofs.Reading.{some-same}
 use Rattle.law_histories.proofs.LaneWords.{AckBelow, AckFits, Fine, Goes, Prolongs, Seen, appended, next}
 use Rattle.law_histories.proofs.Reach.{EndsAt, HeadReaches, IsKeeper, KeptGoes, LaneReaches, ReplicaFits, ReplicaReaches, seen_at}
-use Rattle.law_histories.proofs.HistoryWords.{Begins, HistoryLaws}
+use Rattle.law_histories.proofs.HistoryWords.{HistoryLaws}
 use Rattle.law_histories.proofs.Applies.{items-applied, items-grown}
 use Rattle.law_histories.proofs.Around.{Around, HeadSits, below-more, grew-turned, keeper-rank, since-head, since-trans}
 use Rattle.law_histories.proofs.Folds.{along-append, run-append, run, Along}
@@ -81,7 +82,9 @@ module _ (F : ℕ → ℕ → List Update → Type 0) (laws : HistoryLaws F) (d 
     applied = let most = fits.applied in omega (arith, is, most, low);
     prolongs = subst (Prolongs settled) (sym same) fits.prolongs;
     short = let left = log-left settled r fits.applied n within in let few = fits.short in omega (arith, left, few);
-    fine = subst (λ (a : ℕ). Fine F d a (history settled (applied_to n r))) (sym is) (subst (Fine F d (max r.applied n)) (sym same) (fits.fine.0, laws.rises d r.applied (max r.applied n) (history settled r) fits.fine.1 (omega arith) (let long = reach in let most = fits.applied in omega (arith, long, most, low))));
+    fine =
+        subst (λ (a : ℕ). Fine F d a (history settled (applied_to n r))) (sym is)
+        (subst (Fine F d (max r.applied n)) (sym same) (fits.fine.0, laws.rises d r.applied (max r.applied n) (history settled r) fits.fine.1 (omega arith) (let long = reach in let most = fits.applied in omega (arith, long, most, low))));
     holds = items-applied settled r n fits.applied fits.prolongs low fits.holds;
     heads = λ h is_head. heads_by h (fits.heads h is_head);
   } where
@@ -113,7 +116,8 @@ module _ (F : ℕ → ℕ → List Update → Type 0) (laws : HistoryLaws F) (d 
 pub replica-apply_to : (s : Dimensions) (d n : ℕ) (p : Process) → replica_of (apply_to s d n p) d ≡ applied_to n (replica_of p d)
 replica-apply_to s d n p = at-put empty_replica empty_replica p.replicas d (applied_to n (replica_of p d))
 
-module _ (F : ℕ → ℕ → List Update → Type 0) (laws : HistoryLaws F) (s : Dimensions) (v : State) (members : Members s v) (d : ℕ) (below : d < s.k) (p : ProcessId) (pin : IsProcess s p) (lives : v.dead p ≡ false) where
+module _ (F : ℕ → ℕ → List Update → Type 0) (laws : HistoryLaws F) (s : Dimensions) (v : State) (members : Members s v) (d : ℕ) (below : d < s.k)
+    (p : ProcessId) (pin : IsProcess s p) (lives : v.dead p ≡ false) where
   -- what comes to a living head from others is stale, and there is no other head
   pub head-inward : (r : ℕ) → p ≡ of_rank d r → ((j : ℕ) → j < r → v.dead (of_rank d j) ≡ true) → (settled : List Update) (own : Replica) (seen : Seen)
       → seen.rank ≡ r → (x : ProcessId) (i : ℕ) → IsProcess s x → x ≢ p → (there back : List Message)
@@ -146,23 +150,28 @@ module _ (F : ℕ → ℕ → List Update → Type 0) (laws : HistoryLaws F) (s 
       kept = lane.kept;
       acks = lane.acks;
     };
-    inward = λ x i pis xin other. head-inward h.rank sits.name sits.lower settled (replica_of (v.process x) d) (seen_at d settled (apply_to s d n proc)) sits.rank x i xin other (inn x) (out x) (around.may x xin other)
+    inward =
+        λ x i pis xin other. head-inward h.rank sits.name sits.lower settled (replica_of (v.process x) d)
+        (seen_at d settled (apply_to s d n proc)) sits.rank x i xin other (inn x) (out x) (around.may x xin other)
         (λ alive. each-weaker (AckFits d x (seen_at d settled proc)) (AckFits d x (seen_at d settled (apply_to s d n proc))) (ack-longer d x (seen_at d settled proc) (seen_at d settled (apply_to s d n proc)) refl (let long : length (history settled (replica_of (apply_to s d n proc) d)) ≡ length (history settled (replica_of proc d)) = ap length same in omega (arith, long))) (out x) ((around.inward x i pis xin other).acks alive));
     silent = λ none. absurd (cc (none, heads));
     may = around.may;
     since = since-trans around.since (since-head d proc (apply_to s d n proc) (applied_to n (replica_of proc d)) refl is (omega arith) (omega (arith, last_same)));
     unkept = λ not. absurd (not (keeper-rank d h.rank p sits.name));
     quiet = λ none. absurd (cc (none, heads));
-    follows = λ g is_head. subst (Begins (history (v.settled d) (replica_of (v.process p) d))) (sym same) (around.follows g is_head);
+    follows = λ g is_head. subst (Prolongs (history (v.settled d) (replica_of (v.process p) d))) (sym same) (around.follows g is_head);
     grew = grew-turned d (v.settled d) settled proc (apply_to s d n proc) (λ has. record {
       head = has.head;
       heads = has.heads;
       all =
           let now : (replica_of (apply_to s d n proc) d).applied ≡ (applied_to n (replica_of proc d)).applied = ap (λ (x : Replica). x.applied) is in
-          let moves = applied-is settled (replica_of proc d) own.applied n (let long = length-history settled (replica_of proc d) own.applied in let reach = own.prolongs.reaches in omega (arith, long, reach, low)) in
+          let moves = applied-is settled (replica_of proc d) own.applied n
+          (let long = length-history settled (replica_of proc d) own.applied in let reach = own.prolongs.reaches in omega (arith, long, reach, low)) in
           let all = has.all in omega (arith, now, moves, all, low);
     }) around.grew;
-    issued_here = λ i g iin other is_head. subst (λ (x : Replica). Each (AckBelow d (last_of x)) (inn (ParityNode i))) (sym is) (subst (λ (k : ℕ). Each (AckBelow d k) (inn (ParityNode i))) (sym last_same) (around.issued_here i g iin other is_head));
+    issued_here =
+        λ i g iin other is_head. subst (λ (x : Replica). Each (AckBelow d (last_of x)) (inn (ParityNode i))) (sym is)
+        (subst (λ (k : ℕ). Each (AckBelow d k) (inn (ParityNode i))) (sym last_same) (around.issued_here i g iin other is_head));
     issued_there = around.issued_there;
     issued_else = around.issued_else;
   } where
@@ -176,7 +185,9 @@ module _ (F : ℕ → ℕ → List Update → Type 0) (laws : HistoryLaws F) (s 
     is = replica-apply_to s d n proc
 
     last_same : last_of (applied_to n (replica_of proc d)) ≡ last_of (replica_of proc d)
-    last_same = last-applied settled (replica_of proc d) own.applied n (let long = length-history settled (replica_of proc d) own.applied in let reach = own.prolongs.reaches in omega (arith, long, reach, low))
+    last_same =
+        last-applied settled (replica_of proc d) own.applied n
+        (let long = length-history settled (replica_of proc d) own.applied in let reach = own.prolongs.reaches in omega (arith, long, reach, low))
 
     same : history settled (replica_of (apply_to s d n proc) d) ≡ history settled (replica_of proc d)
     same = ap (history settled) is ∙ history-applied settled (replica_of proc d) own.applied own.prolongs n low
@@ -195,7 +206,9 @@ module _ (F : ℕ → ℕ → List Update → Type 0) (laws : HistoryLaws F) (s 
     replicas = around.replicas;
     among = around.among;
     outward = out_by;
-    inward = λ x i pis xin other. head-inward h.rank sits.name sits.lower settled (replica_of (v.process x) d) (seen_at d settled new) (same_rank ∙ sits.rank) x i xin other (inn x) (out x ++ sent x) (around.may x xin other)
+    inward =
+        λ x i pis xin other. head-inward h.rank sits.name sits.lower settled (replica_of (v.process x) d) (seen_at d settled new)
+        (same_rank ∙ sits.rank) x i xin other (inn x) (out x ++ sent x) (around.may x xin other)
         (λ alive. each-append (AckFits d x (seen_at d settled new)) (out x) (sent x)
         (each-weaker (AckFits d x (seen_at d settled old)) (AckFits d x (seen_at d settled new)) (ack-longer d x (seen_at d settled old) (seen_at d settled new) same_rank longer) (out x) ((around.inward x i pis xin other).acks alive))
         (quiet x (seen_at d settled new)));
@@ -204,11 +217,15 @@ module _ (F : ℕ → ℕ → List Update → Type 0) (laws : HistoryLaws F) (s 
     since = since-trans around.since (since-head d old new (with_update u r) same_head is (omega arith) last_more);
     unkept = λ not. absurd (not (keeper-rank d h.rank p sits.name));
     quiet = λ none. absurd (cc (heads, sym same_head ∙ none));
-    follows = λ g is_head. begins-trans (history (v.settled d) (replica_of (v.process p) d)) hist (history settled (replica_of new d)) (around.follows h heads) (subst (Begins hist) (sym grown) (begins-append hist (u ∷ [])));
+    follows =
+        λ g is_head. begins-trans (history (v.settled d) (replica_of (v.process p) d)) hist (history settled (replica_of new d)) (around.follows h heads)
+        (subst (Prolongs hist) (sym grown) (begins-append hist (u ∷ [])));
     grew = grew-turned d (v.settled d) settled old new (λ has. record { head = has.head; heads = same_head ∙ has.heads; all = ap (λ (x : Replica). x.applied) is ∙ has.all }) around.grew;
     issued_here = λ i g iin other is_head. subst (λ (x : Replica). Each (AckBelow d (last_of x)) (inn (ParityNode i))) (sym is)
         (each-weaker (AckBelow d (last_of r)) (AckBelow d (last_of (with_update u r))) (below-more d (last_of r) (last_of (with_update u r)) last_more) (inn (ParityNode i)) (around.issued_here i g iin other (sym same_head ∙ is_head)));
-    issued_there = λ x i g pis xin other living is_head. each-append (AckBelow d (last_of (replica_of (v.process x) d))) (out x) (sent x) (around.issued_there x i g pis xin other living is_head) (none_acked x (last_of (replica_of (v.process x) d)));
+    issued_there =
+        λ x i g pis xin other living is_head. each-append (AckBelow d (last_of (replica_of (v.process x) d))) (out x) (sent x)
+        (around.issued_there x i g pis xin other living is_head) (none_acked x (last_of (replica_of (v.process x) d)));
     issued_else = around.issued_else;
   } where
     r : Replica
@@ -286,15 +303,11 @@ module _ (F : ℕ → ℕ → List Update → Type 0) (laws : HistoryLaws F) (s 
       whole =
           run-append (next d) seen (out (ParityNode i)) (sent (ParityNode i))
           ∙ ap (run (next d) (run (next d) seen (out (ParityNode i)))) (sends i iin other living)
-          ∙ ap (λ (b : Bool). appended b u r.applied (run (next d) seen (out (ParityNode i)))) (live-is d (run (next d) seen (out (ParityNode i))) d h.rank refl (let same = end.rank in omega (arith, same)))
+          ∙ ap (λ (b : Bool). appended b u r.applied (run (next d) seen (out (ParityNode i))))
+          (live-is d (run (next d) seen (out (ParityNode i))) d h.rank refl (let same = end.rank in omega (arith, same)))
 
       one : (g : Head) → head_at new d ≡ Some g → h ≡ g
-      one g is_head = same_by h g (sym heads ∙ sym same_head ∙ is_head) where
-        same_by : (a b : Head) → Some a ≡ Some b → a ≡ b
-        same_by a b e = ap (in_some a) e where
-          in_some : Head → Option Head → Head
-          in_some d None = d
-          in_some d (Some x) = x
+      one g is_head = some-same h g (sym heads ∙ sym same_head ∙ is_head)
 
       numbers : u.number ≡ suc (length hist)
       numbers = last-number hist u fine.0
@@ -310,7 +323,10 @@ module _ (F : ℕ → ℕ → List Update → Type 0) (laws : HistoryLaws F) (s 
     replicas = around.replicas;
     among = around.among;
     outward = out_by;
-    inward = λ x j pis xin other. subst (λ (y : Seen). LaneReaches F d settled x j (v.dead x) (head_at (v.process x) d) (replica_of (v.process x) d) y (inn x) (out x)) (sym same_seen) (around.inward x j pis xin other);
+    inward =
+        λ x j pis xin other. subst
+        (λ (y : Seen). LaneReaches F d settled x j (v.dead x) (head_at (v.process x) d) (replica_of (v.process x) d) y (inn x) (out x)) (sym same_seen)
+        (around.inward x j pis xin other);
     silent = λ none. cc (none, now);
     may = around.may;
     grew = grew-turned d (v.settled d) settled old new (λ has. record { head = acknowledged i n h; heads = now; all = ap (λ (x : Replica). x.applied) same_replica ∙ has.all }) around.grew;
@@ -326,26 +342,16 @@ module _ (F : ℕ → ℕ → List Update → Type 0) (laws : HistoryLaws F) (s 
     });
     unkept = λ not. same_replica ∙ around.unkept not;
     quiet = λ none. absurd (cc (none, now));
-    follows = λ g is_head. subst (Begins (history (v.settled d) (replica_of (v.process p) d))) (ap (λ (y : Seen). y.history) (sym same_seen)) (around.follows h heads);
+    follows = λ g is_head. subst (Prolongs (history (v.settled d) (replica_of (v.process p) d))) (ap (λ (y : Seen). y.history) (sym same_seen)) (around.follows h heads);
     issued_here = λ j g jin other is_head. subst (λ (x : Replica). Each (AckBelow d (last_of x)) (inn (ParityNode j))) (sym same_replica) (around.issued_here j h jin other heads);
     issued_there = around.issued_there;
     issued_else = around.issued_else;
   } where
     is_acked : (g : Head) → head_at new d ≡ Some g → acknowledged i n h ≡ g
-    is_acked g is_head = some_one (acknowledged i n h) g (sym now ∙ is_head) where
-      some_one : (a b : Head) → Some a ≡ Some b → a ≡ b
-      some_one a b e = ap (in_some a) e where
-        in_some : Head → Option Head → Head
-        in_some d None = d
-        in_some d (Some x) = x
+    is_acked g is_head = some-same (acknowledged i n h) g (sym now ∙ is_head)
 
     is_old : (g : Head) → head_at old d ≡ Some g → h ≡ g
-    is_old g is_head = some_one h g (sym heads ∙ is_head) where
-      some_one : (a b : Head) → Some a ≡ Some b → a ≡ b
-      some_one a b e = ap (in_some a) e where
-        in_some : Head → Option Head → Head
-        in_some d None = d
-        in_some d (Some x) = x
+    is_old g is_head = some-same h g (sym heads ∙ is_head)
 
     rank_of_head : (g : Head) → head_at new d ≡ Some g → h.rank ≡ g.rank
     rank_of_head g is_head = ap (λ (x : Head). x.rank) (is_acked g is_head)
@@ -357,14 +363,18 @@ module _ (F : ℕ → ℕ → List Update → Type 0) (laws : HistoryLaws F) (s 
       short = own.short;
       fine = own.fine;
       holds = own.holds;
-      heads = λ g is_head. subst (HeadReaches settled (replica_of old d)) (is_acked g is_head) (let was = own.heads h heads in record { inherited = was.inherited; first = was.first; all_or = was.all_or });
+      heads =
+          λ g is_head. subst (HeadReaches settled (replica_of old d)) (is_acked g is_head)
+          (let was = own.heads h heads in record { inherited = was.inherited; first = was.first; all_or = was.all_or });
     }
 
     out_by : (j : ℕ) → j < s.m → ParityNode j ≢ p → v.dead (ParityNode j) ≡ false
         → LaneReaches F d settled p j false (head_at new d) (replica_of new d) (seen_at d settled (v.process (ParityNode j))) (out (ParityNode j)) (inn (ParityNode j))
     out_by j jin other living = record {
       goes = lane.goes;
-      ends = λ alive g is_head. subst (λ (x : Replica). EndsAt settled x g (run (next d) seen (out (ParityNode j)))) (sym same_replica) (subst (λ (x : Head). EndsAt settled (replica_of old d) x (run (next d) seen (out (ParityNode j)))) (is_acked g is_head)
+      ends =
+          λ alive g is_head. subst (λ (x : Replica). EndsAt settled x g (run (next d) seen (out (ParityNode j)))) (sym same_replica)
+          (subst (λ (x : Head). EndsAt settled (replica_of old d) x (run (next d) seen (out (ParityNode j)))) (is_acked g is_head)
           (let end = lane.ends alive h heads in record { rank = end.rank; history_is = end.history_is; number = end.number }));
       kept = λ alive g is_head a is. subst (λ (x : Head). KeptGoes seen x a) (is_acked g is_head) (kept_by a (cases_eq j i) (ap (λ (x : Head). at None x.acks j) (is_acked g is_head) ∙ is));
       acks = lane.acks;
@@ -415,8 +425,8 @@ module _ (F : ℕ → ℕ → List Update → Type 0) (laws : HistoryLaws F) (s 
 
     -- where that is more than was settled
     module _ (above : length settled < n) where
-      more-begins : Begins settled more
-      more-begins = record { longer = omega (arith, more-long, above); same = take-take (length settled) n hist (omega (arith, above)) ∙ own.prolongs.front }
+      more-begins : Prolongs settled more
+      more-begins = record { reaches = omega (arith, more-long, above); front = take-take (length settled) n hist (omega (arith, above)) ∙ own.prolongs.front }
 
       lane_of : (i : ℕ) → i < s.m → ParityNode i ≢ p → v.dead (ParityNode i) ≡ false
           → LaneReaches F d settled p i false (head_at proc d) (replica_of proc d) (seen_at d settled (v.process (ParityNode i))) (out (ParityNode i)) (inn (ParityNode i))
@@ -439,7 +449,7 @@ module _ (F : ℕ → ℕ → List Update → Type 0) (laws : HistoryLaws F) (s 
       prolongs_at : (i : ℕ) → i < s.m → ParityNode i ≢ p → v.dead (ParityNode i) ≡ false → Prolongs more (seen_at d settled (v.process (ParityNode i))).history
       prolongs_at i iin other living = record {
         reaches = let most = kept.has in omega (arith, most, more-long);
-        front = ap (λ (k : ℕ). take k seen.history) more-long ∙ ap (take n) (sym begins.same) ∙ take-take n (length seen.history) hist kept.has;
+        front = ap (λ (k : ℕ). take k seen.history) more-long ∙ ap (take n) (sym begins.front) ∙ take-take n (length seen.history) hist kept.has;
       } where
         seen : Seen
         seen = seen_at d settled (v.process (ParityNode i))
@@ -447,11 +457,11 @@ module _ (F : ℕ → ℕ → List Update → Type 0) (laws : HistoryLaws F) (s 
         kept : KeptGoes seen h n
         kept = has-all i iin other living
 
-        begins : Begins seen.history hist
+        begins : Prolongs seen.history hist
         begins =
             let lane = lane_of i iin other living in
             let end = lane.ends refl h heads in
-            subst (Begins seen.history) end.history_is (same-rank-begins F d settled seen (out (ParityNode i)) lane.goes (end.rank ∙ sym kept.rank))
+            subst (Prolongs seen.history) end.history_is (same-rank-begins F d settled seen (out (ParityNode i)) lane.goes (end.rank ∙ sym kept.rank))
 
       -- a replica elsewhere
       fits_at : (i : ℕ) → i < s.m → ParityNode i ≢ p → v.dead (ParityNode i) ≡ false → ReplicaReaches F d more (v.process (ParityNode i))
@@ -490,14 +500,19 @@ module _ (F : ℕ → ℕ → List Update → Type 0) (laws : HistoryLaws F) (s 
       own_fits : ReplicaFits F d more (applied_to n r) (head_at proc d)
       own_fits = record {
         applied = omega (arith, is, low, more-long, above);
-        prolongs = subst (Prolongs more) (sym own_same) (record { reaches = let long = length-history settled r own.applied in omega (arith, long, more-long, within); front = ap (λ (k : ℕ). take k hist) more-long });
+        prolongs =
+            subst (Prolongs more) (sym own_same)
+            (record { reaches = let long = length-history settled r own.applied in omega (arith, long, more-long, within); front = ap (λ (k : ℕ). take k hist) more-long });
         short = let left = log-left settled r own.applied n within in let few = own.short in omega (arith, left, few);
         fine = subst (λ (a : ℕ). Fine F d a (history more (applied_to n r))) (sym is) (subst (Fine F d (max r.applied n)) (sym own_same) (
           own.fine.0,
           laws.rises d r.applied (max r.applied n) hist own.fine.1 (omega arith)
               (let long = length-history settled r own.applied in omega (arith, long, within, low, above)),
         ));
-        holds = items-applied more r n (omega (arith, low, more-long, above)) (subst (Prolongs more) (sym (history-grown settled r own.applied more more-begins)) (record { reaches = let long = length-history settled r own.applied in omega (arith, long, more-long, within); front = ap (λ (k : ℕ). take k hist) more-long })) (omega (arith, more-long))
+        holds =
+            items-applied more r n (omega (arith, low, more-long, above))
+            (subst (Prolongs more) (sym (history-grown settled r own.applied more more-begins)) (record { reaches = let long = length-history settled r own.applied in omega (arith, long, more-long, within); front = ap (λ (k : ℕ). take k hist) more-long }))
+            (omega (arith, more-long))
             (items-grown settled more r own.applied more-begins own.holds);
         heads = λ g is_head. record {
           inherited = let last = last-applied settled r own.applied n within in let most = (own.heads g is_head).inherited in omega (arith, last, most);
@@ -531,7 +546,7 @@ module _ (F : ℕ → ℕ → List Update → Type 0) (laws : HistoryLaws F) (s 
           → LaneReaches F d more p i false (head_at new d) (replica_of new d) (seen_at d more (v.process (ParityNode i))) (out (ParityNode i)) (inn (ParityNode i))
       out_by i iin other living =
           subst (λ (y : Seen). LaneReaches F d more p i false (head_at new d) (replica_of new d) y (out (ParityNode i)) (inn (ParityNode i))) (sym (same_seen i iin other living)) (record {
-            goes = along-grows F d settled more (let longer = more-begins.longer in longer) seen (out (ParityNode i)) ((lane.ends refl h heads).rank ∙ sym (has-all i iin other living).rank) lane.goes;
+            goes = along-grows F d settled more (let longer = more-begins.reaches in longer) seen (out (ParityNode i)) ((lane.ends refl h heads).rank ∙ sym (has-all i iin other living).rank) lane.goes;
             ends = λ alive g is_head. let end = lane.ends alive g is_head in record {
               rank = end.rank;
               history_is = end.history_is ∙ sym own_same ∙ ap (history more) (sym is_new);
@@ -561,7 +576,7 @@ module _ (F : ℕ → ℕ → List Update → Type 0) (laws : HistoryLaws F) (s 
         since = since-trans around.since (since-head d proc new (applied_to n r) refl is_new (omega arith) (omega (arith, last_same)));
         unkept = λ not. absurd (not (keeper-rank d h.rank p sits.name));
         quiet = λ none. absurd (cc (none, heads));
-        follows = λ g is_head. subst (Begins (history (v.settled d) (replica_of (v.process p) d))) (sym (ap (history more) is_new ∙ own_same)) (around.follows h heads);
+        follows = λ g is_head. subst (Prolongs (history (v.settled d) (replica_of (v.process p) d))) (sym (ap (history more) is_new ∙ own_same)) (around.follows h heads);
         grew = inr (record {
           head = h;
           heads = heads;
@@ -570,7 +585,9 @@ module _ (F : ℕ → ℕ → List Update → Type 0) (laws : HistoryLaws F) (s 
               let moves = applied-is settled r own.applied n within in
               let low = own.applied in omega (arith, now, moves, low, more-long, above);
         });
-        issued_here = λ i g iin other is_head. subst (λ (x : Replica). Each (AckBelow d (last_of x)) (inn (ParityNode i))) (sym is_new) (subst (λ (k : ℕ). Each (AckBelow d k) (inn (ParityNode i))) (sym last_same) (around.issued_here i g iin other is_head));
+        issued_here =
+            λ i g iin other is_head. subst (λ (x : Replica). Each (AckBelow d (last_of x)) (inn (ParityNode i))) (sym is_new)
+            (subst (λ (k : ℕ). Each (AckBelow d k) (inn (ParityNode i))) (sym last_same) (around.issued_here i g iin other is_head));
         issued_there = around.issued_there;
         issued_else = around.issued_else;
       }
@@ -580,4 +597,6 @@ module _ (F : ℕ → ℕ → List Update → Type 0) (laws : HistoryLaws F) (s 
     act-settle = by (cases_lt (length settled) n) where
       by : (length settled < n) ⊎ (n ≤ length settled) → Around F s v d p (apply_to s d n proc) out inn (settled_with (settlements d (up_to n r)) d settled)
       by (inl above) = subst (Around F s v d p (apply_to s d n proc) out inn) (sym (settled-more d n settled r own.applied own.prolongs own.fine.0 (omega (arith, above)) within)) (act-grow above)
-      by (inr low) = subst (Around F s v d p (apply_to s d n proc) out inn) (sym (settled-no-more d n settled r own.applied own.prolongs own.fine.0 low)) (act-apply proc out inn settled n h heads low around)
+      by (inr low) =
+          subst (Around F s v d p (apply_to s d n proc) out inn) (sym (settled-no-more d n settled r own.applied own.prolongs own.fine.0 low))
+          (act-apply proc out inn settled n h heads low around)

@@ -1,6 +1,6 @@
 -- What a parity process does that hears a head of another rank, told around it: an update or a new head's list
 -- is taken, and where all of lower rank are dead the process takes the partition over.
-use Rattle.std.proofs.Common.{ℕ, suc, ◌≡◌, ◌≢◌, ◌<◌, ◌≤◌, ◌+◌, Bool, true, false, List, [], ◌∷◌, ◌++◌, length, take, Option, Some, None, ◌⊎◌, inl, inr, refl, sym, ap, subst, ◌∙◌, arith}
+use Rattle.std.proofs.Common.{ℕ, suc, ◌≡◌, ◌≢◌, ◌<◌, ◌≤◌, ◌+◌, Bool, true, false, List, [], ◌∷◌, ◌++◌, length, take, Some, None, ◌⊎◌, inl, inr, refl, sym, ap, subst, ◌∙◌, arith}
 use Rattle.std.proofs.lemmas.Bool.{cases_eq, cases_lt}
 use Rattle.std.proofs.lemmas.List.{take-take}
 use Rattle.group_types.specs.Dimensions.{Dimensions}
@@ -22,9 +22,10 @@ use Rattle.group_run.specs.Replica.{Replica, last_of}
 use Rattle.group_run.specs.History.{history}
 use Rattle.law_moves.specs.State.{State}
 use Rattle.law_moves.proofs.Members.{MayStand, Members, Reigns, seat_of}
+use Rattle.law_moves.proofs.Reading.{some-same}
 use Rattle.law_histories.proofs.LaneWords.{AckBelow, AckFits, Fine, Goes, Prolongs, Seen, next, replaced}
 use Rattle.law_histories.proofs.Reach.{EndsAt, HeadReaches, IsKeeper, KeptGoes, LaneReaches, ReplicaFits, ReplicaReaches, seen_at}
-use Rattle.law_histories.proofs.HistoryWords.{HistoryLaws, Begins}
+use Rattle.law_histories.proofs.HistoryWords.{HistoryLaws}
 use Rattle.law_histories.proofs.Around.{Around, HeadSits, grew-turned, since-trans}
 use Rattle.law_histories.proofs.Folds.{along-append, run-append, run, Along}
 use Rattle.law_histories.proofs.Heads.{head-inward}
@@ -48,7 +49,8 @@ ack-turned d x a b turn (tells.Row session bytes stamp) fits = tt
 ack-turned d x a b turn (tells.Cease upto) fits = tt
 ack-turned d x a b turn (tells.Notice dead) fits = tt
 
-module _ (F : ℕ → ℕ → List Update → Type 0) (laws : HistoryLaws F) (s : Dimensions) (v : State) (members : Members s v) (d : ℕ) (below : d < s.k) (p : ProcessId) (pin : IsProcess s p) (lives : v.dead p ≡ false) where
+module _ (F : ℕ → ℕ → List Update → Type 0) (laws : HistoryLaws F) (s : Dimensions) (v : State) (members : Members s v) (d : ℕ) (below : d < s.k)
+    (p : ProcessId) (pin : IsProcess s p) (lives : v.dead p ≡ false) where
   -- a message of rank r from x is heard: what is seen is what the message makes of it, in a rank that is in use
   module _ (old new : Process) (left : ProcessId → List Message) (settled : List Update) (x : ProcessId) (m : Message) (r : ℕ)
       (first : v.link x p ≡ m ∷ left x) (rest : (y : ProcessId) → IsProcess s y → y ≢ x → left y ≡ v.link y p) (xin : IsProcess s x) (xother : x ≢ p)
@@ -74,7 +76,7 @@ module _ (F : ℕ → ℕ → List Update → Type 0) (laws : HistoryLaws F) (s 
       by (inl same) =
           let rank_same : b.rank ≡ a.rank = now ∙ sym same in
           let begins = same-rank-step F d settled a m goes (sym hears.rank ∙ rank_same) in
-          (rank_same, let longer = begins.longer in let here : length b.history ≡ length (next d a m).history = ap length hears.history in omega (arith, longer, here))
+          (rank_same, let longer = begins.reaches in let here : length b.history ≡ length (next d a m).history = ap length hears.history in omega (arith, longer, here))
       by (inr other) = absurd (cc (in_use.1.below a.rank (omega (arith, other, risen)), ap v.dead name, living))
 
     -- other links into the process
@@ -149,7 +151,8 @@ module _ (F : ℕ → ℕ → List Update → Type 0) (laws : HistoryLaws F) (s 
         subst (λ (z : ProcessId). LaneReaches F d settled z i (v.dead z) (head_at (v.process z) d) (replica_of (v.process z) d) b (left z) (v.link p z)) (sym same) (record {
           goes = along-lower F d settled b (next d a m) (left x) hears (subst (Along (next d) (Goes F d settled) a) first lane.goes).1;
           ends = λ living h is_head.
-              let end : EndsAt settled (replica_of (v.process x) d) h (run (next d) (next d a m) (left x)) = subst (λ (link : List Message). EndsAt settled (replica_of (v.process x) d) h (run (next d) a link)) first (lane.ends living h is_head) in
+              let end : EndsAt settled (replica_of (v.process x) d) h (run (next d) (next d a m) (left x)) = subst
+              (λ (link : List Message). EndsAt settled (replica_of (v.process x) d) h (run (next d) a link)) first (lane.ends living h is_head) in
               let lower = lower-run F d settled b (next d a m) (left x) hears in
               record { rank = lower.rank ∙ end.rank; history_is = lower.history ∙ end.history_is; number = let less = lower.number in let most = end.number in omega (arith, less, most) };
           kept = kept_by i is x xin xother;
@@ -214,12 +217,7 @@ module _ (F : ℕ → ℕ → List Update → Type 0) (laws : HistoryLaws F) (s 
     was = around.own keeps
 
     is_head : (g : Head) → head_at new d ≡ Some g → new_head s (suc i) (last_of r) ≡ g
-    is_head g e = some_one (new_head s (suc i) (last_of r)) g (sym heads ∙ e) where
-      some_one : (a b : Head) → Some a ≡ Some b → a ≡ b
-      some_one a b e = ap (in_some a) e where
-        in_some : Head → Option Head → Head
-        in_some d None = d
-        in_some d (Some x) = x
+    is_head g e = some-same (new_head s (suc i) (last_of r)) g (sym heads ∙ e)
 
     new_fits : ReplicaFits F d settled r (head_at new d)
     new_fits = record {
@@ -284,7 +282,9 @@ module _ (F : ℕ → ℕ → List Update → Type 0) (laws : HistoryLaws F) (s 
       lane = around.outward j jin other living
 
       quiet_run : run (next d) seen (out (ParityNode j)) ≡ seen
-      quiet_run = stale-run d seen (out (ParityNode j)) (each-weaker (Stale d 0) (Stale d seen.rank) (λ m stale. ranked-weaker d (λ k. k < 0) (λ k. k < seen.rank) (λ k none. absurd (omega (arith, none))) m stale) (out (ParityNode j)) (around.silent none j jin other living))
+      quiet_run =
+          stale-run d seen (out (ParityNode j))
+          (each-weaker (Stale d 0) (Stale d seen.rank) (λ m stale. ranked-weaker d (λ k. k < 0) (λ k. k < seen.rank) (λ k none. absurd (omega (arith, none))) m stale) (out (ParityNode j)) (around.silent none j jin other living))
 
       taken : run (next d) seen (out (ParityNode j) ++ sent (ParityNode j)) ≡ record { rank = suc i; history = take r.applied seen.history ++ r.log; number = r.applied + length r.log }
       taken =
@@ -293,11 +293,15 @@ module _ (F : ℕ → ℕ → List Update → Type 0) (laws : HistoryLaws F) (s 
           ∙ ap (λ (b : Bool). replaced b (suc i) r.applied r.log seen) (live-is d seen d (suc i) refl (let less = lower_there j jin living in omega (arith, less)))
 
       whole : take r.applied seen.history ++ r.log ≡ history settled r
-      whole = ap (λ (us : List Update). us ++ r.log) (sym (take-take r.applied (length settled) seen.history was.applied) ∙ ap (take r.applied) (around.replicas (ParityNode j) jin other living tt).prolongs.front)
+      whole =
+          ap (λ (us : List Update). us ++ r.log)
+          (sym (take-take r.applied (length settled) seen.history was.applied) ∙ ap (take r.applied) (around.replicas (ParityNode j) jin other living tt).prolongs.front)
 
     hears_by : (x : ProcessId) (j : ℕ) → p ≡ ParityNode j → IsProcess s x → x ≢ p
         → LaneReaches F d settled x j (v.dead x) (head_at (v.process x) d) (replica_of (v.process x) d) (seen_at d settled new) (inn x) (out x ++ sent x)
-    hears_by x j is xin other = head-inward F laws s v members d below p pin lives (suc i) name lower settled (replica_of (v.process x) d) (seen_at d settled new) own_rank x j xin other (inn x) (out x ++ sent x) (around.may x xin other)
+    hears_by x j is xin other =
+        head-inward F laws s v members d below p pin lives (suc i) name lower settled (replica_of (v.process x) d)
+        (seen_at d settled new) own_rank x j xin other (inn x) (out x ++ sent x) (around.may x xin other)
         (λ living. each-append (AckFits d x (seen_at d settled new)) (out x) (sent x)
         (each-weaker (AckFits d x (seen_at d settled old)) (AckFits d x (seen_at d settled new))
         (λ m fits. ack-turned d x (seen_at d settled old) (seen_at d settled new) (λ from. absurd (cc (lower (at 0 old.ranks d) (omega (arith, low)), ap v.dead from, living))) m fits) (out x) ((around.inward x j is xin other).acks living))
@@ -332,9 +336,16 @@ module _ (F : ℕ → ℕ → List Update → Type 0) (laws : HistoryLaws F) (s 
       since = since-trans around.since (record { applied = subst (λ (x : Replica). r.applied ≤ x.applied) (sym same) (omega arith); heads = λ h is. absurd (cc (none, is)) });
       unkept = λ not. absurd (not keeps);
       quiet = λ nothing. absurd (cc (nothing, heads));
-      follows = λ h is. subst (Begins (history (v.settled d) (replica_of (v.process p) d))) (ap (history (v.settled d)) (sym untouched) ∙ ap (λ (us : List Update). history us r) (sym (around.quiet none)) ∙ ap (history settled) (sym same)) (begins-refl (history (v.settled d) (replica_of (v.process p) d)));
+      follows =
+          λ h is. subst (Prolongs (history (v.settled d) (replica_of (v.process p) d)))
+          (ap (history (v.settled d)) (sym untouched) ∙ ap (λ (us : List Update). history us r) (sym (around.quiet none)) ∙ ap (history settled) (sym same))
+          (begins-refl (history (v.settled d) (replica_of (v.process p) d)));
       grew = grew-turned d (v.settled d) settled old new (λ has. absurd (cc (none, has.heads))) around.grew;
-      issued_here = λ j g jin other e. each-weaker (MayStand s v (ParityNode j) p) (AckBelow d (last_of (replica_of new d))) (none-comes (last_of (replica_of new d)) j) (inn (ParityNode j)) (around.may (ParityNode j) jin other);
-      issued_there = λ x j h is xin other living e. each-append (AckBelow d (last_of (replica_of (v.process x) d))) (out x) (sent x) (around.issued_there x j h is xin other living e) (none_acked x (last_of (replica_of (v.process x) d)));
+      issued_here =
+          λ j g jin other e. each-weaker (MayStand s v (ParityNode j) p) (AckBelow d (last_of (replica_of new d))) (none-comes (last_of (replica_of new d)) j)
+          (inn (ParityNode j)) (around.may (ParityNode j) jin other);
+      issued_there =
+          λ x j h is xin other living e. each-append (AckBelow d (last_of (replica_of (v.process x) d))) (out x) (sent x)
+          (around.issued_there x j h is xin other living e) (none_acked x (last_of (replica_of (v.process x) d)));
       issued_else = around.issued_else;
     }

@@ -15,7 +15,6 @@ use Rattle.group_run.specs.Receiving.{adopting}
 use Rattle.group_run.specs.Replica.{Replica, applied_to, last_of, up_to, with_update}
 use Rattle.group_run.specs.World.{front_if, new_ones, settled_in}
 use Rattle.law_histories.proofs.LaneWords.{Prolongs}
-use Rattle.law_histories.proofs.HistoryWords.{Begins}
 
 -- numbers
 pub numbered-append : (a : ℕ) (us vs : List Update) → NumberedFrom a us → NumberedFrom (a + length us) vs → NumberedFrom a (us ++ vs)
@@ -55,8 +54,8 @@ module _ (settled : List Update) (r : Replica) (applied : r.applied ≤ length s
   log-is = drop_at (take r.applied settled) r.log r.applied front-long
 
   -- where more is settled the history is the same
-  pub history-grown : (more : List Update) → Begins settled more → history more r ≡ history settled r
-  history-grown more begins = ap (λ (us : List Update). us ++ r.log) (sym (take-take r.applied (length settled) more applied) ∙ ap (take r.applied) begins.same)
+  pub history-grown : (more : List Update) → Prolongs settled more → history more r ≡ history settled r
+  history-grown more begins = ap (λ (us : List Update). us ++ r.log) (sym (take-take r.applied (length settled) more applied) ∙ ap (take r.applied) begins.front)
 
   pub history-with_update : (u : Update) → history settled (with_update u r) ≡ history settled r ++ u ∷ []
   history-with_update u = sym (append_assoc (take r.applied settled) r.log (u ∷ []))
@@ -162,7 +161,8 @@ settled-more d n settled r applied prolongs numbers more within =
     let m : ℕ = n - a in
     let new : new_ones c (settled_in d (settlements d (up_to n r))) ≡ drop (c - a) (take m r.log) =
     ap (new_ones c) (settled-in-own d (up_to n r))
-    ∙ new-behind c a (take m r.log) (numbered-front (suc a) (take m r.log) (drop m r.log) (subst (NumberedFrom (suc a)) (sym (take-append-drop m r.log)) (log-numbered settled r applied numbers))) applied in
+    ∙ new-behind c a (take m r.log)
+    (numbered-front (suc a) (take m r.log) (drop m r.log) (subst (NumberedFrom (suc a)) (sym (take-append-drop m r.log)) (log-numbered settled r applied numbers))) applied in
     let split : m ≡ (c - a) + (n - c) = omega (arith, more, applied) in
     let long = front-long settled r applied in
     let front : settled ≡ take a settled ++ take (c - a) r.log =
@@ -187,6 +187,7 @@ settled-no-more d n settled r applied prolongs numbers low =
     let taken : length (take m r.log) ≡ m = length-take-le m r.log few in
     let new : new_ones c (settled_in d (settlements d (up_to n r))) ≡ [] =
     ap (new_ones c) (settled-in-own d (up_to n r))
-    ∙ new-behind c a (take m r.log) (numbered-front (suc a) (take m r.log) (drop m r.log) (subst (NumberedFrom (suc a)) (sym (take-append-drop m r.log)) (log-numbered settled r applied numbers))) applied
+    ∙ new-behind c a (take m r.log)
+    (numbered-front (suc a) (take m r.log) (drop m r.log) (subst (NumberedFrom (suc a)) (sym (take-append-drop m r.log)) (log-numbered settled r applied numbers))) applied
     ∙ drop_all (c - a) (take m r.log) (omega (arith, taken, low)) in
     ap (λ (us : List Update). settled ++ us) new ∙ append-nil settled

@@ -18,11 +18,6 @@ pub record ItemsFit (settled : List Update) (replica : Replica) : Type 0 where
   pub items : replica.items ≡ items_after [] (take replica.applied settled)
   pub kept : replica.kept ≡ kept_after (replicate callers None) (take replica.applied settled)
 
--- a history that begins with another
-pub record Begins (front whole : List Update) : Type 0 where
-  pub longer : length front ≤ length whole
-  pub same : take (length front) whole ≡ front
-
 -- what a replica applies that prolongs the settled updates are the settled ones behind its own
 abbrev pub AppliedIsSettled : Type 0
 AppliedIsSettled = (settled : List Update) (r : Replica) (n : ℕ) → r.applied ≤ length settled → Prolongs settled (history settled r) → n ≤ length settled

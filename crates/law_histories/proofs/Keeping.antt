@@ -39,9 +39,9 @@ use Rattle.law_moves.proofs.Members.{Members, Sits, is_notice, knows_lower}
 use Rattle.law_moves.proofs.Calls.{seat-head, seat-known, seat-lower}
 use Rattle.law_moves.proofs.Keeping.{keeps, known-is-dead, living-unknown}
 use Rattle.law_histories.proofs.Issuing.{IssueKeeps, IssuesIn}
-use Rattle.law_histories.proofs.LaneWords.{AckBelow, Goes, next}
+use Rattle.law_histories.proofs.LaneWords.{AckBelow, Goes, next, Prolongs}
 use Rattle.law_histories.proofs.Reach.{IsKeeper, Any, HeadReaches, LaneReaches, PartitionReaches, Reach, ReachAlways, ReplicaFits, ReplicaReaches, seen_at}
-use Rattle.law_histories.proofs.HistoryWords.{Begins, HistoryLaws}
+use Rattle.law_histories.proofs.HistoryWords.{HistoryLaws}
 use Rattle.law_histories.proofs.Acts.{act-pop, act-same}
 use Rattle.law_histories.proofs.Around.{Around, GrewBy, Since, enters, lane-is, left, FollowsBy}
 use Rattle.law_histories.proofs.Calls.{ask-leads, still-ask, still-collect, still-flush}
@@ -84,7 +84,9 @@ module _ (F : ℕ → ℕ → List Update → Type 0) (laws : HistoryLaws F) (s 
   -- what a move of p leaves: what is reached, that no number of applied updates fell and heads stayed, and who
   -- settled what was settled
   abbrev pub Leaves_both : State → State → ProcessId → Type 0
-  Leaves_both v w p = (d : ℕ) → d < s.k → PartitionReaches F s w d × Since d (v.process p) (w.process p) × GrewBy d (v.settled d) (w.settled d) (w.process p) × FollowsBy d (v.settled d) (replica_of (v.process p) d) (w.settled d) (w.process p) × (¬ (IsKeeper d p) → replica_of (w.process p) d ≡ replica_of (v.process p) d)
+  Leaves_both v w p =
+      (d : ℕ) → d < s.k → PartitionReaches F s w d × Since d (v.process p) (w.process p) × GrewBy d (v.settled d) (w.settled d) (w.process p) × FollowsBy d
+      (v.settled d) (replica_of (v.process p) d) (w.settled d) (w.process p) × (¬ (IsKeeper d p) → replica_of (w.process p) d ≡ replica_of (v.process p) d)
 
   -- a process treated something
   module _ (v w : State) (p : ProcessId) (t : ProcessStep) (pin : IsProcess s p) (lives : v.dead p ≡ false) (after : Members s w) (acts : Acted s v w p t) where
@@ -95,7 +97,8 @@ module _ (F : ℕ → ℕ → List Update → Type 0) (laws : HistoryLaws F) (s 
     spared q qin other living = ap (λ (y : Process). knows_dead y.known q) (sym acts.process) ∙ unknown s w after p pin after-lives q qin other (acts.dead q qin ∙ living)
 
     treated : (d : ℕ) → d < s.k → Around F s v d p t.process (λ q. v.link p q ++ sent_to q t.sent) (λ x. v.link x p) (settled_with t.settled d (v.settled d))
-        → PartitionReaches F s w d × Since d (v.process p) (w.process p) × GrewBy d (v.settled d) (w.settled d) (w.process p) × FollowsBy d (v.settled d) (replica_of (v.process p) d) (w.settled d) (w.process p) × (¬ (IsKeeper d p) → replica_of (w.process p) d ≡ replica_of (v.process p) d)
+        → PartitionReaches F s w d × Since d (v.process p) (w.process p) × GrewBy d (v.settled d) (w.settled d) (w.process p) × FollowsBy d (v.settled d)
+        (replica_of (v.process p) d) (w.settled d) (w.process p) × (¬ (IsKeeper d p) → replica_of (w.process p) d ≡ replica_of (v.process p) d)
     treated d below around = (
       left F s v w d p t.process (λ q. v.link p q ++ sent_to q t.sent) (λ x. v.link x p) (settled_with t.settled d (v.settled d)) pin lives (record {
         process = acts.process;
@@ -107,8 +110,10 @@ module _ (F : ℕ → ℕ → List Update → Type 0) (laws : HistoryLaws F) (s 
         settled_is = acts.settled d below;
       }) around,
       subst (Since d (v.process p)) (sym acts.process) around.since,
-      subst (λ (us : List Update). GrewBy d (v.settled d) us (w.process p)) (sym (acts.settled d below)) (subst (GrewBy d (v.settled d) (settled_with t.settled d (v.settled d))) (sym acts.process) around.grew),
-      subst (λ (us : List Update). FollowsBy d (v.settled d) (replica_of (v.process p) d) us (w.process p)) (sym (acts.settled d below)) (subst (FollowsBy d (v.settled d) (replica_of (v.process p) d) (settled_with t.settled d (v.settled d))) (sym acts.process) around.follows),
+      subst (λ (us : List Update). GrewBy d (v.settled d) us (w.process p)) (sym (acts.settled d below))
+          (subst (GrewBy d (v.settled d) (settled_with t.settled d (v.settled d))) (sym acts.process) around.grew),
+      subst (λ (us : List Update). FollowsBy d (v.settled d) (replica_of (v.process p) d) us (w.process p)) (sym (acts.settled d below))
+          (subst (FollowsBy d (v.settled d) (replica_of (v.process p) d) (settled_with t.settled d (v.settled d))) (sym acts.process) around.follows),
       λ not. ap (λ (y : Process). replica_of y d) acts.process ∙ around.unkept not,
     )
 
@@ -130,7 +135,9 @@ module _ (F : ℕ → ℕ → List Update → Type 0) (laws : HistoryLaws F) (s 
   pub asks-both : (v w : State) (p : ProcessId) (name : CallName) (op : Asked) → IsProcess s p → IsUp s v → v.dead p ≡ false → All (λ b. b < 256) (value_of op.act) → IssueKeeps F s v p name op
       → Members s v → Reach F s v → Acted s v w p (ask_process s name op (v.process p)).step → Leaves_both v w p
   asks-both v w p name op pin up lives bytes issues members reach acts d below =
-      treated v w p (ask_process s name op (v.process p)).step pin lives (members_after v w p (ask_process s name op (v.process p)).step pin up lives (Asks name op bytes) members acts) acts d below (by (cases_eq (home_of (key_of op.act) s.k) d))
+      treated v w p (ask_process s name op (v.process p)).step pin lives
+      (members_after v w p (ask_process s name op (v.process p)).step pin up lives (Asks name op bytes) members acts) acts d below
+      (by (cases_eq (home_of (key_of op.act) s.k) d))
     where
       below_e : fnv1a (key_of op.act) % s.k < s.k
       below_e = let first = shaped.k in omega (arith, first)
@@ -140,10 +147,13 @@ module _ (F : ℕ → ℕ → List Update → Type 0) (laws : HistoryLaws F) (s 
 
       leads : (g : Head) → head_at (v.process p) (home_of (key_of op.act) s.k) ≡ Some g → (run : Run) (b : ℕ)
           → found_at s (home_of (key_of op.act) s.k) (v.process p) (v.process p).name run ≡ Missing b → LeadsLost s (v.process p)
-      leads g heads run b missing = leads-lost s v members p pin lives (home_of (key_of op.act) s.k) g run b below_e heads p refl (ap (λ (y : ProcessId). found_at s (home_of (key_of op.act) s.k) (v.process p) y run) (sym (members.named p pin)) ∙ missing)
+      leads g heads run b missing =
+          leads-lost s v members p pin lives (home_of (key_of op.act) s.k) g run b below_e heads p refl
+          (ap (λ (y : ProcessId). found_at s (home_of (key_of op.act) s.k) (v.process p) y run) (sym (members.named p pin)) ∙ missing)
 
       by : (home_of (key_of op.act) s.k ≡ d) ⊎ (home_of (key_of op.act) s.k ≢ d)
-          → Around F s v d p (ask_process s name op (v.process p)).step.process (λ q. v.link p q ++ sent_to q (ask_process s name op (v.process p)).step.sent) (λ x. v.link x p) (settled_with (ask_process s name op (v.process p)).step.settled d (v.settled d))
+          → Around F s v d p (ask_process s name op (v.process p)).step.process (λ q. v.link p q ++ sent_to q (ask_process s name op (v.process p)).step.sent)
+          (λ x. v.link x p) (settled_with (ask_process s name op (v.process p)).step.settled d (v.settled d))
       by (inr other) = still-leads F laws s v members d below p pin lives (λ x. v.link x p) (v.process p) (ask_process s name op (v.process p)).step
           (still-ask s d name op (home_of (key_of op.act) s.k) (v.process p) (head_at (v.process p) (home_of (key_of op.act) s.k)) other leads) (v.link p) (v.settled d) around
       by (inl same) =
@@ -154,7 +164,9 @@ module _ (F : ℕ → ℕ → List Update → Type 0) (laws : HistoryLaws F) (s 
 
   pub collects-both : (v w : State) (p : ProcessId) (caller call : ℕ) → IsProcess s p → IsUp s v → v.dead p ≡ false → Members s v → Reach F s v
       → Acted s v w p (collect_from caller call (v.process p) (range_with_len 0 s.k)).step → Leaves_both v w p
-  collects-both v w p caller call pin up lives members reach acts = still-treated v w p (collect_from caller call (v.process p) (range_with_len 0 s.k)).step pin up lives (Collects caller call) (λ d. still-collect s d caller call (v.process p) (range_with_len 0 s.k)) members reach acts
+  collects-both v w p caller call pin up lives members reach acts =
+      still-treated v w p (collect_from caller call (v.process p) (range_with_len 0 s.k)).step pin up lives (Collects caller call)
+      (λ d. still-collect s d caller call (v.process p) (range_with_len 0 s.k)) members reach acts
 
   pub flushes-both : (v w : State) (p : ProcessId) → IsProcess s p → IsUp s v → v.dead p ≡ false → Members s v → Reach F s v → Acted s v w p (flush_process s (v.process p)).step → Leaves_both v w p
   flushes-both v w p pin up lives members reach acts = still-treated v w p (flush_process s (v.process p)).step pin up lives Flushes (λ d. still-flush s d (v.process p)) members reach acts
@@ -189,23 +201,30 @@ module _ (F : ℕ → ℕ → List Update → Type 0) (laws : HistoryLaws F) (s 
     left_rest y yin other = pops.links y p yin pin (inl other)
 
     arrives : (d : ℕ) → d < s.k
-        → Around F s v d p (receive s x m (v.process p)).process (λ q. v.link p q ++ sent_to q (receive s x m (v.process p)).sent) (λ y. u.link y p) (settled_with (receive s x m (v.process p)).settled d (v.settled d))
-        → PartitionReaches F s w d × Since d (v.process p) (w.process p) × GrewBy d (v.settled d) (w.settled d) (w.process p) × FollowsBy d (v.settled d) (replica_of (v.process p) d) (w.settled d) (w.process p) × (¬ (IsKeeper d p) → replica_of (w.process p) d ≡ replica_of (v.process p) d)
+        → Around F s v d p (receive s x m (v.process p)).process (λ q. v.link p q ++ sent_to q (receive s x m (v.process p)).sent) (λ y. u.link y p)
+        (settled_with (receive s x m (v.process p)).settled d (v.settled d))
+        → PartitionReaches F s w d × Since d (v.process p) (w.process p) × GrewBy d (v.settled d) (w.settled d) (w.process p) × FollowsBy d (v.settled d)
+        (replica_of (v.process p) d) (w.settled d) (w.process p) × (¬ (IsKeeper d p) → replica_of (w.process p) d ≡ replica_of (v.process p) d)
     arrives d below around = (
-      left F s v w d p (receive s x m (v.process p)).process (λ q. v.link p q ++ sent_to q (receive s x m (v.process p)).sent) (λ y. u.link y p) (settled_with (receive s x m (v.process p)).settled d (v.settled d)) pin lives (record {
-        process = acts.process;
-        others = λ q qin other. acts.others q qin other ∙ pops.processes q qin;
-        dead = same_dead;
-        out_is =
-            λ q qin other living. acts.sends q qin (received_spares q qin other living)
-            ∙ ap (λ (link : List Message). link ++ sent_to q (receive s x m (v.process p)).sent) (pops.links p q pin qin (inr other));
-        inn_is = λ y yin other. acts.links y p yin pin other;
-        between = λ y q yin qin other qother. acts.links y q yin qin other ∙ pops.links y q yin qin (inr qother);
-        settled_is = acts.settled d below ∙ ap (settled_with (receive s x m (v.process p)).settled d) (pops.settled d);
-      }) around,
+      left F s v w d p (receive s x m (v.process p)).process (λ q. v.link p q ++ sent_to q (receive s x m (v.process p)).sent) (λ y. u.link y p)
+          (settled_with (receive s x m (v.process p)).settled d (v.settled d)) pin lives (record {
+            process = acts.process;
+            others = λ q qin other. acts.others q qin other ∙ pops.processes q qin;
+            dead = same_dead;
+            out_is =
+                λ q qin other living. acts.sends q qin (received_spares q qin other living)
+                ∙ ap (λ (link : List Message). link ++ sent_to q (receive s x m (v.process p)).sent) (pops.links p q pin qin (inr other));
+            inn_is = λ y yin other. acts.links y p yin pin other;
+            between = λ y q yin qin other qother. acts.links y q yin qin other ∙ pops.links y q yin qin (inr qother);
+            settled_is = acts.settled d below ∙ ap (settled_with (receive s x m (v.process p)).settled d) (pops.settled d);
+          }) around,
       subst (Since d (v.process p)) (sym acts.process) around.since,
-      subst (λ (us : List Update). GrewBy d (v.settled d) us (w.process p)) (sym (acts.settled d below ∙ ap (settled_with (receive s x m (v.process p)).settled d) (pops.settled d))) (subst (GrewBy d (v.settled d) (settled_with (receive s x m (v.process p)).settled d (v.settled d))) (sym acts.process) around.grew),
-      subst (λ (us : List Update). FollowsBy d (v.settled d) (replica_of (v.process p) d) us (w.process p)) (sym (acts.settled d below ∙ ap (settled_with (receive s x m (v.process p)).settled d) (pops.settled d))) (subst (FollowsBy d (v.settled d) (replica_of (v.process p) d) (settled_with (receive s x m (v.process p)).settled d (v.settled d))) (sym acts.process) around.follows),
+      subst (λ (us : List Update). GrewBy d (v.settled d) us (w.process p))
+          (sym (acts.settled d below ∙ ap (settled_with (receive s x m (v.process p)).settled d) (pops.settled d)))
+          (subst (GrewBy d (v.settled d) (settled_with (receive s x m (v.process p)).settled d (v.settled d))) (sym acts.process) around.grew),
+      subst (λ (us : List Update). FollowsBy d (v.settled d) (replica_of (v.process p) d) us (w.process p))
+          (sym (acts.settled d below ∙ ap (settled_with (receive s x m (v.process p)).settled d) (pops.settled d)))
+          (subst (FollowsBy d (v.settled d) (replica_of (v.process p) d) (settled_with (receive s x m (v.process p)).settled d (v.settled d))) (sym acts.process) around.follows),
       λ not. ap (λ (y : Process). replica_of y d) acts.process ∙ around.unkept not,
     )
 
@@ -283,14 +302,19 @@ module _ (F : ℕ → ℕ → List Update → Type 0) (laws : HistoryLaws F) (s 
   receives v u w x p m xin pin apart up lives members reach pops acts d below = (receives-both v u w x p m xin pin apart up lives members reach pops acts d below).0
 
   -- what was settled stays in front
-  pub acted-begins : (v w : State) (p : ProcessId) (t : ProcessStep) → Acted s v w p t → (d : ℕ) → d < s.k → Begins (v.settled d) (w.settled d)
-  acted-begins v w p t acts d below = subst (Begins (v.settled d)) (sym (acts.settled d below)) (settled-begins t.settled d (v.settled d))
+  pub acted-begins : (v w : State) (p : ProcessId) (t : ProcessStep) → Acted s v w p t → (d : ℕ) → d < s.k → Prolongs (v.settled d) (w.settled d)
+  acted-begins v w p t acts d below = subst (Prolongs (v.settled d)) (sym (acts.settled d below)) (settled-begins t.settled d (v.settled d))
 
   -- a process dies: what its links keep still fits
   pub dies : (v w : State) (p : ProcessId) (keep : ℕ) → IsProcess s p → Reach F s v → Died s v w p keep → Reach F s w
   dies v w p keep pin reach died d below = record {
-    replicas = λ q qin living keeps. subst (λ (us : List Update). ReplicaReaches F d us (w.process q)) (sym (died.settled d)) (subst (ReplicaReaches F d (v.settled d)) (sym (died.processes q qin)) ((reach d below).replicas q qin (lived q qin living) keeps));
-    lanes = λ x i xin iin apart living. subst (λ (us : List Update). LaneReaches F d us x i (w.dead x) (head_at (w.process x) d) (replica_of (w.process x) d) (seen_at d us (w.process (ParityNode i))) (w.link x (ParityNode i)) (w.link (ParityNode i) x)) (sym (died.settled d))
+    replicas =
+        λ q qin living keeps. subst (λ (us : List Update). ReplicaReaches F d us (w.process q)) (sym (died.settled d))
+        (subst (ReplicaReaches F d (v.settled d)) (sym (died.processes q qin)) ((reach d below).replicas q qin (lived q qin living) keeps));
+    lanes =
+        λ x i xin iin apart living. subst
+        (λ (us : List Update). LaneReaches F d us x i (w.dead x) (head_at (w.process x) d) (replica_of (w.process x) d) (seen_at d us (w.process (ParityNode i))) (w.link x (ParityNode i)) (w.link (ParityNode i) x))
+        (sym (died.settled d))
         (lane_by x i xin iin apart living (same-cases x p));
     issued = λ x i h xin living iin apart heads. subst (λ (y : Process). Each (AckBelow d (last_of (replica_of y d))) (w.link (ParityNode i) x)) (sym (died.processes x xin))
         (issued_by x i xin living iin (same-cases (ParityNode i) p) ((reach d below).issued x i h xin (lived x xin living) iin apart (ap (λ (y : Process). head_at y d) (sym (died.processes x xin)) ∙ heads)));
@@ -311,13 +335,20 @@ module _ (F : ℕ → ℕ → List Update → Type 0) (laws : HistoryLaws F) (s 
         (each-take (AckBelow d (last_of (replica_of (v.process x) d))) keep (v.link p x) (subst (λ (y : ProcessId). Each (AckBelow d (last_of (replica_of (v.process x) d))) (v.link y x)) same each)) (tt, tt)))
 
     lane_by : (x : ProcessId) (i : ℕ) → IsProcess s x → i < s.m → x ≢ ParityNode i → w.dead (ParityNode i) ≡ false → (x ≡ p) ⊎ (x ≢ p)
-        → LaneReaches F d (v.settled d) x i (w.dead x) (head_at (w.process x) d) (replica_of (w.process x) d) (seen_at d (v.settled d) (w.process (ParityNode i))) (w.link x (ParityNode i)) (w.link (ParityNode i) x)
+        → LaneReaches F d (v.settled d) x i (w.dead x) (head_at (w.process x) d) (replica_of (w.process x) d)
+        (seen_at d (v.settled d) (w.process (ParityNode i))) (w.link x (ParityNode i)) (w.link (ParityNode i) x)
     lane_by x i xin iin apart living (inr other) =
-        lane-is F d (v.settled d) x i (v.dead x) (w.dead x) (head_at (v.process x) d) (head_at (w.process x) d) (replica_of (v.process x) d) (replica_of (w.process x) d) (seen_at d (v.settled d) (v.process (ParityNode i))) (seen_at d (v.settled d) (w.process (ParityNode i))) (v.link x (ParityNode i)) (w.link x (ParityNode i)) (v.link (ParityNode i) x) (w.link (ParityNode i) x)
-        (died.others x xin other) (ap (λ (y : Process). head_at y d) (died.processes x xin)) (ap (λ (y : Process). replica_of y d) (died.processes x xin)) (ap (seen_at d (v.settled d)) (died.processes (ParityNode i) iin))
-        (died.links x (ParityNode i) xin iin other) (λ alive. died.links (ParityNode i) x iin xin (other_than (ParityNode i) living)) ((reach d below).lanes x i xin iin apart (lived (ParityNode i) iin living))
+        lane-is F d (v.settled d) x i (v.dead x) (w.dead x) (head_at (v.process x) d) (head_at (w.process x) d) (replica_of (v.process x) d)
+        (replica_of (w.process x) d) (seen_at d (v.settled d) (v.process (ParityNode i))) (seen_at d (v.settled d) (w.process (ParityNode i)))
+        (v.link x (ParityNode i)) (w.link x (ParityNode i)) (v.link (ParityNode i) x) (w.link (ParityNode i) x)
+        (died.others x xin other) (ap (λ (y : Process). head_at y d) (died.processes x xin)) (ap (λ (y : Process). replica_of y d) (died.processes x xin))
+        (ap (seen_at d (v.settled d)) (died.processes (ParityNode i) iin))
+        (died.links x (ParityNode i) xin iin other) (λ alive. died.links (ParityNode i) x iin xin (other_than (ParityNode i) living))
+        ((reach d below).lanes x i xin iin apart (lived (ParityNode i) iin living))
     lane_by x i xin iin apart living (inl same) = record {
-      goes = subst (λ (link : List Message). Along (next d) (Goes F d (v.settled d)) (seen_at d (v.settled d) (w.process (ParityNode i))) link) (sym (ap (λ (y : ProcessId). w.link y (ParityNode i)) same ∙ died.cut (ParityNode i) iin))
+      goes =
+          subst (λ (link : List Message). Along (next d) (Goes F d (v.settled d)) (seen_at d (v.settled d) (w.process (ParityNode i))) link)
+          (sym (ap (λ (y : ProcessId). w.link y (ParityNode i)) same ∙ died.cut (ParityNode i) iin))
           (subst (λ (y : Process). Along (next d) (Goes F d (v.settled d)) (seen_at d (v.settled d) y) (take keep (v.link p (ParityNode i)) ++ tells.Notice p ∷ [])) (sym (died.processes (ParityNode i) iin))
           (along-append (next d) (Goes F d (v.settled d)) (seen_at d (v.settled d) (v.process (ParityNode i))) (take keep (v.link p (ParityNode i))) (tells.Notice p ∷ [])
           (along-take (next d) (Goes F d (v.settled d)) keep (seen_at d (v.settled d) (v.process (ParityNode i))) (v.link p (ParityNode i)) old.goes) (tt, tt)));
@@ -348,8 +379,13 @@ module _ (F : ℕ → ℕ → List Update → Type 0) (laws : HistoryLaws F) (s 
 
   pub opens : (v : State) → Opens s v → Reach F s v
   opens v starts d below = record {
-    replicas = λ q qin living keeps. subst (λ (us : List Update). ReplicaReaches F d us (v.process q)) (sym (starts.settled d)) (subst (ReplicaReaches F d []) (sym (starts.process q qin)) (subst (λ (r : Replica). ReplicaFits F d [] r (head_at (start q) d)) (sym (no-replica q d)) (fits q)));
-    lanes = λ x i xin iin apart living. subst (λ (us : List Update). LaneReaches F d us x i (v.dead x) (head_at (v.process x) d) (replica_of (v.process x) d) (seen_at d us (v.process (ParityNode i))) (v.link x (ParityNode i)) (v.link (ParityNode i) x)) (sym (starts.settled d))
+    replicas =
+        λ q qin living keeps. subst (λ (us : List Update). ReplicaReaches F d us (v.process q)) (sym (starts.settled d))
+        (subst (ReplicaReaches F d []) (sym (starts.process q qin)) (subst (λ (r : Replica). ReplicaFits F d [] r (head_at (start q) d)) (sym (no-replica q d)) (fits q)));
+    lanes =
+        λ x i xin iin apart living. subst
+        (λ (us : List Update). LaneReaches F d us x i (v.dead x) (head_at (v.process x) d) (replica_of (v.process x) d) (seen_at d us (v.process (ParityNode i))) (v.link x (ParityNode i)) (v.link (ParityNode i) x))
+        (sym (starts.settled d))
         (lane-is F d [] x i (v.dead x) (v.dead x) (head_at (start x) d) (head_at (v.process x) d) (replica_of (start x) d) (replica_of (v.process x) d) (seen_at d [] (start (ParityNode i))) (seen_at d [] (v.process (ParityNode i))) [] (v.link x (ParityNode i)) [] (v.link (ParityNode i) x)
         refl (ap (λ (y : Process). head_at y d) (starts.process x xin)) (ap (λ (y : Process). replica_of y d) (starts.process x xin)) (ap (seen_at d []) (starts.process (ParityNode i) iin)) (starts.links x (ParityNode i) xin iin) (λ alive. starts.links (ParityNode i) x iin xin) (lane x i));
     issued = λ x i h xin living iin apart heads. subst (Each (AckBelow d (last_of (replica_of (v.process x) d)))) (sym (starts.links (ParityNode i) x iin xin)) tt;
@@ -390,7 +426,9 @@ keeps_by F laws s shaped issues = record {
     (keeps s shaped).treats v w p t pin up lives treated both.0 acts,
     treats F laws s shaped v w p t pin up lives (λ name op bytes. issues v p name op pin lives bytes both.0 both.1) treated both.0 both.1 acts,
   );
-  receives = λ v u w x p m xin pin apart up lives both pops acts. ((keeps s shaped).receives v u w x p m xin pin apart up lives both.0 pops acts, receives F laws s shaped v u w x p m xin pin apart up lives both.0 both.1 pops acts);
+  receives =
+      λ v u w x p m xin pin apart up lives both pops acts.
+      ((keeps s shaped).receives v u w x p m xin pin apart up lives both.0 pops acts, receives F laws s shaped v u w x p m xin pin apart up lives both.0 both.1 pops acts);
   dies = λ v w p keep pin both died. ((keeps s shaped).dies v w p keep pin both.0 died, dies F laws s shaped v w p keep pin both.1 died);
 }
 

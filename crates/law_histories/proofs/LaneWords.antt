@@ -54,7 +54,7 @@ next d seen (tells.Notice dead) = seen
 abbrev pub Fine : (ℕ → ℕ → List Update → Type 0) → ℕ → ℕ → List Update → Type 0
 Fine F d a history = NumberedFrom 1 history × F d a history
 
--- a history prolongs the updates that are settled
+-- a history prolongs another, as what is settled: it begins with it
 pub record Prolongs (settled history : List Update) : Type 0 where
   pub reaches : length settled ≤ length history
   pub front : take (length settled) history ≡ settled

@@ -7,7 +7,7 @@ use Rattle.group_types.specs.Each.{Each}
 use Rattle.group_message.specs.declared.message.Message.{Message}
 use Rattle.group_message.specs.declared.message.Message.TheVariants as tells
 use Rattle.group_message.specs.declared.update.Update.{Update}
-use Rattle.law_histories.proofs.HistoryWords.{Begins, RankRises}
+use Rattle.law_histories.proofs.HistoryWords.{RankRises}
 use Rattle.law_histories.proofs.LaneWords.{AdoptGoes, Fine, Goes, Prolongs, Seen, appended, is_live, next, raised, replaced}
 use Rattle.law_histories.proofs.Folds.{run, Along}
 
@@ -124,38 +124,38 @@ pub run-rises : RankRises
 run-rises d seen [] = omega arith
 run-rises d seen (m ∷ ms) = let first = rank-rises d seen m in let rest = run-rises d (next d seen m) ms in omega (arith, first, rest)
 
-pub begins-refl : (us : List Update) → Begins us us
-begins-refl us = record { longer = omega arith; same = take_all (length us) us (omega arith) }
+pub begins-refl : (us : List Update) → Prolongs us us
+begins-refl us = record { reaches = omega arith; front = take_all (length us) us (omega arith) }
 
-pub begins-append : (us vs : List Update) → Begins us (us ++ vs)
-begins-append us vs = record { longer = let long = length-append us vs in omega (arith, long); same = take-append-le (length us) us vs (omega arith) ∙ take_all (length us) us (omega arith) }
+pub begins-append : (us vs : List Update) → Prolongs us (us ++ vs)
+begins-append us vs = record { reaches = let long = length-append us vs in omega (arith, long); front = take-append-le (length us) us vs (omega arith) ∙ take_all (length us) us (omega arith) }
 
-pub begins-trans : (us vs ws : List Update) → Begins us vs → Begins vs ws → Begins us ws
+pub begins-trans : (us vs ws : List Update) → Prolongs us vs → Prolongs vs ws → Prolongs us ws
 begins-trans us vs ws a b = record {
-  longer = let one = a.longer in let two = b.longer in omega (arith, one, two);
-  same = sym (take-take (length us) (length vs) ws a.longer) ∙ ap (take (length us)) b.same ∙ a.same;
+  reaches = let one = a.reaches in let two = b.reaches in omega (arith, one, two);
+  front = sym (take-take (length us) (length vs) ws a.reaches) ∙ ap (take (length us)) b.front ∙ a.front;
 }
 
 module _ (F : ℕ → ℕ → List Update → Type 0) (d : ℕ) (settled : List Update) where
   -- a message that leaves the rank only prolongs what is seen
-  pub same-rank-step : (seen : Seen) (m : Message) → Goes F d settled seen m → (next d seen m).rank ≡ seen.rank → Begins seen.history (next d seen m).history
+  pub same-rank-step : (seen : Seen) (m : Message) → Goes F d settled seen m → (next d seen m).rank ≡ seen.rank → Prolongs seen.history (next d seen m).history
   same-rank-step seen (tells.Update r e u stable) goes same = by (is_live d seen e.0 r.0) where
-    by : (b : Bool) → Begins seen.history (appended b u stable seen).history
+    by : (b : Bool) → Prolongs seen.history (appended b u stable seen).history
     by true = begins-append seen.history (u ∷ [])
     by false = begins-refl seen.history
   same-rank-step seen (tells.Adopt r e base list) goes same = by (is_live d seen e.0 r.0) refl same where
-    by : (b : Bool) → is_live d seen e.0 r.0 ≡ b → (replaced b r.0 base list seen).rank ≡ seen.rank → Begins seen.history (replaced b r.0 base list seen).history
+    by : (b : Bool) → is_live d seen e.0 r.0 ≡ b → (replaced b r.0 base list seen).rank ≡ seen.rank → Prolongs seen.history (replaced b r.0 base list seen).history
     by true live is = let above = (goes live).rank in absurd (omega (arith, above, is))
     by false live is = begins-refl seen.history
   same-rank-step seen (tells.Ack r e n) goes same = begins-refl seen.history
   same-rank-step seen (tells.Stable r e n) goes same = by (is_live d seen e.0 r.0) where
-    by : (b : Bool) → Begins seen.history (raised b n seen).history
+    by : (b : Bool) → Prolongs seen.history (raised b n seen).history
     by true = begins-refl seen.history
     by false = begins-refl seen.history
   same-rank-step seen (tells.ReadBlock session block rows) goes same = begins-refl seen.history
   same-rank-step seen (tells.Block session bytes n) goes same = begins-refl seen.history
   same-rank-step seen (tells.Mark session r block e n) goes same = by (is_live d seen e.0 r.0) where
-    by : (b : Bool) → Begins seen.history (raised b n seen).history
+    by : (b : Bool) → Prolongs seen.history (raised b n seen).history
     by true = begins-refl seen.history
     by false = begins-refl seen.history
   same-rank-step seen (tells.Row session bytes stamp) goes same = begins-refl seen.history
@@ -163,7 +163,7 @@ module _ (F : ℕ → ℕ → List Update → Type 0) (d : ℕ) (settled : List 
   same-rank-step seen (tells.Notice dead) goes same = begins-refl seen.history
 
   -- so does a link that leaves it
-  pub same-rank-begins : (seen : Seen) (ms : List Message) → Along (next d) (Goes F d settled) seen ms → (run (next d) seen ms).rank ≡ seen.rank → Begins seen.history (run (next d) seen ms).history
+  pub same-rank-begins : (seen : Seen) (ms : List Message) → Along (next d) (Goes F d settled) seen ms → (run (next d) seen ms).rank ≡ seen.rank → Prolongs seen.history (run (next d) seen ms).history
   same-rank-begins seen [] goes same = begins-refl seen.history
   same-rank-begins seen (m ∷ ms) goes same =
       let first = rank-rises d seen m in
@@ -227,7 +227,9 @@ module _ (F : ℕ → ℕ → List Update → Type 0) (d : ℕ) (settled : List 
   lower-next : (a b : Seen) (m : Message) → Lower a b → Lower (next d a m) (next d b m)
   lower-next a b (tells.Update r e u stable) lower =
       subst (λ (t : Bool). Lower (appended t u stable a) (appended (is_live d b e.0 r.0) u stable b)) (sym (same-live a b lower e.0 r.0)) (lower-appended (is_live d b e.0 r.0) a b u stable lower)
-  lower-next a b (tells.Adopt r e base list) lower = subst (λ (t : Bool). Lower (replaced t r.0 base list a) (replaced (is_live d b e.0 r.0) r.0 base list b)) (sym (same-live a b lower e.0 r.0)) (lower-replaced (is_live d b e.0 r.0) a b r.0 base list lower)
+  lower-next a b (tells.Adopt r e base list) lower =
+      subst (λ (t : Bool). Lower (replaced t r.0 base list a) (replaced (is_live d b e.0 r.0) r.0 base list b)) (sym (same-live a b lower e.0 r.0))
+      (lower-replaced (is_live d b e.0 r.0) a b r.0 base list lower)
   lower-next a b (tells.Stable r e n) lower =
       subst (λ (t : Bool). Lower (raised t n a) (raised (is_live d b e.0 r.0) n b)) (sym (same-live a b lower e.0 r.0)) (lower-raised (is_live d b e.0 r.0) a b n lower)
   lower-next a b (tells.Mark session r block e n) lower =
@@ -254,7 +256,9 @@ module _ (F : ℕ → ℕ → List Update → Type 0) (d : ℕ) (settled : List 
     fine = subst (λ (us : List Update). Fine F d base (take base us ++ list)) (sym lower.history) old.fine;
   }
   lower-goes a b (tells.Stable r e n) lower goes = λ live. let old = goes (sym (same-live a b lower e.0 r.0) ∙ live) in record { rank = old.rank ∙ sym lower.rank; number_settled = old.number_settled }
-  lower-goes a b (tells.Mark session r block e n) lower goes = λ live. let old = goes (sym (same-live a b lower e.0 r.0) ∙ live) in record { rank = old.rank ∙ sym lower.rank; number_settled = old.number_settled; above = let low = lower.number in let most = old.above in omega (arith, low, most) }
+  lower-goes a b (tells.Mark session r block e n) lower goes =
+      λ live. let old = goes
+      (sym (same-live a b lower e.0 r.0) ∙ live) in record { rank = old.rank ∙ sym lower.rank; number_settled = old.number_settled; above = let low = lower.number in let most = old.above in omega (arith, low, most) }
   lower-goes a b (tells.Ack r e n) lower goes = tt
   lower-goes a b (tells.ReadBlock session block rows) lower goes = tt
   lower-goes a b (tells.Block session bytes n) lower goes = tt

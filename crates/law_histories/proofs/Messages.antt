@@ -131,7 +131,9 @@ fits-adopted F laws d settled r seen rank base list is goes fits = (
   fine = subst (λ (us : List Update). Fine F d base (take base us ++ list)) is goes.fine
 
   whole : history settled (adopting base list (applied_to base r)) ≡ take base (history settled r) ++ list
-  whole = history-adopted settled list base (applied_to base r) moved.applied (omega (arith, moved_is)) (history settled r) (let reach = fits.prolongs.reaches in omega (arith, reach, base_low)) prolongs
+  whole =
+      history-adopted settled list base (applied_to base r) moved.applied (omega (arith, moved_is)) (history settled r)
+      (let reach = fits.prolongs.reaches in omega (arith, reach, base_low)) prolongs
 
 module _ (F : ℕ → ℕ → List Update → Type 0) (laws : HistoryLaws F) (s : Dimensions) (v : State) (members : Members s v) (d : ℕ) (below : d < s.k) (p : ProcessId) (pin : IsProcess s p) (lives : v.dead p ≡ false)
     (spares : (i : ℕ) → i < s.m → ParityNode i ≢ p → v.dead (ParityNode i) ≡ false → knows_dead (v.process p).known (ParityNode i) ≡ false)
@@ -200,9 +202,12 @@ module _ (F : ℕ → ℕ → List Update → Type 0) (laws : HistoryLaws F) (s 
 
   update-here : (b : Bool) (r : ℕ) (u : Update) (stable : ℕ) → nat_le (at 0 proc.ranks d) r ≡ b → First (tells.Update (rank r) (partition d) u stable)
       → Comes (when b proc (ack_to x r d u.number (update_taken s d u stable proc)))
-  update-here false r u stable is first = pops-still (tells.Update (rank r) (partition d) u stable) first (λ i pis. stale-next d seen (tells.Update (rank r) (partition d) u stable) (λ here. grind (arith, common_steps))) (quiet proc) quiet-still
+  update-here false r u stable is first =
+      pops-still (tells.Update (rank r) (partition d) u stable) first
+      (λ i pis. stale-next d seen (tells.Update (rank r) (partition d) u stable) (λ here. grind (arith, common_steps))) (quiet proc) quiet-still
   update-here true r u stable is first =
-      acked (taken u stable) r u.number from.0 (sym goes.rank) (let long = length-history settled (replica_of (taken u stable) d) new_fits.applied in let whole : length (history settled (replica_of (taken u stable) d)) ≡ length (history settled r0 ++ u ∷ []) = ap length hist_new in let more = length-append (history settled r0) (u ∷ []) in let number = last-number (history settled r0) u goes.fine.0 in omega (arith, long, whole, more, number))
+      acked (taken u stable) r u.number from.0 (sym goes.rank)
+      (let long = length-history settled (replica_of (taken u stable) d) new_fits.applied in let whole : length (history settled (replica_of (taken u stable) d)) ≡ length (history settled r0 ++ u ∷ []) = ap length hist_new in let more = length-append (history settled r0) (u ∷ []) in let number = last-number (history settled r0) u goes.fine.0 in omega (arith, long, whole, more, number))
       (act-hear F laws s v members d below p pin lives proc (taken u stable) left settled x m r first rest xin xother from none none hears low (sym goes.rank) new_fits more (parity-keeps parity) around)
     where
       m : Message
@@ -239,7 +244,9 @@ module _ (F : ℕ → ℕ → List Update → Type 0) (laws : HistoryLaws F) (s 
       own = none-fits (head_at proc d) none (around.own (parity-keeps parity))
 
       new_fits : ReplicaFits F d settled (replica_of (taken u stable) d) (head_at (taken u stable) d)
-      new_fits = subst (λ (y : Replica). ReplicaFits F d settled y (head_at proc d)) (sym is_new) (subst (ReplicaFits F d settled (with_update u (applied_to stable r0))) (sym none) (fits-update F laws d settled r0 seen r stable u refl goes own))
+      new_fits =
+          subst (λ (y : Replica). ReplicaFits F d settled y (head_at proc d)) (sym is_new)
+          (subst (ReplicaFits F d settled (with_update u (applied_to stable r0))) (sym none) (fits-update F laws d settled r0 seen r stable u refl goes own))
 
       more : r0.applied ≤ (replica_of (taken u stable) d).applied
       more = subst (λ (y : Replica). r0.applied ≤ y.applied) (sym is_new) (omega arith)
@@ -258,7 +265,8 @@ module _ (F : ℕ → ℕ → List Update → Type 0) (laws : HistoryLaws F) (s 
         history = hist_new;
         number =
             let now : (replica_of (taken u stable) d).applied ≡ (applied_to stable r0).applied = ap (λ (y : Replica). y.applied) is_new in
-            let moves = applied-is settled r0 own.applied stable (let all = length-history settled r0 own.applied in let reach = own.prolongs.reaches in let most = goes.stable_settled in omega (arith, all, reach, most)) in
+            let moves = applied-is settled r0 own.applied stable
+            (let all = length-history settled r0 own.applied in let reach = own.prolongs.reaches in let most = goes.stable_settled in omega (arith, all, reach, most)) in
             omega (arith, now, moves);
       })
 
@@ -267,9 +275,12 @@ module _ (F : ℕ → ℕ → List Update → Type 0) (laws : HistoryLaws F) (s 
       subst (λ (k : ℕ). Comes (update_comes s x r k u stable proc)) (sym same)
       (update-here (nat_le (at 0 proc.ranks d) r) r u stable refl (subst (λ (k : ℕ). First (tells.Update (rank r) (partition k) u stable)) same first))
   update-comes e r u stable first (inr other) =
-      pops-still (tells.Update (rank r) (partition e) u stable) first (λ i pis. stale-next d seen (tells.Update (rank r) (partition e) u stable) (λ here. absurd (other here))) (update_comes s x r e u stable proc)
+      pops-still (tells.Update (rank r) (partition e) u stable) first
+      (λ i pis. stale-next d seen (tells.Update (rank r) (partition e) u stable) (λ here. absurd (other here))) (update_comes s x r e u stable proc)
       (still-when d (nat_le (at 0 proc.ranks e) r) proc (ack_to x r e u.number (update_taken s e u stable proc)) (record {
-        same = same-in-trans (same-apply s d e stable proc other) (record { name = refl; known = refl; head = refl; rank = refl; replica = at-put-other empty_replica (apply_to s e stable proc).replicas e d _ (λ same. other (sym same)) });
+        same =
+            same-in-trans (same-apply s d e stable proc other)
+            (record { name = refl; known = refl; head = refl; rank = refl; replica = at-put-other empty_replica (apply_to s e stable proc).replicas e d _ (λ same. other (sym same)) });
         sent = ((λ here. absurd (other here)), tt);
         quiet = refl;
       }))
@@ -280,7 +291,9 @@ module _ (F : ℕ → ℕ → List Update → Type 0) (laws : HistoryLaws F) (s 
 
   adopt-here : (b : Bool) (r base : ℕ) (list : List Update) → nat_le (at 0 proc.ranks d) r ≡ b → First (tells.Adopt (rank r) (partition d) base list)
       → Comes (when b proc (ack_to x r d (base + length list) (adopted r base list)))
-  adopt-here false r base list is first = pops-still (tells.Adopt (rank r) (partition d) base list) first (λ i pis. stale-next d seen (tells.Adopt (rank r) (partition d) base list) (λ here. grind (arith, common_steps))) (quiet proc) quiet-still
+  adopt-here false r base list is first =
+      pops-still (tells.Adopt (rank r) (partition d) base list) first
+      (λ i pis. stale-next d seen (tells.Adopt (rank r) (partition d) base list) (λ here. grind (arith, common_steps))) (quiet proc) quiet-still
   adopt-here true r base list is first =
       acked (adopted r base list) r (base + length list) from.0 own_rank
       (let long = length-history settled (replica_of (adopted r base list) d) new_fits.applied in
@@ -352,7 +365,8 @@ module _ (F : ℕ → ℕ → List Update → Type 0) (laws : HistoryLaws F) (s 
   adopt-comes e r base list first (inr other) =
       let apart : d ≢ e = λ same. other (sym same) in
       let ranked : SameIn d proc (with_rank e r proc) = record { name = refl; known = refl; head = refl; rank = at-put-other 0 proc.ranks e d r apart; replica = refl } in
-      pops-still (tells.Adopt (rank r) (partition e) base list) first (λ i pis. stale-next d seen (tells.Adopt (rank r) (partition e) base list) (λ here. absurd (other here))) (adopt_comes s x r e base list proc)
+      pops-still (tells.Adopt (rank r) (partition e) base list) first
+      (λ i pis. stale-next d seen (tells.Adopt (rank r) (partition e) base list) (λ here. absurd (other here))) (adopt_comes s x r e base list proc)
       (still-when d (nat_le (at 0 proc.ranks e) r) proc (ack_to x r e (base + length list) (log_adopted s r e base list proc)) (record {
         same = same-in-trans ranked (same-in-trans (same-apply s d e base (with_rank e r proc) other) (record { name = refl; known = refl; head = refl; rank = refl; replica = at-put-other empty_replica (apply_to s e base (with_rank e r proc)).replicas e d _ apart }));
         sent = ((λ here. absurd (other here)), tt);
@@ -363,7 +377,9 @@ module _ (F : ℕ → ℕ → List Update → Type 0) (laws : HistoryLaws F) (s 
   heard-applied : (m : Message) (r n : ℕ) (q : Process) → First m → IsFrom s v x d r → IsParity p → r ≡ at 0 proc.ranks d → n ≤ length settled
       → next d seen m ≡ raised true n seen → SameIn d proc q → Around F s v d p (apply_to s d n q) (v.link p) left settled
   heard-applied m r n q first sent parity same_rank low is same =
-      act-hear F laws s v members d below p pin lives proc (apply_to s d n q) left settled x m r first rest xin xother from none (same.head ∙ none) hears (omega (arith, same_rank)) (same.rank ∙ sym same_rank) fits (subst (λ (y : Replica). (replica_of proc d).applied ≤ y.applied) (sym is_new) (omega arith)) (parity-keeps parity) around
+      act-hear F laws s v members d below p pin lives proc (apply_to s d n q) left settled x m r first rest xin xother from none (same.head ∙ none) hears
+      (omega (arith, same_rank)) (same.rank ∙ sym same_rank) fits
+      (subst (λ (y : Replica). (replica_of proc d).applied ≤ y.applied) (sym is_new) (omega arith)) (parity-keeps parity) around
     where
       from : Used s v d x r
       from = used s v d x d r refl sent
@@ -378,7 +394,9 @@ module _ (F : ℕ → ℕ → List Update → Type 0) (laws : HistoryLaws F) (s 
       is_new = replica-apply_to s d n q ∙ ap (applied_to n) same.replica
 
       fits : ReplicaFits F d settled (replica_of (apply_to s d n q) d) (head_at q d)
-      fits = subst (λ (y : Replica). ReplicaFits F d settled y (head_at q d)) (sym is_new) (subst (ReplicaFits F d settled (applied_to n (replica_of proc d))) (sym (same.head ∙ none)) (fits-applied F laws d settled (replica_of proc d) None n low own))
+      fits =
+          subst (λ (y : Replica). ReplicaFits F d settled y (head_at q d)) (sym is_new)
+          (subst (ReplicaFits F d settled (applied_to n (replica_of proc d))) (sym (same.head ∙ none)) (fits-applied F laws d settled (replica_of proc d) None n low own))
 
       hears : Lower F d settled (seen_at d settled (apply_to s d n q)) (next d seen m)
       hears = subst (Lower F d settled (seen_at d settled (apply_to s d n q))) (sym is) (record {
@@ -386,7 +404,8 @@ module _ (F : ℕ → ℕ → List Update → Type 0) (laws : HistoryLaws F) (s 
         history = ap (history settled) is_new ∙ history-applied settled (replica_of proc d) own.applied own.prolongs n low;
         number =
             let now : (replica_of (apply_to s d n q) d).applied ≡ (applied_to n (replica_of proc d)).applied = ap (λ (y : Replica). y.applied) is_new in
-            let moves = applied-is settled (replica_of proc d) own.applied n (let all = length-history settled (replica_of proc d) own.applied in let reach = own.prolongs.reaches in omega (arith, all, reach, low)) in
+            let moves = applied-is settled (replica_of proc d) own.applied n
+            (let all = length-history settled (replica_of proc d) own.applied in let reach = own.prolongs.reaches in omega (arith, all, reach, low)) in
             omega (arith, now, moves);
       })
 
@@ -394,7 +413,8 @@ module _ (F : ℕ → ℕ → List Update → Type 0) (laws : HistoryLaws F) (s 
   heard-dropped : (m : Message) (r n : ℕ) → First m → IsFrom s v x d r → IsParity p → r ≡ at 0 proc.ranks d → next d seen m ≡ raised true n seen → Around F s v d p proc (v.link p) left settled
   heard-dropped m r n first sent parity same_rank is =
       act-hear F laws s v members d below p pin lives proc proc left settled x m r first rest xin xother from none none
-      (subst (Lower F d settled seen) (sym is) (record { rank = refl; history = refl; number = omega arith })) (omega (arith, same_rank)) (sym same_rank) (around.own (parity-keeps parity)) (omega arith) (parity-keeps parity) around
+      (subst (Lower F d settled seen) (sym is) (record { rank = refl; history = refl; number = omega arith })) (omega (arith, same_rank)) (sym same_rank)
+      (around.own (parity-keeps parity)) (omega arith) (parity-keeps parity) around
     where
       from : Used s v d x r
       from = used s v d x d r refl sent
@@ -417,7 +437,9 @@ module _ (F : ℕ → ℕ → List Update → Type 0) (laws : HistoryLaws F) (s 
       (heard-applied (tells.Stable (rank r) (partition d) n) r n proc first may.0 may.1 goes.rank goes.number_settled (ap (λ (b : Bool). raised b n seen) live) (same-in-refl d proc))
 
   stable-comes : (e r n : ℕ) → First (tells.Stable (rank r) (partition e) n) → (e ≡ d) ⊎ (e ≢ d) → Comes (stable_comes s r e n proc)
-  stable-comes e r n first (inl same) = subst (λ (k : ℕ). Comes (stable_comes s r k n proc)) (sym same) (stable-here (nat_le (at 0 proc.ranks d) r) r n refl (subst (λ (k : ℕ). First (tells.Stable (rank r) (partition k) n)) same first))
+  stable-comes e r n first (inl same) =
+      subst (λ (k : ℕ). Comes (stable_comes s r k n proc)) (sym same)
+      (stable-here (nat_le (at 0 proc.ranks d) r) r n refl (subst (λ (k : ℕ). First (tells.Stable (rank r) (partition k) n)) same first))
   stable-comes e r n first (inr other) =
       pops-still (tells.Stable (rank r) (partition e) n) first (λ i pis. stale-next d seen (tells.Stable (rank r) (partition e) n) (λ here. absurd (other here))) (stable_comes s r e n proc)
       (still-when d (nat_le (at 0 proc.ranks e) r) proc (quiet (apply_to s e n proc)) (still-quiet d proc (apply_to s e n proc) (same-apply s d e n proc other)))
@@ -456,7 +478,10 @@ module _ (F : ℕ → ℕ → List Update → Type 0) (laws : HistoryLaws F) (s 
       → Comes (mark_comes s (parity_number session.leader) session.number r block e n proc)
   mark-comes e session r block n first (inl same) = subst (λ (k : ℕ). Comes (mark_comes s (parity_number session.leader) session.number r block k n proc)) (sym same)
       (mark-here (accepts_mark proc (parity_number session.leader) session.number r d) session r block n refl (subst (λ (k : ℕ). First (tells.Mark session (rank r) block (partition k) n)) same first))
-  mark-comes e session r block n first (inr other) = pops-still (tells.Mark session (rank r) block (partition e) n) first (λ i pis. stale-next d seen (tells.Mark session (rank r) block (partition e) n) (λ here. absurd (other here))) (mark_comes s (parity_number session.leader) session.number r block e n proc)
+  mark-comes e session r block n first (inr other) =
+      pops-still (tells.Mark session (rank r) block (partition e) n) first
+      (λ i pis. stale-next d seen (tells.Mark session (rank r) block (partition e) n) (λ here. absurd (other here)))
+      (mark_comes s (parity_number session.leader) session.number r block e n proc)
       (still-mark s d (parity_number session.leader) session.number r block e n proc other)
 
   -- an acknowledgement
@@ -487,7 +512,9 @@ module _ (F : ℕ → ℕ → List Update → Type 0) (laws : HistoryLaws F) (s 
 
   ack-comes : (y : ProcessId) → x ≡ y → (e r n : ℕ) → First (tells.Ack (rank r) (partition e) n) → (e ≡ d) ⊎ (e ≢ d) → Comes (receive s y (tells.Ack (rank r) (partition e) n) proc)
   ack-comes (DataNode z) is e r n first which = pops-still (tells.Ack (rank r) (partition e) n) first (λ j pis. refl) (quiet proc) quiet-still
-  ack-comes (ParityNode i) is e r n first (inl same) = subst (λ (k : ℕ). Comes (acknowledge s i r k n (head_at proc k) proc)) (sym same) (ack-here i r n is (head_at proc d) refl (subst (λ (k : ℕ). First (tells.Ack (rank r) (partition k) n)) same first))
+  ack-comes (ParityNode i) is e r n first (inl same) =
+      subst (λ (k : ℕ). Comes (acknowledge s i r k n (head_at proc k) proc)) (sym same)
+      (ack-here i r n is (head_at proc d) refl (subst (λ (k : ℕ). First (tells.Ack (rank r) (partition k) n)) same first))
   ack-comes (ParityNode i) is e r n first (inr other) =
       pops-still (tells.Ack (rank r) (partition e) n) first (λ j pis. refl) (acknowledge s i r e n (head_at proc e) proc) (ack-other i r e n (head_at proc e) other)
 

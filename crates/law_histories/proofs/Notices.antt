@@ -57,7 +57,8 @@ module _ (s : Dimensions) (d : ℕ) where
   still-take e p other = still-when d (takes_over p e p.name) p (taken_over s e p) (still-taken_over e p other)
 
   pub same-known : (dead : ProcessId) (p : Process)
-      → (head_at (death_known dead p) d ≡ head_at p d) × (at 0 (death_known dead p).ranks d ≡ at 0 p.ranks d) × (replica_of (death_known dead p) d ≡ replica_of p d) × ((death_known dead p).name ≡ p.name) × ((death_known dead p).known ≡ with_dead p.known dead)
+      → (head_at (death_known dead p) d ≡ head_at p d) × (at 0 (death_known dead p).ranks d ≡ at 0 p.ranks d) ×
+      (replica_of (death_known dead p) d ≡ replica_of p d) × ((death_known dead p).name ≡ p.name) × ((death_known dead p).known ≡ with_dead p.known dead)
   same-known (DataNode e) p = (refl, refl, refl, refl, refl)
   same-known (ParityNode e) p = (refl, refl, refl, refl, refl)
 
@@ -79,13 +80,17 @@ module _ (F : ℕ → ℕ → List Update → Type 0) (laws : HistoryLaws F) (s 
   spares-of q stood i iin other living = ap (λ (k : Membership). knows_dead k (ParityNode i)) stood.knows ∙ spares i iin other living
 
   judges-lead : (proc : Process) → Stood proc → Leads F laws s v members d below p pin lives inn proc (for_each (range_with_len 0 s.k) (judge s) proc)
-  judges-lead proc stood = range-leads F laws s v members d below p pin lives inn (judge s) Stood stood-same (λ e q other. still-judge s d e q other) (λ q stood. judge-leads F laws s v members d below p pin lives inn d q stood.name (spares-of q stood)) s.k 0 proc stood
+  judges-lead proc stood =
+      range-leads F laws s v members d below p pin lives inn (judge s) Stood stood-same (λ e q other. still-judge s d e q other)
+      (λ q stood. judge-leads F laws s v members d below p pin lives inn d q stood.name (spares-of q stood)) s.k 0 proc stood
 
   -- the partition is taken over
   module _ (i : ℕ) (is : p ≡ ParityNode i) where
     lower-dead : knows_dead known (DataNode d) ≡ true → list_all (λ j. knows_dead known (ParityNode j)) (range_with_len 0 i) ≡ true → (j : ℕ) → j < suc i → v.dead (of_rank d j) ≡ true
     lower-dead first rest zero low = dies (DataNode d) below (λ same. cc (same, is)) first
-    lower-dead first rest (suc j) low = dies (ParityNode j) (let within : i < s.m = subst (IsProcess s) is pin in omega (arith, low, within)) (λ same. let equal : j ≡ i = cc (same, is) in absurd (omega (arith, low, equal))) (lower-each known j 0 i rest (omega arith) (omega (arith, low)))
+    lower-dead first rest (suc j) low =
+        dies (ParityNode j) (let within : i < s.m = subst (IsProcess s) is pin in omega (arith, low, within))
+        (λ same. let equal : j ≡ i = cc (same, is) in absurd (omega (arith, low, equal))) (lower-each known j 0 i rest (omega arith) (omega (arith, low)))
 
     taken-leads : (proc : Process) → Stood proc → takes_over proc d (ParityNode i) ≡ true → Leads F laws s v members d below p pin lives inn proc (taken_over s d proc)
     taken-leads proc stood test =
@@ -115,7 +120,9 @@ module _ (F : ℕ → ℕ → List Update → Type 0) (laws : HistoryLaws F) (s 
         noseat = ap (option_map (λ (x : Head). x.rank)) (sym stood.head ∙ none)
 
         lower : (j : ℕ) → j < suc i → v.dead (of_rank d j) ≡ true
-        lower = lower-dead (ap (λ (k : Membership). knows_dead k (DataNode d)) (sym stood.knows) ∙ front.1) (ap (λ (k : Membership). list_all (λ j. knows_dead k (ParityNode j)) (range_with_len 0 i)) (sym stood.knows) ∙ parts.1)
+        lower =
+            lower-dead (ap (λ (k : Membership). knows_dead k (DataNode d)) (sym stood.knows) ∙ front.1)
+            (ap (λ (k : Membership). list_all (λ j. knows_dead k (ParityNode j)) (range_with_len 0 i)) (sym stood.knows) ∙ parts.1)
 
         low : at 0 proc.ranks d ≤ i
         low = let same = stood.rank in let was = by (knows_lower (v.process p).known d i) (subst (Sits (v.process p) d) is (members.sits p d pin lives below)) in omega (arith, same, was) where
@@ -165,7 +172,9 @@ module _ (F : ℕ → ℕ → List Update → Type 0) (laws : HistoryLaws F) (s 
 
     by : (e ≡ d) ⊎ (e ≢ d) → Still d q (take_over_if s e q)
     by (inr other) = still-take s d e q other
-    by (inl same) = subst (λ (x : ℕ). Still d q (take_over_if s x q)) (sym same) (subst (λ (b : Bool). Still d q (when b q (taken_over s d q))) (sym (no_test q.name)) (still-quiet d q q (same-in-refl d q)))
+    by (inl same) =
+        subst (λ (x : ℕ). Still d q (take_over_if s x q)) (sym same)
+        (subst (λ (b : Bool). Still d q (when b q (taken_over s d q))) (sym (no_test q.name)) (still-quiet d q q (same-in-refl d q)))
 
   abbrev closed : Process → ProcessStep
   closed proc = close_sessions s proc.as_leader.sessions proc

@@ -65,7 +65,9 @@ data-applied F s v members reach d below lives = by (fits.heads h heads) where
   fits = (reach d below).replicas (DataNode d) below lives refl
 
   seat : (h : Head) × (head_at (v.process (DataNode d)) d ≡ Some h) × (h.rank ≡ 0)
-  seat = seat-some (head_at (v.process (DataNode d)) d) 0 ((members.sits (DataNode d) d below lives below).0 ∙ (let own : (d == d) ≡ true = grind (arith, common_steps) in ap (λ (b : Bool). if b then Some 0 else None) own))
+  seat =
+      seat-some (head_at (v.process (DataNode d)) d) 0
+      ((members.sits (DataNode d) d below lives below).0 ∙ (let own : (d == d) ≡ true = grind (arith, common_steps) in ap (λ (b : Bool). if b then Some 0 else None) own))
 
   h : Head
   h = seat.0
@@ -90,9 +92,13 @@ module _ (h : History) (members : Members h.world.shape (state_of h)) (reach : R
 
   numbers-kept : NumbersKept h.world h.settled
   numbers-kept = record {
-    at_data = λ d lives. keeps-numbers Any d (at [] h.settled d) (replica_of (process_of h.world (DataNode d)) d) (head_at (process_of h.world (DataNode d)) d) (fits_at (DataNode d) d lives.0 refl lives);
+    at_data =
+        λ d lives. keeps-numbers Any d (at [] h.settled d) (replica_of (process_of h.world (DataNode d)) d) (head_at (process_of h.world (DataNode d)) d)
+        (fits_at (DataNode d) d lives.0 refl lives);
     all_applied = λ d lives. data-applied Any h.world.shape (state_of h) members reach d lives.0 lives.1;
-    at_parity = λ i d below lives. keeps-numbers Any d (at [] h.settled d) (replica_of (process_of h.world (ParityNode i)) d) (head_at (process_of h.world (ParityNode i)) d) (fits_at (ParityNode i) d below tt lives);
+    at_parity =
+        λ i d below lives. keeps-numbers Any d (at [] h.settled d) (replica_of (process_of h.world (ParityNode i)) d)
+        (head_at (process_of h.world (ParityNode i)) d) (fits_at (ParityNode i) d below tt lives);
   }
 
   logs-short : LogsAreShort h.world

@@ -15,7 +15,6 @@ use Rattle.group_types.specs.Each.{Each}
 use Rattle.membership.specs.Members.{knows_dead}
 use Rattle.memc_table.specs.Act.{key_of}
 use Rattle.memc_table.specs.Asked.{Asked}
-use Rattle.memc_table.specs.declared.reply.Reply.{Reply}
 use Rattle.group_message.specs.declared.kept.Kept.{Kept}
 use Rattle.group_message.specs.declared.update.Update.{Update}
 use Rattle.group_calls.specs.Turns.{CallName}
@@ -182,7 +181,9 @@ module _ (s : Dimensions) (v : State) (reached : Reached s v) (told : Told s v) 
   fate-known : (caller call d : ℕ) → d < s.k → (o : Option Head) → head_at (v.process p) d ≡ o → IsKnown (fate_of s caller call d (v.process p) o)
   fate-known caller call d below None heads = tt
   fate-known caller call d below (Some h) heads =
-      subst (λ (us : List Update). IsKnown (fate_unless (is_in_log caller call us) (fate_from (is_adopted s (v.process p) h) call (at None (replica_of (v.process p) d).kept caller)))) (sym (log-empty s v reached told empty p d h pin lives below heads))
+      subst
+      (λ (us : List Update). IsKnown (fate_unless (is_in_log caller call us) (fate_from (is_adopted s (v.process p) h) call (at None (replica_of (v.process p) d).kept caller))))
+      (sym (log-empty s v reached told empty p d h pin lives below heads))
       (subst (λ (b : Bool). IsKnown (fate_from b call (at None (replica_of (v.process p) d).kept caller))) (sym (adopted d h below heads))
       (known-fate call (at None (replica_of (v.process p) d).kept caller)))
 
@@ -251,7 +252,9 @@ module _ (h : History) (reached : Reached h.world.shape (state_of h)) (told : To
         → NotPending (if_up down dead (node_of h.world p) (treated h.world.shape (node_of h.world p) (ask_process h.world.shape (next_name h.world caller) op (process_of h.world p)))).answer
     by true dead is = tt
     by false true is = tt
-    by false false is = asks-now h.world.shape (state_of h) reached told empty p may.1 is (next_name h.world caller) op (home_of (key_of op.act) h.world.shape.k) below (head_at (process_of h.world p) (home_of (key_of op.act) h.world.shape.k)) refl
+    by false false is =
+        asks-now h.world.shape (state_of h) reached told empty p may.1 is (next_name h.world caller) op (home_of (key_of op.act) h.world.shape.k) below
+        (head_at (process_of h.world p) (home_of (key_of op.act) h.world.shape.k)) refl
 
 module _ (s : Dimensions) (es : List Event) (run : IsRun s es) (drained : IsDrained (after s es)) where
   abbrev h : History

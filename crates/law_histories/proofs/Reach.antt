@@ -14,8 +14,7 @@ use Rattle.group_run.specs.Deciding.{window}
 use Rattle.group_run.specs.Process.{Head, Process}
 use Rattle.group_run.specs.Replica.{Replica, last_of}
 use Rattle.group_run.specs.History.{history}
-use Rattle.law_moves.specs.Moves.{HoldsAlways}
-use Rattle.law_moves.specs.State.{State}
+use Rattle.law_moves.specs.State.{State, HoldsAlways}
 use Rattle.law_moves.proofs.Members.{Members}
 use Rattle.law_histories.proofs.HistoryWords.{ItemsFit}
 use Rattle.law_histories.proofs.LaneWords.{AckBelow, AckFits, Fine, Goes, Prolongs, Seen, next}

@@ -224,7 +224,8 @@ module _ (s : Dimensions) (shaped : IsShape s) (v u w : State) (x p : ProcessId)
         let q : Process = apply_to s d base ranked in
         let new : replica_of (log_adopted s r d base list proc) d ≡ adopting base list (replica_of q d) = at-put empty_replica empty_replica q.replicas d (adopting base list (replica_of q d)) in
         let applied : replica_of q d ≡ applied_to base (replica_of proc d) = replica-apply_to s d base ranked in
-        let last : last_of (replica_of (log_adopted s r d base list proc) d) ≡ last_of (adopting base list (applied_to base (replica_of proc d))) = ap last_of (new ∙ ap (adopting base list) applied) in
+        let last : last_of (replica_of (log_adopted s r d base list proc) d) ≡ last_of (adopting base list (applied_to base (replica_of proc d))) = ap last_of
+        (new ∙ ap (adopting base list) applied) in
         let left = length-drop ((applied_to base (replica_of proc d)).applied - base) list in
         let low = (own i is).applied in
         let long = length-history (v.settled d) (replica_of proc d) low in
@@ -265,7 +266,8 @@ plain-ack : (s : Dimensions) (d : ℕ) (x : ProcessId) (r : Rank) (e : Partition
 plain-ack s d (DataNode z) r e n p other = plain-refl d p
 plain-ack s d (ParityNode i) r e n p other = plain-acknowledge s d i r.0 e.0 n (head_at p e.0) p other
 
-module _ (s : Dimensions) (shaped : IsShape s) (v u w : State) (x p : ProcessId) (xin : IsProcess s x) (pin : IsProcess s p) (apart : x ≢ p) (up : IsUp s v) (lives : v.dead p ≡ false) (reached : Reached s v) (told : Told s v) where
+module _ (s : Dimensions) (shaped : IsShape s) (v u w : State) (x p : ProcessId) (xin : IsProcess s x) (pin : IsProcess s p) (apart : x ≢ p) (up : IsUp s v)
+    (lives : v.dead p ≡ false) (reached : Reached s v) (told : Told s v) where
   abbrev Comes : Message → ℕ → Type 0
   Comes m d = (pops : Popped s v u x p m) (acts : Acted s u w p (receive s x m (v.process p))) → All s shaped v u w x p m xin pin apart up lives reached told pops acts d
 
@@ -367,10 +369,13 @@ module _ (s : Dimensions) (shaped : IsShape s) (v u w : State) (x p : ProcessId)
     from_process : (z : ProcessId) → x ≡ z → e.0 ≡ d → All s shaped v u w x p m xin pin apart up lives reached told pops acts d
     from_process (DataNode z) is same = (
       subst (Settles s d) (sym (acts.process ∙ ap (λ (t : ProcessStep). t.process) still)) (told.settles p d pin lives below),
-      head-same s v w p pin (others s shaped v u w x p m xin pin apart up lives reached told pops acts) (dead s shaped v u w x p m xin pin apart up lives reached told pops acts) (between s shaped v u w x p m xin pin apart up lives reached told pops acts) told d below lives
+      head-same s v w p pin (others s shaped v u w x p m xin pin apart up lives reached told pops acts)
+          (dead s shaped v u w x p m xin pin apart up lives reached told pops acts)
+          (between s shaped v u w x p m xin pin apart up lives reached told pops acts) told d below lives
           (ap (λ (y : Process). head_at y d) (acts.process ∙ ap (λ (t : ProcessStep). t.process) still))
           (λ i iin other o. ap (newest d o) (link-same s shaped v u w x p m xin pin apart up lives reached told pops acts i iin other (λ j. cc (j, is)))),
-      sends-same s shaped v u w x p m xin pin apart up lives reached told pops acts d below (ap (λ (t : ProcessStep). at 0 t.process.ranks d) still) (ap (λ (t : ProcessStep). last_of (replica_of t.process d)) still) silent,
+      sends-same s shaped v u w x p m xin pin apart up lives reached told pops acts d below (ap (λ (t : ProcessStep). at 0 t.process.ranks d) still)
+          (ap (λ (t : ProcessStep). last_of (replica_of t.process d)) still) silent,
     ) where
       still : receive s x m proc0 ≡ quiet proc0
       still = ap (λ (y : ProcessId). receive s y m proc0) is
@@ -416,7 +421,9 @@ module _ (s : Dimensions) (shaped : IsShape s) (v u w : State) (x p : ProcessId)
         which (inr new) (inl k) =
             let own_number : i ≡ j = cc (k, is) in
             let g : Head = new.0 in
-            let before : IsTold g.rank (newest d (at None g.acks i) (m ∷ u.link x p)) last = subst (λ (ms : List Message). IsTold g.rank (newest d (at None g.acks i) ms) last) (first k) (old g new.1 (ranked ∙ ap (λ (y : Head). y.rank) new.2)) in
+            let before : IsTold g.rank (newest d (at None g.acks i) (m ∷ u.link x p)) last = subst
+            (λ (ms : List Message). IsTold g.rank (newest d (at None g.acks i) ms) last) (first k)
+            (old g new.1 (ranked ∙ ap (λ (y : Head). y.rank) new.2)) in
             let here : newest d (at None g.acks i) (m ∷ u.link x p) ≡ newest d (Some n) (u.link x p) = ap (λ (o : Option ℕ). newest d o (u.link x p)) (told-here d (at None g.acks i) e.0 n same) in
             let put_here : at None (put None g.acks j (Some n)) i ≡ Some n = ap (at None (put None g.acks j (Some n))) own_number ∙ at-put None None g.acks j (Some n) in
             subst (λ (y : Head). IsTold y.rank (newest d (at None y.acks i) (w.link (ParityNode i) p)) last) (sym new.2)

@@ -69,7 +69,9 @@ module _ (s : Dimensions) (d : ℕ) where
   still-copy_kept : (b : Bool) (copy : Copy) (p : Process) → Still d p (copy_kept b s copy p)
   still-copy_kept true copy p =
       let q : Process = with_copies (without_copy copy.leader copy.number p.as_row.copies) p in
-      still-from d p q (row_finished (same_process p.name (ParityNode copy.leader)) s copy q) (record { name = refl; known = refl; head = refl; rank = refl; replica = refl }) (still-row_finished (same_process p.name (ParityNode copy.leader)) copy q)
+      still-from d p q (row_finished (same_process p.name (ParityNode copy.leader)) s copy q)
+      (record { name = refl; known = refl; head = refl; rank = refl; replica = refl })
+      (still-row_finished (same_process p.name (ParityNode copy.leader)) copy q)
   still-copy_kept false copy p = still-quiet d p _ (record { name = refl; known = refl; head = refl; rank = refl; replica = refl })
 
   pub still-copy_marked : (e n : ℕ) (copy : Option Copy) (p : Process) → Still d p (copy_marked s e n copy p)
@@ -88,7 +90,8 @@ module _ (s : Dimensions) (d : ℕ) where
       → SameIn d (begin_copy s leader number block p) (apply_to s e n (begin_copy s leader number block p)) → Still d p (mark_taken s leader number block e n p)
   still-taken leader number block e n p same =
       let q : Process = apply_to s e n (begin_copy s leader number block p) in
-      still-from d p q (copy_marked s e n (copy_in q.as_row.copies leader number) q) (same-in-trans (same-begin leader number block p) same) (still-copy_marked e n (copy_in q.as_row.copies leader number) q)
+      still-from d p q (copy_marked s e n (copy_in q.as_row.copies leader number) q) (same-in-trans (same-begin leader number block p) same)
+      (still-copy_marked e n (copy_in q.as_row.copies leader number) q)
 
   pub still-mark : (leader number r block e n : ℕ) (p : Process) → e ≢ d → Still d p (mark_comes s leader number r block e n p)
   still-mark leader number r block e n p other =
@@ -111,7 +114,9 @@ module _ (s : Dimensions) (d : ℕ) where
   still-own leader number block l p = by (cases_eq l d) where
     by : (l ≡ d) ⊎ (l ≢ d) → Still d p (own_mark s leader number block l p)
     by (inr other) = still-mark leader number (at 0 p.ranks l) block l (replica_of p l).applied p other
-    by (inl same) = subst (λ (e : ℕ). Still d p (own_mark s leader number block e p)) (sym same) (still-when d (accepts_mark p leader number (at 0 p.ranks d) d) p (mark_taken s leader number block d (replica_of p d).applied p)
+    by (inl same) =
+        subst (λ (e : ℕ). Still d p (own_mark s leader number block e p)) (sym same)
+        (still-when d (accepts_mark p leader number (at 0 p.ranks d) d) p (mark_taken s leader number block d (replica_of p d).applied p)
         (still-taken leader number block d (replica_of p d).applied p here))
       where
         q : Process
@@ -128,7 +133,9 @@ module _ (s : Dimensions) (d : ℕ) where
     marks-told : (l : ℕ) → (l < s.k) × (knows_dead p.known (DataNode l) ≡ true) → Each (λ z. Tells d p z.to z.message) (leader_marks s i number block p l)
     marks-told l at_l =
         let head = leads l at_l.0 at_l.1 in
-        each-map (λ z. Tells d p z.to z.message) (λ j. record { to = ParityNode j; message = tells.Mark (session_of i number) (rank (at 0 p.ranks l)) block (partition l) (replica_of p l).applied }) (filter (λ j. not (j == i)) (rows_of s p))
+        each-map (λ z. Tells d p z.to z.message)
+        (λ j. record { to = ParityNode j; message = tells.Mark (session_of i number) (rank (at 0 p.ranks l)) block (partition l) (replica_of p l).applied })
+        (filter (λ j. not (j == i)) (rows_of s p))
         (each-all (λ j. Tells d p (ParityNode j) (tells.Mark (session_of i number) (rank (at 0 p.ranks l)) block (partition l) (replica_of p l).applied))
         (λ j here. (head.0, ap (head_at p) (sym here) ∙ head.1, head.2, let same : (replica_of p l).applied ≡ (replica_of p d).applied = ap (λ (e : ℕ). (replica_of p e).applied) here in omega (arith, same), let same : (replica_of p l).applied ≡ (replica_of p d).applied = ap (λ (e : ℕ). (replica_of p e).applied) here in let most = none-waits p l s.k 0 none (omega arith) (let in_group = at_l.0 in omega (arith, in_group)) head.0 head.1 in omega (arith, same, most))) (filter (λ j. not (j == i)) (rows_of s p)))
 

@@ -1,4 +1,4 @@
--- Which copies a row keeps: none of a leader that it knows to be dead.
+-- Which copy of a row is spared by a death: one of a leader that the row doesn't know to be dead.
 use Rattle.std.specs.Prelude.{◌≡◌, false}
 use Rattle.group_types.specs.declared.process.ProcessId.TheVariants.{ParityNode}
 use Rattle.group_types.specs.Each.{Each}

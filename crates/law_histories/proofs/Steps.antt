@@ -53,7 +53,9 @@ tells-same d p q same to (tells.Ack r e n) may = λ here. let old = may here in 
 tells-same d p q same to (tells.Stable r e n) may = λ here. let old = may here in (old.0, same.head ∙ old.1, old.2, subst (λ (x : Replica). n ≤ x.applied) (sym same.replica) old.3)
 tells-same d p q same to (tells.ReadBlock session block rows) may = tt
 tells-same d p q same to (tells.Block session bytes n) may = tt
-tells-same d p q same to (tells.Mark session r block e n) may = λ here. let old = may here in (old.0, same.head ∙ old.1, old.2, subst (λ (x : Replica). n ≤ x.applied) (sym same.replica) old.3, subst (λ (x : Replica). max x.applied old.0.inherited ≤ n) (sym same.replica) old.4)
+tells-same d p q same to (tells.Mark session r block e n) may =
+    λ here. let old = may here in
+    (old.0, same.head ∙ old.1, old.2, subst (λ (x : Replica). n ≤ x.applied) (sym same.replica) old.3, subst (λ (x : Replica). max x.applied old.0.inherited ≤ n) (sym same.replica) old.4)
 tells-same d p q same to (tells.Row session bytes stamp) may = tt
 tells-same d p q same to (tells.Cease upto) may = tt
 tells-same d p q same to (tells.Notice dead) may = tt
@@ -132,10 +134,13 @@ sent_to-append q (x ∷ xs) b = by (same_process x.to q) (sent_to-append q xs b)
 pub settled-none : (d : ℕ) (t : List Settlement) (settled : List Update) → settled_in d t ≡ [] → settled_with t d settled ≡ settled
 settled-none d t settled none = ap (λ (us : List Update). settled ++ new_ones (length settled) us) none ∙ append-nil settled
 
-module _ (F : ℕ → ℕ → List Update → Type 0) (laws : HistoryLaws F) (s : Dimensions) (v : State) (members : Members s v) (d : ℕ) (below : d < s.k) (p : ProcessId) (pin : IsProcess s p) (lives : v.dead p ≡ false) (inn : ProcessId → List Message) where
+module _ (F : ℕ → ℕ → List Update → Type 0) (laws : HistoryLaws F) (s : Dimensions) (v : State) (members : Members s v) (d : ℕ) (below : d < s.k)
+    (p : ProcessId) (pin : IsProcess s p) (lives : v.dead p ≡ false) (inn : ProcessId → List Message) where
   -- a step keeps what is reached
   abbrev pub Leads : Process → ProcessStep → Type 0
-  Leads proc t = (out : ProcessId → List Message) (settled : List Update) → Around F s v d p proc out inn settled → Around F s v d p t.process (λ q. out q ++ sent_to q t.sent) inn (settled_with t.settled d settled)
+  Leads proc t =
+      (out : ProcessId → List Message) (settled : List Update) → Around F s v d p proc out inn settled → Around F s v d p t.process
+      (λ q. out q ++ sent_to q t.sent) inn (settled_with t.settled d settled)
 
   -- so does a change that sends and settles nothing
   abbrev pub Turns : Process → Process → Type 0
@@ -191,7 +196,9 @@ module _ (F : ℕ → ℕ → List Update → Type 0) (laws : HistoryLaws F) (s 
   judged_head : (proc : Process) (h : Option Head) → head_at proc d ≡ h → proc.name ≡ p → Spares proc.known → Leads proc (judge_head s d proc h)
   judged_head proc None heads name spares out settled around = still-leads proc (quiet proc) (still-quiet d proc proc (same-in-refl d proc)) out settled around
   judged_head proc (Some h) heads name spares out settled around =
-      subst (λ (o : ProcessId → List Message). Around F s v d p (judge_head s d proc (Some h)).process o inn (settled_with (judge_head s d proc (Some h)).settled d settled)) (λ i. λ q. sym (append-nil (out q)) i)
+      subst
+      (λ (o : ProcessId → List Message). Around F s v d p (judge_head s d proc (Some h)).process o inn (settled_with (judge_head s d proc (Some h)).settled d settled))
+      (λ i. λ q. sym (append-nil (out q)) i)
       (act-settle F laws s v members d below p pin lives proc out inn settled h heads name spares around)
 
   pub judge-leads : (e : ℕ) (proc : Process) → proc.name ≡ p → Spares proc.known → Leads proc (judge s e proc)
@@ -207,7 +214,8 @@ module _ (F : ℕ → ℕ → List Update → Type 0) (laws : HistoryLaws F) (s 
   range-leads f Inv kept others here zero a proc inv = still-leads proc (quiet proc) (still-quiet d proc proc (same-in-refl d proc))
   range-leads f Inv kept others here (suc n) a proc inv =
       by (cases_eq a d) (λ still. range-leads f Inv kept others here n (a + 1) (f a proc).process (kept proc (f a proc).process still.same inv)) where
-        by : (a ≡ d) ⊎ (a ≢ d) → (Still d proc (f a proc) → Leads (f a proc).process (for_each (range_with_len (a + 1) n) f (f a proc).process)) → Leads proc (for_each (range_with_len a (suc n)) f proc)
+        by : (a ≡ d) ⊎ (a ≢ d) → (Still d proc (f a proc) → Leads (f a proc).process (for_each (range_with_len (a + 1) n) f (f a proc).process))
+            → Leads proc (for_each (range_with_len a (suc n)) f proc)
         by (inr other) rest =
             let still : Still d proc (f a proc) = others a proc other in
             then-leads proc (f a proc) (for_each (range_with_len (a + 1) n) f) (still-leads proc (f a proc) still) (rest still) (inl still.quiet)
@@ -215,4 +223,5 @@ module _ (F : ℕ → ℕ → List Update → Type 0) (laws : HistoryLaws F) (s 
             let t : ProcessStep = f a proc in
             let behind : Still d t.process (for_each (range_with_len (a + 1) n) f t.process) = still-each d (range_with_len (a + 1) n) f t.process
             (each-weaker (λ e. e ≢ d) (λ e. (q : Process) → SameIn d t.process q → Still d q (f e q)) (λ e other q sames. others e q other) (range_with_len (a + 1) n) (each-other d n (a + 1) (inl (omega (arith, same))))) in
-            then-leads proc t (for_each (range_with_len (a + 1) n) f) (subst (λ (e : ℕ). Leads proc (f e proc)) (sym same) (here proc inv)) (still-leads t.process (for_each (range_with_len (a + 1) n) f t.process) behind) (inr behind.quiet)
+            then-leads proc t (for_each (range_with_len (a + 1) n) f) (subst (λ (e : ℕ). Leads proc (f e proc)) (sym same) (here proc inv))
+            (still-leads t.process (for_each (range_with_len (a + 1) n) f t.process) behind) (inr behind.quiet)

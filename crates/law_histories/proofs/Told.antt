@@ -12,8 +12,7 @@ use Rattle.group_run.specs.Applying.{head_at, replica_of}
 use Rattle.group_run.specs.Heading.{least_acked, other_parities}
 use Rattle.group_run.specs.Process.{Head, Process}
 use Rattle.group_run.specs.Replica.{last_of}
-use Rattle.law_moves.specs.Moves.{HoldsAlways}
-use Rattle.law_moves.specs.State.{State}
+use Rattle.law_moves.specs.State.{State, HoldsAlways}
 
 -- a head has settled what all acknowledged that it doesn't know dead
 abbrev pub Settles : Dimensions → ℕ → Process → Type 0

@@ -68,13 +68,16 @@ module _ (s : Dimensions) (v w : State) (p : ProcessId) (pin : IsProcess s p) (o
         (subst (λ (y : ProcessId). Acks d i (head_at (w.process y) d) (at 0 (v.process (ParityNode i)).ranks d) (last_of (replica_of (v.process (ParityNode i)) d)) (w.link (ParityNode i) y)) (sym xp)
         ((all d below).1 i iin iother (sym (dead (ParityNode i) iin) ∙ iliving)))
     acks_by x i d xin iin apart xliving iliving below (inr xother) (inl ip) =
-        subst (λ (y : Process). Acks d i (head_at y d) (at 0 (w.process (ParityNode i)).ranks d) (last_of (replica_of (w.process (ParityNode i)) d)) (w.link (ParityNode i) x)) (sym (others x xin xother))
+        subst
+        (λ (y : Process). Acks d i (head_at y d) (at 0 (w.process (ParityNode i)).ranks d) (last_of (replica_of (w.process (ParityNode i)) d)) (w.link (ParityNode i) x))
+        (sym (others x xin xother))
         (subst (λ (y : ProcessId). Acks d i (head_at (v.process x) d) (at 0 (w.process y).ranks d) (last_of (replica_of (w.process y) d)) (w.link y x)) (sym ip)
         ((all d below).2 x i xin xother (sym (dead x xin) ∙ xliving) (sym ip)))
     acks_by x i d xin iin apart xliving iliving below (inr xother) (inr iother) =
         acks-is d i (head_at (v.process x) d) (head_at (w.process x) d) (at 0 (v.process (ParityNode i)).ranks d) (at 0 (w.process (ParityNode i)).ranks d)
         (last_of (replica_of (v.process (ParityNode i)) d)) (last_of (replica_of (w.process (ParityNode i)) d)) (v.link (ParityNode i) x) (w.link (ParityNode i) x)
-        (ap (λ (y : Process). head_at y d) (others x xin xother)) (ap (λ (y : Process). at 0 y.ranks d) (others (ParityNode i) iin iother)) (ap (λ (y : Process). last_of (replica_of y d)) (others (ParityNode i) iin iother))
+        (ap (λ (y : Process). head_at y d) (others x xin xother)) (ap (λ (y : Process). at 0 y.ranks d) (others (ParityNode i) iin iother))
+        (ap (λ (y : Process). last_of (replica_of y d)) (others (ParityNode i) iin iother))
         (λ o. ap (newest d o) (between (ParityNode i) x iin xin iother xother))
         (told.acks x i d xin iin apart (sym (dead x xin) ∙ xliving) (sym (dead (ParityNode i) iin) ∙ iliving) below)
 
@@ -92,7 +95,8 @@ module _ (s : Dimensions) (v w : State) (p : ProcessId) (pin : IsProcess s p) (o
       → ((o : Option ℕ) → newest d o (w.link p x) ≡ newest d o (v.link p x))
       → Acks d i (head_at (v.process x) d) (at 0 (w.process p).ranks d) (last_of (replica_of (w.process p) d)) (w.link p x)
   sender-one d below lives x i xin other living is rank last back =
-      acks-is d i (head_at (v.process x) d) (head_at (v.process x) d) (at 0 (v.process p).ranks d) (at 0 (w.process p).ranks d) (last_of (replica_of (v.process p) d)) (last_of (replica_of (w.process p) d)) (v.link p x) (w.link p x)
+      acks-is d i (head_at (v.process x) d) (head_at (v.process x) d) (at 0 (v.process p).ranks d) (at 0 (w.process p).ranks d)
+      (last_of (replica_of (v.process p) d)) (last_of (replica_of (w.process p) d)) (v.link p x) (w.link p x)
       refl rank last back
       (subst (λ (y : ProcessId). Acks d i (head_at (v.process x) d) (at 0 (v.process y).ranks d) (last_of (replica_of (v.process y) d)) (v.link y x)) (sym is)
       (told.acks x i d xin (subst (IsProcess s) is pin) (λ same. other (same ∙ sym is)) living (ap v.dead (sym is) ∙ lives) below))
@@ -144,7 +148,8 @@ module _ (s : Dimensions) (shaped : IsShape s) where
     acks = λ x i d xin iin apart xliving iliving below.
         acks-is d i (head_at (v.process x) d) (head_at (w.process x) d) (at 0 (v.process (ParityNode i)).ranks d) (at 0 (w.process (ParityNode i)).ranks d)
         (last_of (replica_of (v.process (ParityNode i)) d)) (last_of (replica_of (w.process (ParityNode i)) d)) (v.link (ParityNode i) x) (w.link (ParityNode i) x)
-        (ap (λ (y : Process). head_at y d) (died.processes x xin)) (ap (λ (y : Process). at 0 y.ranks d) (died.processes (ParityNode i) iin)) (ap (λ (y : Process). last_of (replica_of y d)) (died.processes (ParityNode i) iin))
+        (ap (λ (y : Process). head_at y d) (died.processes x xin)) (ap (λ (y : Process). at 0 y.ranks d) (died.processes (ParityNode i) iin))
+        (ap (λ (y : Process). last_of (replica_of y d)) (died.processes (ParityNode i) iin))
         (λ o. ap (newest d o) (died.links (ParityNode i) x iin xin (other_than (ParityNode i) iliving)))
         (told.acks x i d xin iin apart (lived x xin xliving) (lived (ParityNode i) iin iliving) below);
   } where
@@ -172,7 +177,8 @@ module _ (s : Dimensions) (shaped : IsShape s) where
     acks = λ x i d xin iin apart xliving iliving below.
         acks-is d i (head_at (opening_process s x) d) (head_at (v.process x) d) (at 0 (opening_process s (ParityNode i)).ranks d) (at 0 (v.process (ParityNode i)).ranks d)
         (last_of (replica_of (opening_process s (ParityNode i)) d)) (last_of (replica_of (v.process (ParityNode i)) d)) [] (v.link (ParityNode i) x)
-        (ap (λ (y : Process). head_at y d) (starts.process x xin)) (ap (λ (y : Process). at 0 y.ranks d) (starts.process (ParityNode i) iin)) (ap (λ (y : Process). last_of (replica_of y d)) (starts.process (ParityNode i) iin))
+        (ap (λ (y : Process). head_at y d) (starts.process x xin)) (ap (λ (y : Process). at 0 y.ranks d) (starts.process (ParityNode i) iin))
+        (ap (λ (y : Process). last_of (replica_of y d)) (starts.process (ParityNode i) iin))
         (λ o. ap (newest d o) (starts.links (ParityNode i) x iin xin)) (none_told x i d);
   } where
     empty : (p : ProcessId) (d : ℕ) → last_of (replica_of (opening_process s p) d) ≡ 0

@@ -38,7 +38,8 @@ run-push w [] e rest run = (tt, run.0, (run.0, tt))
 run-push w (x ∷ es) e rest run = let later = run-push (step w x).world es e rest run.1 in ((run.0, later.0), later.1, (run.0, later.2))
 
 -- what the start has and every event keeps holds along every run
-module _ (s : Dimensions) (P : Book → Type 0) (start : P (no_book s)) (next : (es : List Event) (e : Event) → IsRun s es → IsRun s (es ++ e ∷ []) → MayCome (after s es) e → P (book_of s es) → P (booked (book_of s es) e)) where
+module _ (s : Dimensions) (P : Book → Type 0) (start : P (no_book s))
+    (next : (es : List Event) (e : Event) → IsRun s es → IsRun s (es ++ e ∷ []) → MayCome (after s es) e → P (book_of s es) → P (booked (book_of s es) e)) where
   along : (done es : List Event) → IsRun s (done ++ es) → P (book_of s done) → P (book_of s (done ++ es))
   along done [] run holds = subst (λ (xs : List Event). P (book_of s xs)) (sym (append-nil done)) holds
   along done (e ∷ es) run holds =

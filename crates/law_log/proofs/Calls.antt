@@ -99,7 +99,8 @@ module _ (s : Dimensions) (nodes : List Node) (settled : List (List Update)) (fr
 
 -- a trace leaves the state
 pub trace-stays : (h : History) (framed : FramedHistory h) (caller call d : ℕ) (p : ProcessId) → IsProcess h.world.shape p → (down dead : Bool)
-    → let t : NodeStep = if_up down dead (node_of h.world p) (unchanged (fate_of h.world.shape caller call d (node_of h.world p).process (head_at (node_of h.world p).process d)) (node_of h.world p)) in
+    → let t : NodeStep = if_up down dead (node_of h.world p)
+    (unchanged (fate_of h.world.shape caller call d (node_of h.world p).process (head_at (node_of h.world p).process d)) (node_of h.world p)) in
     (t.settled ≡ []) × (state_from h.world.shape (with_node h.world.shape p t.node h.world.nodes) (settled_after t.settled (range_with_len 0 h.world.shape.k) h.settled) ≡ state_of h)
 trace-stays h framed caller call d p pin true dead = (refl, quiet-same h.world.shape h.world.nodes h.settled framed _ (node-back h.world.shape h.world.nodes p pin framed.nodes_many))
 trace-stays h framed caller call d p pin false true = (refl, quiet-same h.world.shape h.world.nodes h.settled framed _ (node-back h.world.shape h.world.nodes p pin framed.nodes_many))
@@ -115,15 +116,17 @@ next_call w caller op = record { name = next_name w caller; op = op }
 
 -- the calls that are counted stay so
 pub asked-more : (asked : List ℕ) (c : Call) (calls : List Call) → AreAsked asked calls → AreAsked (asked_after asked (Some c)) calls
-asked-more asked c calls all = each-weaker (λ x. x.name.call < at 0 asked x.name.caller) (λ x. x.name.call < at 0 (asked_after asked (Some c)) x.name.caller) (λ x below. more x below (cases_eq x.name.caller c.name.caller)) calls all where
-  more : (x : Call) → x.name.call < at 0 asked x.name.caller → (x.name.caller ≡ c.name.caller) ⊎ (x.name.caller ≢ c.name.caller)
-      → x.name.call < at 0 (put 0 asked c.name.caller (suc (at 0 asked c.name.caller))) x.name.caller
-  more x below (inr other) = let e = at-put-other 0 asked c.name.caller x.name.caller (suc (at 0 asked c.name.caller)) other in omega arith
-  more x below (inl same) =
-      let e : at 0 (put 0 asked c.name.caller (suc (at 0 asked c.name.caller))) x.name.caller ≡ suc (at 0 asked c.name.caller)
-      = ap (at 0 (put 0 asked c.name.caller (suc (at 0 asked c.name.caller)))) same ∙ at-put 0 0 asked c.name.caller (suc (at 0 asked c.name.caller)) in
-      let was : at 0 asked x.name.caller ≡ at 0 asked c.name.caller = ap (at 0 asked) same in
-      omega arith
+asked-more asked c calls all =
+    each-weaker (λ x. x.name.call < at 0 asked x.name.caller) (λ x. x.name.call < at 0 (asked_after asked (Some c)) x.name.caller)
+    (λ x below. more x below (cases_eq x.name.caller c.name.caller)) calls all where
+      more : (x : Call) → x.name.call < at 0 asked x.name.caller → (x.name.caller ≡ c.name.caller) ⊎ (x.name.caller ≢ c.name.caller)
+          → x.name.call < at 0 (put 0 asked c.name.caller (suc (at 0 asked c.name.caller))) x.name.caller
+      more x below (inr other) = let e = at-put-other 0 asked c.name.caller x.name.caller (suc (at 0 asked c.name.caller)) other in omega arith
+      more x below (inl same) =
+          let e : at 0 (put 0 asked c.name.caller (suc (at 0 asked c.name.caller))) x.name.caller ≡ suc (at 0 asked c.name.caller)
+          = ap (at 0 (put 0 asked c.name.caller (suc (at 0 asked c.name.caller)))) same ∙ at-put 0 0 asked c.name.caller (suc (at 0 asked c.name.caller)) in
+          let was : at 0 asked x.name.caller ≡ at 0 asked c.name.caller = ap (at 0 asked) same in
+          omega arith
 
 pub asked-new : (asked : List ℕ) (caller : ℕ) (op : Asked) → at 0 asked caller < at 0 (put 0 asked caller (suc (at 0 asked caller))) caller
 asked-new asked caller op = let e = at-put 0 0 asked caller (suc (at 0 asked caller)) in omega arith
@@ -135,7 +138,8 @@ asked-if false w caller op = tt
 pub asked-next : (b : Book) (e : Event) → AreAsked b.history.world.asked b.issued → AreAsked (booked b e).history.world.asked (booked b e).issued
 asked-next b (Ask caller op p) all =
     let w : World = b.history.world in
-    each-append (λ c. c.name.call < at 0 (asked_after w.asked (Some (next_call w caller op))) c.name.caller) b.issued (call_if (is_issued (group_step w (Ask caller op p)).answer) (next_call w caller op))
+    each-append (λ c. c.name.call < at 0 (asked_after w.asked (Some (next_call w caller op))) c.name.caller) b.issued
+    (call_if (is_issued (group_step w (Ask caller op p)).answer) (next_call w caller op))
     (asked-more w.asked (next_call w caller op) b.issued all) (asked-if (is_issued (group_step w (Ask caller op p)).answer) w caller op)
 asked-next b (Collect caller call p) all = subst (AreAsked b.history.world.asked) (sym (append-nil b.issued)) all
 asked-next b (Deliver from to) all = subst (AreAsked b.history.world.asked) (sym (append-nil b.issued)) all

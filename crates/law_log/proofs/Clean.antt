@@ -21,16 +21,17 @@ use Rattle.group_run.specs.World.{update_name}
 use Rattle.group_run.specs.History.{history}
 use Rattle.law_moves.specs.State.{State}
 use Rattle.law_moves.proofs.Members.{Members}
-use Rattle.law_histories.proofs.HistoryWords.{Begins, HistoryLaws}
+use Rattle.law_histories.proofs.HistoryWords.{HistoryLaws}
 use Rattle.law_histories.proofs.Issuing.{IssueKeeps}
 use Rattle.law_histories.proofs.Reach.{Reach}
 use Rattle.law_histories.proofs.Around.{GrewBy, keeper-rank}
 use Rattle.law_histories.proofs.Keeping.{Leaves_both}
 use Rattle.law_histories.proofs.Ranks.{head-from}
+use Rattle.law_histories.proofs.LaneWords.{Prolongs}
 use Rattle.law_log.proofs.GoneWords.{IsClean, IsUnnamed, TracesAsked}
 
-pub unnamed-front : (name : CallName) (us vs : List Update) → Begins us vs → IsUnnamed name vs → IsUnnamed name us
-unnamed-front name us vs begins all = subst (IsUnnamed name) begins.same (each-take (λ u. update_name u ≢ name) (length us) vs all)
+pub unnamed-front : (name : CallName) (us vs : List Update) → Prolongs us vs → IsUnnamed name vs → IsUnnamed name us
+unnamed-front name us vs begins all = subst (IsUnnamed name) begins.front (each-take (λ u. update_name u ≢ name) (length us) vs all)
 
 -- one turn more
 contained-one : (last turn : Turn) → Contains (last ∷ []) turn → last ≡ turn
@@ -58,7 +59,7 @@ module _ (turns : List Turn) where
     rises = λ d a b history clean low high turn name there traced gone. clean turn name there traced gone;
   }
 
-  pub clean-front : (d a b : ℕ) (us vs : List Update) → Begins us vs → IsClean turns d a vs → IsClean turns d b us
+  pub clean-front : (d a b : ℕ) (us vs : List Update) → Prolongs us vs → IsClean turns d a vs → IsClean turns d b us
   clean-front d a b us vs begins clean turn name there traced gone = unnamed-front name us vs begins (clean turn name there traced gone)
 
   module _ (s : Dimensions) (shaped : IsShape s) where
@@ -87,4 +88,5 @@ module _ (turns : List Turn) where
       by (inl same) = subst (IsClean turns d 0) (sym same) clean
       by (inr has) =
           let keeps = ((leaves d below).0).replicas p pin living (keeper-rank d has.head.rank p (head-from s w d members below p has.head pin living has.heads).0) in
-          clean-front d (replica_of (w.process p) d).applied 0 (w.settled d) (history (w.settled d) (replica_of (w.process p) d)) (record { longer = keeps.prolongs.reaches; same = keeps.prolongs.front }) keeps.fine.1
+          clean-front d (replica_of (w.process p) d).applied 0 (w.settled d) (history (w.settled d) (replica_of (w.process p) d))
+          keeps.prolongs keeps.fine.1

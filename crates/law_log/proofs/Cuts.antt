@@ -42,14 +42,16 @@ module _ (k d : ℕ) where
 
   -- one more entry
   pub updates-push : (t : Contents) (runs : List (Option Run)) (es : List Entry) (e : Entry) → updates_from k d t runs (es ++ e ∷ [])
-      ≡ updates_from k d t runs es ++ front_if (is_update_of k d e) (record { entry = e; run = next_run (drop (count_in k d es) runs); item = (table_after (table_of t es) e.op).items (key_of e.op.act) }) []
+      ≡ updates_from k d t runs es ++ front_if (is_update_of k d e)
+      (record { entry = e; run = next_run (drop (count_in k d es) runs); item = (table_after (table_of t es) e.op).items (key_of e.op.act) }) []
   updates-push t runs [] e = refl
   updates-push t runs (x ∷ xs) e = by (is_update_of k d x) (λ rest. updates-push (table_after t x.op) rest xs e) where
     by : (b : Bool) → ((rest : List (Option Run)) → updates_from k d (table_after t x.op) rest (xs ++ e ∷ [])
         ≡ updates_from k d (table_after t x.op) rest xs ++ front_if (is_update_of k d e) (record { entry = e; run = next_run (drop (count_in k d xs) rest); item = (table_after (table_of (table_after t x.op) xs) e.op).items (key_of e.op.act) }) [])
         → front_if b (record { entry = x; run = next_run runs; item = (table_after t x.op).items (key_of x.op.act) }) (updates_from k d (table_after t x.op) (runs_left b runs) (xs ++ e ∷ []))
         ≡ front_if b (record { entry = x; run = next_run runs; item = (table_after t x.op).items (key_of x.op.act) }) (updates_from k d (table_after t x.op) (runs_left b runs) xs)
-        ++ front_if (is_update_of k d e) (record { entry = e; run = next_run (drop (one_if b (count_in k d xs)) runs); item = (table_after (table_of (table_after t x.op) xs) e.op).items (key_of e.op.act) }) []
+        ++ front_if (is_update_of k d e)
+        (record { entry = e; run = next_run (drop (one_if b (count_in k d xs)) runs); item = (table_after (table_of (table_after t x.op) xs) e.op).items (key_of e.op.act) }) []
     by false later = later runs
     by true later = ap (λ (us : List Logged). record { entry = x; run = next_run runs; item = (table_after t x.op).items (key_of x.op.act) } ∷ us)
         (later (drop 1 runs) ∙ ap (λ (rest : List (Option Run)). updates_from k d (table_after t x.op) (drop 1 runs) xs

@@ -141,7 +141,8 @@ module _ (s : Dimensions) (some : 1 ≤ s.k) (issued : List Call) (differ : Each
       by : (e : Entry) → EntryStands s issued settled e → name_of e ≢ update_name u
       by e (inr refused) same = each-contained (λ x. x.name ≢ name_of e) issued step-here.call refused.other step-here.asked (sym step-here.name ∙ sym same)
       by e (inl of) same =
-          let one : record { name = name_of e; op = e.op } ≡ step-here.call = same-issued issued (record { name = name_of e; op = e.op }) step-here.call differ of.call step-here.asked (same ∙ step-here.name) in
+          let one : record { name = name_of e; op = e.op } ≡ step-here.call = same-issued issued
+          (record { name = name_of e; op = e.op }) step-here.call differ of.call step-here.asked (same ∙ step-here.name) in
           let home : home_of (key_of e.op.act) s.k ≡ d = ap (λ (x : Call). home_of (key_of x.op.act) s.k) one ∙ step-here.fits.home in
           let there : Contains (at [] settled d) of.update = subst (λ (k : ℕ). Contains (at [] settled k) of.update) home of.there in
           let names : update_name of.update ≡ update_name u = of.named ∙ same in
@@ -187,7 +188,9 @@ module _ (s : Dimensions) (some : 1 ≤ s.k) (issued : List Call) (differ : Each
     entry-stands = record {
       legal = legal-append (empty_table s.k) log (entry ∷ []) stands.legal
           (update-reply s some settled (table_of (empty_table s.k) log) stands.ties d u step-here.call.op step-here.fits.home fits-here step-here.right low, tt);
-      ties = subst (λ (t : Contents). Ties s next t) (sym table-there) (update-ties s some settled (table_of (empty_table s.k) log) stands.ties d u step-here.call.op step-here.fits.home fits-here step-here.right low);
+      ties =
+          subst (λ (t : Contents). Ties s next t) (sym table-there)
+          (update-ties s some settled (table_of (empty_table s.k) log) stands.ties d u step-here.call.op step-here.fits.home fits-here step-here.right low);
       entries = each-append (EntryStands s issued next) log (entry ∷ []) (each-weaker (EntryStands s issued settled) (EntryStands s issued next) entry-more log stands.entries) (
         inl (record {
           call = own-call;

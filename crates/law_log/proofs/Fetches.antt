@@ -141,7 +141,9 @@ module _ (b : Book) (framed : FramedHistory b.history) (stands : StandsIn b) (na
             low = c.low;
             outcome = c.held.outcome;
             replied = c.replied;
-            settles = subst (λ (n : CallName). IsSettledAs (at [] b.history.settled c.partition) n c.held.outcome) (names-is c.held.caller c.held.call (c.caller_is ∙ names.0) (c.call_is ∙ names.1)) settles;
+            settles =
+                subst (λ (n : CallName). IsSettledAs (at [] b.history.settled c.partition) n c.held.outcome)
+                (names-is c.held.caller c.held.call (c.caller_is ∙ names.0) (c.call_is ∙ names.1)) settles;
           }
 
   handed-trace : (caller call d : ℕ) (p : ProcessId) → IsProcess b.history.world.shape p → d < b.history.world.shape.k → (caller ≡ name.caller) × (call ≡ name.call)

@@ -162,10 +162,11 @@ module _ (turns : List Turn) (s : Dimensions) (calls : List Call) (v : State) (c
   told-head (Some h) heads is =
       let unnamed : IsUnnamed told-name (history (v.settled d.0) (replica_of (v.process p) d.0)) =
       gone-unnamed s calls (v.settled d.0) d.0 (v.process p) h (stands.heads up p d.0 h pin lives below heads) caller call is in
-      let adopted : is_adopted s (v.process p) h ≡ true = fate-adopted (is_in_log caller call (replica_of (v.process p) d.0).log) (is_adopted s (v.process p) h) call (at None (replica_of (v.process p) d.0).kept caller) is in
+      let adopted : is_adopted s (v.process p) h ≡ true = fate-adopted (is_in_log caller call (replica_of (v.process p) d.0).log)
+      (is_adopted s (v.process p) h) call (at None (replica_of (v.process p) d.0).kept caller) is in
       let all = told-all (IsClean turns) d.0 (IsUnnamed told-name) (unnamed-front told-name) s v clear.0 clear.1 below p pin lives h heads adopted unnamed in
       let own = (clear.1 d.0 below).replicas p pin lives (keeper-rank d.0 h.rank p (head-from s v d.0 clear.0 below p h pin lives heads).0) in
-      let settled : IsUnnamed told-name (v.settled d.0) = unnamed-front told-name (v.settled d.0) (history (v.settled d.0) (replica_of (v.process p) d.0)) (record { longer = own.prolongs.reaches; same = own.prolongs.front }) unnamed in (
+      let settled : IsUnnamed told-name (v.settled d.0) = unnamed-front told-name (v.settled d.0) (history (v.settled d.0) (replica_of (v.process p) d.0)) own.prolongs unnamed in (
         clear.0,
         reach-weaker (With (IsClean turns) d.0 (IsUnnamed told-name) (unnamed-front told-name)) (IsClean (turns ++ last ∷ []))
             (λ e a us both. clean-more turns last e a a us both.0 (λ name traced gone. let told = is-told name e traced in subst (λ (n : CallName). IsUnnamed n us) told.0 (both.1 told.1))) s v all,
@@ -194,13 +195,16 @@ turn-clear : (b : Book) (e : Event) → FramedHistory b.history → IsShape b.hi
     → TracesAsked b.history.world.shape.k b.history.world.asked b.turns → IsClear b.turns b.history.world.shape (state_of b.history)
     → IsClear (booked b e).turns b.history.world.shape (state_of (booked b e).history)
 turn-clear b (Ask caller op p) framed shaped may stands were clear =
-    clear-more b.turns (step b.history.world (Ask caller op p)).turn b.history.world.shape _ (λ name d traced. absurd traced) (event-clear b.turns b.history (Ask caller op p) framed shaped may were clear)
+    clear-more b.turns (step b.history.world (Ask caller op p)).turn b.history.world.shape _ (λ name d traced. absurd traced)
+    (event-clear b.turns b.history (Ask caller op p) framed shaped may were clear)
 turn-clear b (Collect caller call p) framed shaped may stands were clear =
-    clear-more b.turns (step b.history.world (Collect caller call p)).turn b.history.world.shape _ (λ name d traced. absurd traced) (event-clear b.turns b.history (Collect caller call p) framed shaped may were clear)
+    clear-more b.turns (step b.history.world (Collect caller call p)).turn b.history.world.shape _ (λ name d traced. absurd traced)
+    (event-clear b.turns b.history (Collect caller call p) framed shaped may were clear)
 turn-clear b (Flush p) framed shaped may stands were clear =
     clear-more b.turns (step b.history.world (Flush p)).turn b.history.world.shape _ (λ name d traced. absurd traced) (event-clear b.turns b.history (Flush p) framed shaped may were clear)
 turn-clear b (Deliver from to) framed shaped may stands were clear =
-    clear-more b.turns (step b.history.world (Deliver from to)).turn b.history.world.shape _ (λ name d traced. absurd traced) (event-clear b.turns b.history (Deliver from to) framed shaped may were clear)
+    clear-more b.turns (step b.history.world (Deliver from to)).turn b.history.world.shape _ (λ name d traced. absurd traced)
+    (event-clear b.turns b.history (Deliver from to) framed shaped may were clear)
 turn-clear b (Fail p keep) framed shaped may stands were clear =
     clear-more b.turns (step b.history.world (Fail p keep)).turn b.history.world.shape _ (λ name d traced. absurd traced) (event-clear b.turns b.history (Fail p keep) framed shaped may were clear)
 turn-clear b (Trace caller call d p) framed shaped may stands were clear =

@@ -61,7 +61,9 @@ matched (y ∷ xs) (u ∷ us) (suc i) x all is = matched xs us i x all.2 is
 
 module _ (h : History) (match : AllMatch h.world.shape.k h.world.log h.settled) where
   all-match : (d : ℕ) → d < h.world.shape.k → Matches (entries (updates_of h.world d)) (at [] h.settled d)
-  all-match d below = subst (λ (es : List Entry). Matches es (at [] h.settled d)) (sym (entries-of h.world.shape.k d (empty_table h.world.shape.k) (at [] h.world.places d) h.world.log)) (match d below)
+  all-match d below =
+      subst (λ (es : List Entry). Matches es (at [] h.settled d))
+      (sym (entries-of h.world.shape.k d (empty_table h.world.shape.k) (at [] h.world.places d) h.world.log)) (match d below)
 
   keeps-last : (d : ℕ) (r : Replica) → d < h.world.shape.k → KeptFits (at [] h.settled d) r → KeepsLast h.world d r
   keeps-last d r below fits caller within =
@@ -91,6 +93,7 @@ calls_are_known s stands es run =
     let b : Book = book_of s es in
     let match = match_always s stands es run in
     let kept : KeptStand b.history.world.shape (state_of b.history) =
-    subst (λ (t : Dimensions). KeptStand t (state_of b.history)) (sym (book-shape s es)) (subst (λ (h : History). KeptStand s (state_of h)) (sym (book-history (no_book s) es)) (kept_always s es run)) in
+    subst (λ (t : Dimensions). KeptStand t (state_of b.history)) (sym (book-shape s es))
+    (subst (λ (h : History). KeptStand s (state_of h)) (sym (book-history (no_book s) es)) (kept_always s es run)) in
     let held : HeldAreAt b.history.world.shape (state_of b.history) = subst (λ (t : Dimensions). HeldAreAt t (state_of b.history)) (sym (book-shape s es)) (held-book s es run).2 in
     subst (λ (w : World). KeptIsLast w × HeldIsHeld w) (book-world s es) (kept-is-last b.history match kept, held-is-held b.history match held)

@@ -29,13 +29,14 @@ use Rattle.law_moves.specs.State.{State, state_of}
 use Rattle.law_moves.proofs.State.{Opens}
 use Rattle.law_moves.proofs.Runs.{holds_always}
 use Rattle.law_moves.proofs.Members.{Members}
-use Rattle.law_histories.proofs.HistoryWords.{Begins, HistoryLaws}
+use Rattle.law_histories.proofs.HistoryWords.{HistoryLaws}
 use Rattle.law_histories.proofs.Applies.{settled-begins}
 use Rattle.law_histories.proofs.Histories.{history-grown, log-numbered, numbered-front}
 use Rattle.law_histories.proofs.Reach.{Any, Reach, ReplicaFits, ReplicaReaches}
 use Rattle.law_histories.proofs.Around.{FollowsBy, Since, keeper-rank}
 use Rattle.law_histories.proofs.Keeping.{Leaves_both, keeps_reach, receives-both, treats-both}
 use Rattle.law_histories.proofs.Ranks.{head-from}
+use Rattle.law_histories.proofs.LaneWords.{Prolongs}
 use Rattle.law_log.specs.Book.{book_of, no_book}
 use Rattle.law_log.specs.Stands.{IsSettledAs}
 use Rattle.law_log.proofs.Books.{book-history}
@@ -46,12 +47,12 @@ use Rattle.law_log.proofs.HeldCalls.{held-ask, held-collect, held_of}
 use Rattle.law_log.proofs.Holds.{holds-receive}
 
 -- a history that begins with another has its updates
-pub begins-contains : (front whole : List Update) → Begins front whole → (u : Update) → Contains front u → Contains whole u
+pub begins-contains : (front whole : List Update) → Prolongs front whole → (u : Update) → Contains front u → Contains whole u
 begins-contains front whole begins u there =
     subst (λ (us : List Update). Contains us u) (take-append-drop (length front) whole)
-    (Contains-append_left (take (length front) whole) _ u (subst (λ (us : List Update). Contains us u) (sym begins.same) there))
+    (Contains-append_left (take (length front) whole) _ u (subst (λ (us : List Update). Contains us u) (sym begins.front) there))
 
-held-more : (front whole : List Update) → Begins front whole → (x : Held) → IsHeldOf front x → IsHeldOf whole x
+held-more : (front whole : List Update) → Prolongs front whole → (x : Held) → IsHeldOf front x → IsHeldOf whole x
 held-more front whole begins x is =
     record { update = is.update; there = begins-contains front whole begins is.update is.there; number = is.number; caller = is.caller; call = is.call; outcome = is.outcome }
 
@@ -81,7 +82,7 @@ held-moved d old settled p q fits since follows moves = record { heads = λ h he
 
 -- another process's history stays where more is settled
 held-stays : (d : ℕ) (old settled : List Update) (p : Process) → ((h : Head) → head_at p d ≡ Some h → (replica_of p d).applied ≤ length old)
-    → Begins old settled → HeldFits old d p → HeldFits settled d p
+    → Prolongs old settled → HeldFits old d p → HeldFits settled d p
 held-stays d old settled p applied begins fits = record {
   heads = λ h heads. subst (λ (us : List Update). Each (IsHeldOf us) (held_at p d)) (sym (history-grown old (replica_of p d) (applied h heads) settled begins)) (fits.heads h heads);
   none = fits.none;
@@ -92,7 +93,7 @@ any-laws = record { start = λ d. tt; rises = λ d a b history any low high. tt 
 
 module _ (s : Dimensions) (shaped : IsShape s) where
   all-held : (v w : State) (p : ProcessId) → Members s v → Reach Any s v → Leaves_both Any any-laws s shaped v w p
-      → ((q : ProcessId) → IsProcess s q → q ≢ p → w.process q ≡ v.process q) → ((q : ProcessId) → IsProcess s q → w.dead q ≡ v.dead q) → ((d : ℕ) → d < s.k → Begins (v.settled d) (w.settled d))
+      → ((q : ProcessId) → IsProcess s q → q ≢ p → w.process q ≡ v.process q) → ((q : ProcessId) → IsProcess s q → w.dead q ≡ v.dead q) → ((d : ℕ) → d < s.k → Prolongs (v.settled d) (w.settled d))
       → ((d : ℕ) → HoldsOn d (v.process p) (w.process p)) → HeldStand s v → HeldStand s w
   all-held v w p members reach leaves others dead begins moves stand q d qin living below = by (same-cases q p) where
     lived : v.dead q ≡ false
@@ -123,14 +124,15 @@ module _ (s : Dimensions) (shaped : IsShape s) where
     treats = λ v w p t pin up lives treated both acts. (
       (keeps_reach s shaped).treats v w p t pin up lives treated both.0 acts,
       all-held v w p both.0.0 both.0.1 (treats-both Any any-laws s shaped v w p t pin up lives (λ name op bytes h body outcome heads is. tt) treated both.0.0 both.0.1 acts) acts.others acts.dead
-          (λ d below. subst (Begins (v.settled d)) (sym (acts.settled d below)) (settled-begins t.settled d (v.settled d)))
+          (λ d below. subst (Prolongs (v.settled d)) (sym (acts.settled d below)) (settled-begins t.settled d (v.settled d)))
           (λ d. subst (HoldsOn d (v.process p)) (sym acts.process) (treats-hold (v.process p) t treated d)) both.1,
     );
     receives = λ v u w x p m xin pin apart up lives both pops acts. (
       (keeps_reach s shaped).receives v u w x p m xin pin apart up lives both.0 pops acts,
-      all-held v w p both.0.0 both.0.1 (receives-both Any any-laws s shaped v u w x p m xin pin apart up lives both.0.0 both.0.1 pops acts) (λ q qin other. acts.others q qin other ∙ pops.processes q qin)
+      all-held v w p both.0.0 both.0.1 (receives-both Any any-laws s shaped v u w x p m xin pin apart up lives both.0.0 both.0.1 pops acts)
+          (λ q qin other. acts.others q qin other ∙ pops.processes q qin)
           (λ q qin. acts.dead q qin ∙ pops.dead q qin)
-          (λ d below. subst (Begins (v.settled d)) (sym (acts.settled d below ∙ ap (settled_with (receive s x m (v.process p)).settled d) (pops.settled d))) (settled-begins (receive s x m (v.process p)).settled d (v.settled d)))
+          (λ d below. subst (Prolongs (v.settled d)) (sym (acts.settled d below ∙ ap (settled_with (receive s x m (v.process p)).settled d) (pops.settled d))) (settled-begins (receive s x m (v.process p)).settled d (v.settled d)))
           (λ d P all more. subst (λ (y : Process). Each P (held_at y d)) (sym acts.process) (subst (λ (held : List (List Held)). Each P (at [] held d)) (sym (holds-receive s x m (v.process p))) all)) both.1,
     );
     dies = λ v w p keep pin both died. ((keeps_reach s shaped).dies v w p keep pin both.0 died, λ q d qin living below. after v w p keep died both.1 q d qin living below (same-cases q p));
@@ -177,7 +179,8 @@ held-settled s v members reach stand p d x pin living below there low = by (head
       ended = of.outcome;
     }
     in_part (inr logged) =
-        let above : suc r.applied ≤ of.update.number = each-contained (λ u. suc r.applied ≤ u.number) r.log of.update (numbered-low (suc r.applied) r.log (log-numbered (v.settled d) r reaches.applied reaches.fine.0)) logged in
+        let above : suc r.applied ≤ of.update.number = each-contained (λ u. suc r.applied ≤ u.number) r.log of.update
+        (numbered-low (suc r.applied) r.log (log-numbered (v.settled d) r reaches.applied reaches.fine.0)) logged in
         let number = of.number in
         absurd (omega (arith, above, number, low))
 
@@ -219,13 +222,17 @@ held-at d settled r head fits x of = record {
       let number = numbered-at 1 settled (x.number - 1) u numbered is in
       let above = each-contained (λ v. 1 ≤ v.number) (history settled r) of.update (numbered-low 1 (history settled r) fits.fine.0) of.there in
       let named = of.number in
-      same u (begins-contains settled (history settled r) (record { longer = fits.prolongs.reaches; same = fits.prolongs.front }) u (get-contained settled (x.number - 1) u is)) (omega (arith, number, above, named));
+      same u
+      (begins-contains settled (history settled r) fits.prolongs u (get-contained settled (x.number - 1) u is))
+      (omega (arith, number, above, named));
   waits = λ u high is.
       let number = numbered-at (suc r.applied) r.log (x.number - r.applied - 1) u (log-numbered settled r fits.applied fits.fine.0) is in
       same u (Contains-append_right (take r.applied settled) r.log u (get-contained r.log (x.number - r.applied - 1) u is)) (omega (arith, number, high));
 } where
   numbered : NumberedFrom 1 settled
-  numbered = subst (NumberedFrom 1) fits.prolongs.front (numbered-front 1 (take (length settled) (history settled r)) (drop (length settled) (history settled r)) (subst (NumberedFrom 1) (sym (take-append-drop (length settled) (history settled r))) fits.fine.0))
+  numbered =
+      subst (NumberedFrom 1) fits.prolongs.front
+      (numbered-front 1 (take (length settled) (history settled r)) (drop (length settled) (history settled r)) (subst (NumberedFrom 1) (sym (take-append-drop (length settled) (history settled r))) fits.fine.0))
 
   same : (u : Update) → Contains (history settled r) u → u.number ≡ x.number → IsHeldFrom x u
   same u there number =

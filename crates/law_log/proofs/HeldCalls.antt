@@ -65,7 +65,9 @@ log-has r u n number test = by (cases_lt (length r.log) (n - r.applied)) where
   by (inl more) =
       let all : length (take (n - r.applied) (r.log ++ u ∷ [])) ≡ length (r.log ++ u ∷ []) = ap length (take_all (n - r.applied) (r.log ++ u ∷ []) (omega (arith, more, whole))) in
       absurd (omega (arith, above, all, whole, number))
-  by (inr low) = subst (λ (us : List Update). Contains us u) (sym (drop-append-le (n - r.applied) r.log (u ∷ []) low)) (Contains-append_right (drop (n - r.applied) r.log) (u ∷ []) u (0, omega arith, refl))
+  by (inr low) =
+      subst (λ (us : List Update). Contains us u) (sym (drop-append-le (n - r.applied) r.log (u ∷ []) low))
+      (Contains-append_right (drop (n - r.applied) r.log) (u ∷ []) u (0, omega arith, refl))
 
 log-judged : (s : Dimensions) (e : ℕ) (q : Process) (h : Option Head) (r : Replica) (u : Update) → replica_of q e ≡ with_update u r → u.number ≡ suc (last_of r)
     → nat_le u.number (replica_of (judge_head s e q h).process e).applied ≡ false → Contains (replica_of (judge_head s e q h).process e).log u

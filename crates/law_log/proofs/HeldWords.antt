@@ -9,8 +9,7 @@ use Rattle.group_run.specs.Applying.{head_at, held_at, replica_of}
 use Rattle.group_run.specs.Process.{Head, Held, Process}
 use Rattle.group_run.specs.Replica.{Replica}
 use Rattle.group_run.specs.History.{history}
-use Rattle.law_moves.specs.Moves.{HoldsAlways}
-use Rattle.law_moves.specs.State.{State}
+use Rattle.law_moves.specs.State.{State, HoldsAlways}
 use Rattle.law_log.specs.Stands.{IsSettledAs}
 
 -- a held call is of an update of a history

@@ -85,7 +85,10 @@ module _ (s : Dimensions) (always : StandsAlways s) (es : List Event) (run : IsR
     applied = let within = stands.within in let long = many in omega arith;
     reached = let reached = stands.reached in let long = many in omega arith;
     settled = record {
-      items = λ key home. subst (λ (items : Items). IsItem (slot_in items key) ((table_at (after s es) d r.applied).items key) (run_on key None (take r.applied (updates_of (after s es) d)))) (sym stands.items)
+      items =
+          λ key home. subst
+          (λ (items : Items). IsItem (slot_in items key) ((table_at (after s es) d r.applied).items key) (run_on key None (take r.applied (updates_of (after s es) d))))
+          (sym stands.items)
           (log-shows.items r.applied stands.within key (ap (λ (t : Dimensions). home_of key t.k) (sym shape-is) ∙ home));
       homes = subst (λ (items : Items). All (λ x. home_of x.0 (after s es).shape.k ≡ d) items) (sym stands.items)
           (subst (λ (t : Dimensions). All (λ x. home_of x.0 t.k ≡ d) (items_after [] (take r.applied settled))) (sym shape-is) fine-items.homes);

@@ -8,8 +8,7 @@ use Rattle.group_message.specs.declared.kept.Kept.{Kept}
 use Rattle.group_message.specs.declared.update.Update.{Update}
 use Rattle.group_run.specs.Applying.{replica_of}
 use Rattle.group_run.specs.Replica.{Replica}
-use Rattle.law_moves.specs.Moves.{HoldsAlways}
-use Rattle.law_moves.specs.State.{State}
+use Rattle.law_moves.specs.State.{State, HoldsAlways}
 use Rattle.law_histories.proofs.Reach.{IsKeeper}
 use Rattle.law_log.specs.Stands.{IsSettledAs}
 

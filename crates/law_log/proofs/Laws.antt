@@ -1,4 +1,4 @@
--- The laws of the log, along every run in which heads stand.
+-- The log stands beside what is settled, and a head issues what prolongs its fine history.
 use Rattle.std.specs.Prelude.{ℕ, ◌≡◌, List, [], ◌∷◌, ◌++◌}
 use Rattle.group_types.specs.Dimensions.{Dimensions, space_of}
 use Rattle.group_types.specs.Hash.{home_of}

@@ -1,5 +1,5 @@
 -- The log along every run.
-use Rattle.std.proofs.Common.{false, ℕ, suc, map, ◌≡◌, ◌≤◌, List, [], ◌∷◌, ◌++◌, length, ◌⊎◌, inl, inr, Option, Some, None, refl, sym, ap, subst, ◌∙◌}
+use Rattle.std.proofs.Common.{false, ℕ, suc, map, ◌≡◌, ◌≤◌, List, [], ◌∷◌, ◌++◌, length, ◌⊎◌, inl, inr, Some, refl, sym, ap, subst, ◌∙◌}
 use Rattle.std.proofs.lemmas.List.{append_assoc, append-nil}
 use Rattle.group_types.specs.Dimensions.{Dimensions}
 use Rattle.group_types.specs.Hash.{home_of}
@@ -20,7 +20,7 @@ use Rattle.group_calls.specs.declared.event.Answer.TheVariants as says
 use Rattle.group_calls.specs.declared.event.Event.{Event}
 use Rattle.group_calls.specs.declared.event.Event.TheVariants.{Ask, Collect, Deliver, Fail, Flush, Trace}
 use Rattle.law_moves.proofs.Events.{FramedHistory}
-use Rattle.law_moves.proofs.Reading.{grown-is}
+use Rattle.law_moves.proofs.Reading.{grown-is, some-same}
 use Rattle.law_moves.specs.State.{State, state_of}
 use Rattle.group_run.specs.Asking.{ask_process}
 use Rattle.group_run.specs.Headline.{IsRun, MayCome}
@@ -54,9 +54,6 @@ call-next w (Fail p keep) = tt
 call-next w (Flush p) = tt
 call-next w (Trace caller call d p) = tt
 
-same-call : (a b : Call) → Some a ≡ Some b → a ≡ b
-same-call a b is = ap (λ (o : Option Call). elim o [ None ↦ a | Some x ↦ x ]) is
-
 -- the answers that aren't of a process
 pub idle-no-reply : (answer : Answer) (reply : Reply) → (answer ≡ says.Down) ⊎ (answer ≡ says.Lost) → answer ≡ says.Reply reply → ⊥
 idle-no-reply answer reply (inl down) is = cc (down, is)
@@ -69,7 +66,7 @@ module _ (b : Book) (framed : FramedHistory b.history) (stands : StandsIn b) (so
   ask-refuses caller op p pin c reply is answered refused =
       let h : History = b.history in
       subst (λ (x : Call). ruling_in (store_after h.world.shape (home_of (key_of x.op.act) h.world.shape.k) (at [] h.settled (home_of (key_of x.op.act) h.world.shape.k)))
-      (suc (length (at [] h.settled (home_of (key_of x.op.act) h.world.shape.k)))) x.op ≡ Refused reply) (same-call (next_call h.world caller op) c is)
+      (suc (length (at [] h.settled (home_of (key_of x.op.act) h.world.shape.k)))) x.op ≡ Refused reply) (some-same (next_call h.world caller op) c is)
       (by (call-comes h.world.shape h.world.nodes h.settled framed p (ask_process h.world.shape (next_name h.world caller) op (node_of h.world p).process) pin (node_of h.world p).down (node_of h.world p).dead refl refl) answered)
     where
       by : {w : State} {answer : Answer}
@@ -79,7 +76,8 @@ module _ (b : Book) (framed : FramedHistory b.history) (stands : StandsIn b) (so
           (suc (length (at [] b.history.settled (home_of (key_of op.act) b.history.world.shape.k)))) op ≡ Refused reply
       by {w} {answer} (Idle same idle) said = absurd (idle-no-reply answer reply idle said)
       by {w} {answer} (Acts up lives acts its) said =
-          ask-refused b.history.world.shape b.issued (at [] b.history.settled (home_of (key_of op.act) b.history.world.shape.k)) (next_call b.history.world caller op) (node_of b.history.world p).process
+          ask-refused b.history.world.shape b.issued (at [] b.history.settled (home_of (key_of op.act) b.history.world.shape.k))
+          (next_call b.history.world caller op) (node_of b.history.world p).process
           (λ head heads. stands.heads up p (home_of (key_of op.act) b.history.world.shape.k) head pin lives (home-below (key_of op.act) b.history.world.shape.k some) heads)
           reply (sym its ∙ said) refused (suc (length (at [] b.history.settled (home_of (key_of op.act) b.history.world.shape.k))))
 

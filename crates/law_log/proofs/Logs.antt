@@ -144,7 +144,9 @@ module _ (s : Dimensions) (some : 1 ≤ s.k) (issued : List Call) (log : List En
   grown-if true c next all = record {
     stands = stands-more c next;
     has_tickets = tickets-push log issued tickets c (length log) logs.has_tickets;
-    differ = each_two-push (λ x y. x.name ≢ y.name) issued c logs.differ (each-weaker (λ x. x.name.call < at 0 asked x.name.caller) (λ x. x.name ≢ c.name) (λ x below. next-new asked c x.name next below) issued all);
+    differ =
+        each_two-push (λ x y. x.name ≢ y.name) issued c logs.differ
+        (each-weaker (λ x. x.name.call < at 0 asked x.name.caller) (λ x. x.name ≢ c.name) (λ x below. next-new asked c x.name next below) issued all);
   }
   grown-if false c next all = subst (λ (now : List Call). Grown now tickets) (sym (append-nil issued)) (record { stands = logs.stands; has_tickets = logs.has_tickets; differ = logs.differ })
 

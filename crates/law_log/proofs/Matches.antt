@@ -46,7 +46,8 @@ matches-push (x ∷ es) [] e u name reply all = absurd all
 pub entries-of : (k d : ℕ) (t : Contents) (runs : List (Option Run)) (es : List Entry) → map (λ (x : Logged). x.entry) (updates_from k d t runs es) ≡ filter (is_update_of k d) es
 entries-of k d t runs [] = refl
 entries-of k d t runs (e ∷ es) =
-    by (is_update_of k d e) (record { entry = e; run = next_run runs; item = (table_after t e.op).items (key_of e.op.act) }) refl (updates_from k d (table_after t e.op) (runs_left (is_update_of k d e) runs) es)
+    by (is_update_of k d e) (record { entry = e; run = next_run runs; item = (table_after t e.op).items (key_of e.op.act) }) refl
+    (updates_from k d (table_after t e.op) (runs_left (is_update_of k d e) runs) es)
     (entries-of k d (table_after t e.op) (runs_left (is_update_of k d e) runs) es) where
       by : (b : Bool) (x : Logged) → x.entry ≡ e → (rest : List Logged) → map (λ (x : Logged). x.entry) rest ≡ filter (is_update_of k d) es
           → map (λ (x : Logged). x.entry) (front_if b x rest) ≡ cond b (e ∷ filter (is_update_of k d) es) (filter (is_update_of k d) es)
@@ -91,13 +92,16 @@ match-update s calls log settled d u low many stands fits step all e below = by 
       (subst (Matches (filter (is_update_of s.k e) log ++ entry ∷ [])) (sym (ap (at [] (put [] settled d (at [] settled d ++ u ∷ []))) same ∙ at-put [] [] settled d (at [] settled d ++ u ∷ [])))
       (matches-push (filter (is_update_of s.k e) log) (at [] settled d) entry u refl refl (subst (λ (n : ℕ). Matches (filter (is_update_of s.k e) log) (at [] settled n)) same (all e below))))
   by (inr other) =
-      subst (λ (es : List Entry). Matches es (at [] (put [] settled d (at [] settled d ++ u ∷ [])) e)) (sym (filter-out (is_update_of s.k e) log entry (test ∙ ne_eqb _ _ (λ home. other (sym home ∙ step.fits.home)))))
+      subst (λ (es : List Entry). Matches es (at [] (put [] settled d (at [] settled d ++ u ∷ [])) e))
+      (sym (filter-out (is_update_of s.k e) log entry (test ∙ ne_eqb _ _ (λ home. other (sym home ∙ step.fits.home)))))
       (subst (Matches (filter (is_update_of s.k e) log)) (sym (at-put-other [] settled d e (at [] settled d ++ u ∷ []) other)) (all e below))
 
 match-refusal : (k : ℕ) (log : List Entry) (settled : List (List Update)) (c : Call) (reply : Reply) → accepts reply ≡ false → AllMatch k log settled
     → AllMatch k (log ++ entry_of c.name c.op reply ∷ []) settled
 match-refusal k log settled c reply refused all d below =
-    subst (λ (es : List Entry). Matches es (at [] settled d)) (sym (filter-out (is_update_of k d) log (entry_of c.name c.op reply) (ap (λ (b : Bool). if b then home_of (key_of c.op.act) k == d else false) refused))) (all d below)
+    subst (λ (es : List Entry). Matches es (at [] settled d))
+    (sym (filter-out (is_update_of k d) log (entry_of c.name c.op reply) (ap (λ (b : Bool). if b then home_of (key_of c.op.act) k == d else false) refused)))
+    (all d below)
 
 abbrev pub MatchIn : Book → Type 0
 MatchIn b = AllMatch b.history.world.shape.k b.history.world.log b.history.settled
@@ -105,5 +109,6 @@ MatchIn b = AllMatch b.history.world.shape.k b.history.world.log b.history.settl
 -- so it is along every run in which heads stand
 pub match_always : (s : Dimensions) → StandsAlways s → (es : List Event) → IsRun s es → MatchIn (book_of s es)
 match_always s always es run = (book_always s (λ b. LogsOf b × MatchIn b) (logs-opening s, λ d below. subst (Matches []) (sym (at-replicate [] s.k d)) tt) (λ done e now more may both.
-    logs-event (book_of s done) (book-framed s done now) (stands-in s always done now) (some-partition s always done now) e (may-here s always done e may) (stands-next s always done e more) (asked_always s done now) both.0
+    logs-event (book_of s done) (book-framed s done now) (stands-in s always done now) (some-partition s always done now) e (may-here s always done e may)
+    (stands-next s always done e more) (asked_always s done now) both.0
     (AllMatch (book_of s done).history.world.shape.k) both.1 (match-update (book_of s done).history.world.shape _) (λ c reply is answered refused all. match-refusal (book_of s done).history.world.shape.k (book_of s done).history.world.log (book_of s done).history.settled c reply refused all)) es run).1

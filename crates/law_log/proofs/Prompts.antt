@@ -110,5 +110,7 @@ module _ (b : Book) (framed : FramedHistory b.history) (stands : StandsIn b) (so
   at-once = by (accepts reply) refl where
     by : (t : Bool) → accepts reply ≡ t → Contains (step b.history.world (Ask caller op p)).turn.logged (entry_of (next_call b.history.world caller op).name op reply)
     by true test = accepted-logged test
-    by false test = ledger-front _ (group_step b.history.world (Ask caller op p)).settled b.history.world.shape.k 0 (record { logged = logged_at_once (Some (next_call b.history.world caller op)) (group_step b.history.world (Ask caller op p)).answer; places = b.history.world.places })
+    by false test =
+        ledger-front _ (group_step b.history.world (Ask caller op p)).settled b.history.world.shape.k 0
+        (record { logged = logged_at_once (Some (next_call b.history.world caller op)) (group_step b.history.world (Ask caller op p)).answer; places = b.history.world.places })
         (entry_of (next_call b.history.world caller op).name op reply) (refused-at-once (next_call b.history.world caller op) (group_step b.history.world (Ask caller op p)).answer reply answered test)

@@ -22,6 +22,7 @@ use Rattle.group_run.specs.Process.{Head, Process}
 use Rattle.group_run.specs.Replica.{Items, Replica, item_settled, items_after, number_on}
 use Rattle.group_run.specs.World.{Call}
 use Rattle.group_run.specs.History.{history}
+use Rattle.law_moves.proofs.Reading.{some-same}
 use Rattle.law_updates.specs.Decisions.{IsRefusal}
 use Rattle.law_updates.specs.Fine.{AreClear, AreSteps}
 use Rattle.law_updates.proofs.Fine.{IsReplicaOf}
@@ -41,9 +42,6 @@ number_on-others (u ∷ us) key others = by (number_on us key) (number_on-others
   by None is true test = absurd (cc test)
   by None is false test = refl
 
-number-same : (a b : ℕ) → Some a ≡ Some b → a ≡ b
-number-same a b is = ap (λ (o : Option ℕ). elim o [ None ↦ a | Some x ↦ x ]) is
-
 -- where no two updates are on one key, the one on a key is found
 only-number : (items : Items) (us : List Update) (key : List ℕ) (n : ℕ) → AreClear items us → number_on us key ≡ Some n → Each (λ v. v.key ≡ key → v.number ≡ n) us
 only-number items [] key n clear is = tt
@@ -57,7 +55,7 @@ only-number items (u ∷ us) key n clear is = by (number_on us key) refl (same_k
     later (found ∙ is),
   )
   by None none true test is later =
-      ((λ same. number-same u.number n is), each-weaker (λ v. v.key ≢ key) (λ v. v.key ≡ key → v.number ≡ n) (λ v other same. absurd (other same)) us (number_on-none us key none))
+      ((λ same. some-same u.number n is), each-weaker (λ v. v.key ≢ key) (λ v. v.key ≡ key → v.number ≡ n) (λ v other same. absurd (other same)) us (number_on-none us key none))
   by None none false test is later = absurd (cc is)
 
 -- the numbers of updates behind the first n
@@ -117,7 +115,9 @@ module _ (s : Dimensions) (calls : List Call) (settled : List Update) (d : ℕ) 
   whole = take-append-drop r.applied settled
 
   rest-steps : AreSteps s calls d r.applied (store_after s d (take r.applied settled)) (drop r.applied settled)
-  rest-steps = steps-behind s calls d 0 r.applied (no_store s) (take r.applied settled) (drop r.applied settled) (omega (arith, front-long)) (subst (AreSteps s calls d 0 (no_store s)) (sym whole) settled-fine)
+  rest-steps =
+      steps-behind s calls d 0 r.applied (no_store s) (take r.applied settled) (drop r.applied settled) (omega (arith, front-long))
+      (subst (AreSteps s calls d 0 (no_store s)) (sym whole) settled-fine)
 
   log-clear : AreClear (items_after [] (take r.applied (history settled r))) r.log
   log-clear = subst (AreClear (items_after [] (take r.applied (history settled r)))) log-is stands.fine.clear
@@ -132,7 +132,8 @@ module _ (s : Dimensions) (calls : List Call) (settled : List Update) (d : ℕ) 
     late n is above (inl below) =
         let most : length settled ≤ h.inherited = stands.inherits below in
         let numbers : Each (λ v. v.number ≤ length settled) (drop r.applied settled)
-        = numbers-below s calls d r.applied (length settled) (store_after s d (take r.applied settled)) (drop r.applied settled) (let in_it = stands.within in omega (arith, length-drop r.applied settled)) rest-steps in
+        = numbers-below s calls d r.applied (length settled) (store_after s d (take r.applied settled)) (drop r.applied settled)
+        (let in_it = stands.within in omega (arith, length-drop r.applied settled)) rest-steps in
         let found : Each (λ v. v.key ≡ key_of op.act → v.number ≡ n) (drop r.applied settled)
         = subst (Each (λ v. v.key ≡ key_of op.act → v.number ≡ n)) (sym rest-is)
         (each-take (λ v. v.key ≡ key_of op.act → v.number ≡ n) (length settled - r.applied) r.log (only-number (items_after [] (take r.applied (history settled r))) r.log (key_of op.act) n log-clear is)) in

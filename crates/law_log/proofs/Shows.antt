@@ -133,7 +133,9 @@ module _ (s : Dimensions) where
         let here : ShownIn s d log us = subst (λ (x : ℕ). ShownIn s x log (at [] settled x)) same shown in
         subst (λ (x : ℕ). ShownIn s x (log ++ entry ∷ []) (at [] next x)) (sym same)
         (subst (ShownIn s d (log ++ entry ∷ [])) (sym (at-put [] [] settled d (us ++ u ∷ []))) (record {
-          shown = subst (AreShown s d (no_store s) (us ++ u ∷ [])) (sym (updates-next here)) (shown-push s d (no_store s) us (updates_from s.k d (empty_table s.k) (runs_of us) log) u logged here.shown is-shown);
+          shown =
+              subst (AreShown s d (no_store s) (us ++ u ∷ [])) (sym (updates-next here))
+              (shown-push s d (no_store s) us (updates_from s.k d (empty_table s.k) (runs_of us) log) u logged here.shown is-shown);
           count = count-push s.k d log entry ∙ ap (λ (b : Bool). one_if b (count_in s.k d log)) own ∙ ap suc here.count ∙ (let long = length-append us (u ∷ []) in omega arith);
           tables = λ n within key home. tables-next here n within key home (cases_lt n (suc (length us)));
         }))
@@ -160,7 +162,8 @@ module _ (s : Dimensions) (always : StandsAlways s) where
   pub shown_always : (es : List Event) → IsRun s es → ShownOf (book_of s es)
   shown_always es run = book_always s ShownOf (record { logs = logs-opening s; shown = shown-opening s }) (λ done e now more may holds.
       let b : Book = book_of s done in
-      let next = logs-event b (book-framed s done now) (stands-in s always done now) (some-partition s always done now) e (may-here s always done e may) (stands-next s always done e more) (asked_always s done now) holds.logs
+      let next = logs-event b (book-framed s done now) (stands-in s always done now) (some-partition s always done now) e (may-here s always done e may)
+      (stands-next s always done e more) (asked_always s done now) holds.logs
       (AllShown b.history.world.shape) holds.shown
       (λ log settled d u low many stands fits step said x below. shown-next b.history.world.shape (some-partition s always done now) (booked b e).issued log settled d u low stands fits step x (cases_eq x d) (said x below))
       (λ c reply is answered refused said x below. shown-other b.history.world.shape x b.history.world.log (at [] b.history.settled x) (entry_of c.name c.op reply)

@@ -23,8 +23,7 @@ use Rattle.group_run.specs.Process.{Head}
 use Rattle.group_run.specs.History.{history}
 use Rattle.law_moves.specs.State.{State}
 use Rattle.law_moves.proofs.Members.{Members, Reigns}
-use Rattle.law_histories.proofs.HistoryWords.{Begins}
-use Rattle.law_histories.proofs.LaneWords.{Goes, Seen, appended, next, replaced}
+use Rattle.law_histories.proofs.LaneWords.{Goes, Seen, appended, next, replaced, Prolongs}
 use Rattle.law_histories.proofs.Lanes.{Stale, rank-rises, run-rises, same-rank-begins, stale-along}
 use Rattle.law_histories.proofs.Reach.{IsKeeper, Reach, seen_at}
 use Rattle.law_histories.proofs.Around.{enters}
@@ -51,7 +50,7 @@ either : (a b : Bool) → (a || b) ≡ true → (a ≡ true) ⊎ (b ≡ true)
 either true b is = inl refl
 either false b is = inr is
 
-module _ (F : ℕ → ℕ → List Update → Type 0) (d : ℕ) (C : List Update → Type 0) (fronts : (us vs : List Update) → Begins us vs → C vs → C us) where
+module _ (F : ℕ → ℕ → List Update → Type 0) (d : ℕ) (C : List Update → Type 0) (fronts : (us vs : List Update) → Prolongs us vs → C vs → C us) where
   -- the sentence on histories, with one more on those of partition d
   abbrev pub With : ℕ → ℕ → List Update → Type 0
   With e a us = F e a us × (e ≡ d → C us)
@@ -124,7 +123,8 @@ module _ (F : ℕ → ℕ → List Update → Type 0) (d : ℕ) (C : List Update
           let asked : (not (same_process (v.process p).name (ParityNode i)) && not (knows_dead (v.process p).known (ParityNode i))) ≡ true =
           ap (λ (b : Bool). not b && not (knows_dead (v.process p).known (ParityNode i))) (same-ne (v.process p).name (ParityNode i) (λ same. other (sym same ∙ members.named p pin)))
           ∙ ap not (unknown s v members p pin lives (ParityNode i) iin other living) in
-          let acked = some-of (at None h.acks i) (all-others (λ i. is_some (at None h.acks i)) (λ i. not (same_process (v.process p).name (ParityNode i)) && not (knows_dead (v.process p).known (ParityNode i))) i s.m 0 (omega arith) (omega (arith, iin)) asked all) in
+          let acked = some-of (at None h.acks i)
+          (all-others (λ i. is_some (at None h.acks i)) (λ i. not (same_process (v.process p).name (ParityNode i)) && not (knows_dead (v.process p).known (ParityNode i))) i s.m 0 (omega arith) (omega (arith, iin)) asked all) in
           (((reach d below).lanes p i pin iin (λ same. other (sym same)) living).kept lives h heads acked.0 acked.1).rank
 
     -- and its history is a front of the head's
@@ -134,7 +134,8 @@ module _ (F : ℕ → ℕ → List Update → Type 0) (d : ℕ) (C : List Update
         let ends = lane.ends lives h heads in
         let seen : Seen = seen_at d (v.settled d) (v.process (ParityNode i)) in
         let there : List Message = v.link p (ParityNode i) in
-        fronts seen.history (run (next d) seen there).history (same-rank-begins F d (v.settled d) seen there lane.goes (ends.rank ∙ sym (rank-same i iin other living))) (subst C (sym ends.history_is) holds)
+        fronts seen.history (run (next d) seen there).history
+        (same-rank-begins F d (v.settled d) seen there lane.goes (ends.rank ∙ sym (rank-same i iin other living))) (subst C (sym ends.history_is) holds)
 
     clean-at : (q : ProcessId) → IsProcess s q → v.dead q ≡ false → IsKeeper d q → C (history (v.settled d) (replica_of (v.process q) d))
     clean-at q qin living keeps = by (same-cases q p) where

@@ -205,10 +205,12 @@ module _ (s : Dimensions) (always : StandsAlways s) where
       let b : Book = book_of s done in
       let turn : Turn = (step b.history.world e).turn in
       let counted = asks_counted s done now in
-      let calls : Each (λ c. HasAsk (booked b e).turns c.name c.op) (booked b e).issued = each-append (λ c. HasAsk (booked b e).turns c.name c.op) b.issued (issued_by (call_of b.history.world e) (group_step b.history.world e).answer)
+      let calls : Each (λ c. HasAsk (booked b e).turns c.name c.op) (booked b e).issued = each-append (λ c. HasAsk (booked b e).turns c.name c.op) b.issued
+      (issued_by (call_of b.history.world e) (group_step b.history.world e).answer)
       (each-weaker (λ c. HasAsk b.turns c.name c.op) (λ c. HasAsk (booked b e).turns c.name c.op) (λ c has. has-more b.turns turn c.name c.op has) b.issued holds.issued)
       (issued-own b counted e (call_of b.history.world e) (group_step b.history.world e).answer refl refl) in
-      let next = logs-event b (book-framed s done now) (stands-in s always done now) (some-partition s always done now) e (may-here s always done e may) (stands-next s always done e more) (asked_always s done now) holds.logs
+      let next = logs-event b (book-framed s done now) (stands-in s always done now) (some-partition s always done now) e (may-here s always done e may)
+      (stands-next s always done e more) (asked_always s done now) holds.logs
       (λ log settled. Each (λ x. HasAsk (booked b e).turns (name_of x) x.op) log)
       (each-weaker (λ x. HasAsk b.turns (name_of x) x.op) (λ x. HasAsk (booked b e).turns (name_of x) x.op) (λ x has. has-more b.turns turn (name_of x) x.op has) b.history.world.log holds.entries)
       (λ log settled d u low many stands fits step said. each-append (λ x. HasAsk (booked b e).turns (name_of x) x.op) log (entry_of (update_name u) step.call.op (reply_from u.outcome) ∷ []) said (

@@ -1,5 +1,5 @@
 -- Each answered call stands in the log once, between its asking and its answering.
-use Rattle.std.proofs.Common.{ℕ, zero, suc, ◌≡◌, ◌≢◌, ◌+◌, ◌<◌, ◌≤◌, true, List, [], ◌∷◌, ◌++◌, length, take, get_or, ◌⊎◌, inl, inr, Option, Some, None, refl, sym, ap, subst, ◌∙◌, arith}
+use Rattle.std.proofs.Common.{ℕ, zero, suc, ◌≡◌, ◌≢◌, ◌+◌, ◌<◌, ◌≤◌, true, List, [], ◌∷◌, ◌++◌, length, take, get_or, ◌⊎◌, inl, inr, Some, refl, sym, ap, subst, ◌∙◌, arith}
 use Rattle.std.specs.Prelude.{Contains, slice_get}
 use Rattle.std.proofs.lemmas.Bool.{cases_lt}
 use Rattle.std.proofs.lemmas.List.{append_assoc, length-take, take-take}
@@ -18,7 +18,7 @@ use Rattle.group_calls.specs.declared.entry.Entry.{Entry}
 use Rattle.group_calls.specs.declared.event.Answer.TheVariants as says
 use Rattle.group_calls.specs.declared.event.Event.{Event}
 use Rattle.group_calls.specs.declared.event.Event.TheVariants.{Ask}
-use Rattle.law_moves.proofs.Reading.{grown-is}
+use Rattle.law_moves.proofs.Reading.{grown-is, some-same}
 use Rattle.group_run.specs.Asking.{reply_from}
 use Rattle.group_run.specs.Headline.{IsRun, MayCome}
 use Rattle.group_run.specs.World.{World, after, group_step, next_name, opening, step, turns_of}
@@ -31,9 +31,6 @@ use Rattle.law_log.proofs.Fetches.{HandedOut, handed-out}
 use Rattle.law_log.proofs.Logging.{log_kept, may-here, some-partition, stands-in}
 use Rattle.law_log.proofs.Prompts.{at-once}
 use Rattle.law_log.proofs.Turnings.{AskedOf, HasAsk, TurnAt, asked_of_always, asks-self, asks_counted, contained-get, each_two-get, get-contained, get-left, get-taken, turn-at}
-
-some-same : {X : Type 0} (a b : X) → Some a ≡ Some b → a ≡ b
-some-same a b is = ap (λ (o : Option _). elim o [ None ↦ a | Some x ↦ x ]) is
 
 -- the first of the turns, and one more
 asks-step : (caller : ℕ) (turns : List Turn) (i : ℕ) (turn : Turn) → slice_get turns i ≡ Some turn → asks_of caller (take (suc i) turns) ≡ asks_of caller (take i turns) + asks_in caller turn.event
@@ -141,7 +138,8 @@ module _ (s : Dimensions) (always : StandsAlways s) (es : List Event) (run : IsR
     -- no entry of a call that is asked now is in the log before
     not-logged-before : (name : CallName) (op : Asked) → IsAsk turns i turn name op → (x : Entry) → Contains (log_of (take i turns)) x → name_of x ≡ name → ⊥
     not-logged-before name op ask x contained same =
-        let below = each-contained (λ y. y.call < at 0 b.history.world.asked y.caller) b.history.world.log x asked-before.logs.entries_asked (subst (λ (log : List Entry). Contains log x) (sym log-before) contained) in
+        let below = each-contained (λ y. y.call < at 0 b.history.world.asked y.caller) b.history.world.log x asked-before.logs.entries_asked
+        (subst (λ (log : List Entry). Contains log x) (sym log-before) contained) in
         let counted : asks_of x.caller (take i turns) ≡ at 0 b.history.world.asked x.caller = ap (asks_of x.caller) (sym turns-before) ∙ asks_counted s place.before parts.0 x.caller in
         let caller : asks_of x.caller (take i turns) ≡ asks_of name.caller (take i turns) = ap (λ (n : CallName). asks_of n.caller (take i turns)) same in
         let call : x.call ≡ name.call = ap (λ (n : CallName). n.call) same in
@@ -169,7 +167,8 @@ module _ (s : Dimensions) (always : StandsAlways s) (es : List Event) (run : IsR
       let now : Contains (booked (b i turn there) (e i turn there)).history.world.log entry
       = subst (λ (log : List Entry). Contains log entry) (sym (log-grows i turn there)) (Contains-append_right (b i turn there).history.world.log turn.logged entry contained) in
       let has : HasAsk (booked (b i turn there) (e i turn there)).turns (name_of entry) entry.op
-      = each-contained (λ x. HasAsk (booked (b i turn there) (e i turn there)).turns (name_of x) x.op) (booked (b i turn there) (e i turn there)).history.world.log entry (asked-through i turn there).entries now in
+      = each-contained (λ x. HasAsk (booked (b i turn there) (e i turn there)).turns (name_of x) x.op)
+      (booked (b i turn there) (e i turn there)).history.world.log entry (asked-through i turn there).entries now in
       let taken : IsAsk (take (i + 1) turns) has.place has.turn (name_of entry) entry.op
       = subst (λ (ts : List Turn). IsAsk ts has.place has.turn (name_of entry) entry.op) (turns-through i turn there) has.ask in
       let below : has.place < length (take (i + 1) turns) = slice_get_within (take (i + 1) turns) has.place has.turn taken.there in
@@ -233,7 +232,8 @@ module _ (s : Dimensions) (always : StandsAlways s) (es : List Event) (run : IsR
       = handed-out own (book-framed s before now) (stands-in s always before now) name reply (e i turn there) (may-here s always before (e i turn there) (parts i turn there).1)
       (subst (λ (t : Turn). Fetches t.event name) same fetches) (sym (ap (λ (t : Turn). t.answer) same) ∙ answered) in
       let has : HasEntry own.history.world.log out.settles.update
-      = each-contained (HasEntry own.history.world.log) (at [] own.history.settled out.partition) out.settles.update ((asked-before i turn there).logs.stands.entered out.partition) out.settles.there in
+      = each-contained (HasEntry own.history.world.log) (at [] own.history.settled out.partition) out.settles.update
+      ((asked-before i turn there).logs.stands.entered out.partition) out.settles.there in
       let named : name_of has.entry ≡ name = has.named ∙ out.settles.named in
       let replied : has.entry.reply ≡ reply = has.replied ∙ ap reply_from out.settles.ended ∙ out.replied in
       let is : has.entry ≡ entry_of name has.entry.op reply = λ k. entry_of (named k) has.entry.op (replied k) in

@@ -137,7 +137,8 @@ module _ (s : Dimensions) (always : StandsAlways s) (es : List Event) (run : IsR
   items : (n : ℕ) → n ≤ length settled → (key : List ℕ) → home_of key s.k ≡ d
       → IsItem (slot_in (items_after [] (take n settled)) key) ((table_at w d n).items key) (run_on key None (take n (updates_of w d)))
   items n within key home =
-      item-is (space_of s) (store_after s d (take n settled)).space (slot_in (items_after [] (take n settled)) key) ((table_at w d n).items key) (run_on key None (take n (updates_of w d))) (fits n).long
+      item-is (space_of s) (store_after s d (take n settled)).space (slot_in (items_after [] (take n settled)) key) ((table_at w d n).items key)
+      (run_on key None (take n (updates_of w d))) (fits n).long
       (each-slot (λ x. x.at + x.len ≤ space_of s) key (items_after [] (take n settled)) (subst (Each (λ x. x.1.at + x.1.len ≤ space_of s)) (items-of n) (fits n).inside))
       (tables n within key home ∙ ap (λ (xs : Items). held_in (store_after s d (take n settled)).space (slot_in xs key)) (items-of n))
       (runs n key)

@@ -1,4 +1,4 @@
--- The laws of the log, along every run in which heads stand.
+-- The law of the log, along every run in which heads stand.
 use Rattle.std.specs.Prelude.{List}
 use Rattle.group_types.specs.Dimensions.{Dimensions}
 use Rattle.group_calls.specs.declared.event.Event.{Event}

@@ -146,7 +146,8 @@ module _ (h : History) (members : Members h.world.shape (state_of h)) (p : Proce
 
       lower : knows_lower (process_of h.world p).known d i ≡ true
       lower = ap (λ (b : Bool). b && list_all (λ j. knows_dead (process_of h.world p).known (ParityNode j)) (range_with_len 0 i)) (knows 0 (omega (arith, rank_is)) below (λ same. cc (same, is)))
-          ∙ all-lower (process_of h.world p).known 0 i (λ j low high. knows (suc j) (omega (arith, rank_is, high)) (omega (arith, inside, high)) (λ same. let equal : j ≡ i = cc (same ∙ is) in absurd (omega (arith, high, equal))))
+          ∙ all-lower (process_of h.world p).known 0 i
+          (λ j low high. knows (suc j) (omega (arith, rank_is, high)) (omega (arith, inside, high)) (λ same. let equal : j ≡ i = cc (same ∙ is) in absurd (omega (arith, high, equal))))
 
 -- an answer to a call that is served here
 abbrev Serves : Answer → Type 0
@@ -173,7 +174,8 @@ serves-act s name op d h p (decides.Issue body outcome) =
     let u : Update = update_of name op d body outcome p in
     serves-ticketed (nat_le u.number (replica_of (issued s d h u p).process d).applied) d u (issued s d h u p)
 
-module _ (h : History) (framed : FramedHistory h) (members : Members h.world.shape (state_of h)) (some : 0 < h.world.shape.k) (caller : ℕ) (op : Asked) (p : ProcessId) (pin : IsProcess h.world.shape p) where
+module _ (h : History) (framed : FramedHistory h) (members : Members h.world.shape (state_of h)) (some : 0 < h.world.shape.k) (caller : ℕ) (op : Asked)
+    (p : ProcessId) (pin : IsProcess h.world.shape p) where
   abbrev w : World
   w = h.world
 
@@ -199,7 +201,9 @@ module _ (h : History) (framed : FramedHistory h) (members : Members h.world.sha
     (λ e. absurd (not_moved e), λ away. absurd (away.1 (ready-from h members p (home_in w op) pin lives d_below y.rank (seat-head (process_of w p) (home_in w op) y heads)))),
   ) where
     serves : Serves a
-    serves = subst Serves (sym is) (serves-act w.shape (next_name w caller) op (home_in w op) y (process_of w p) (decide (space_of w.shape) y.inherited (replica_of (process_of w p) (home_in w op)) op (found_at w.shape (home_in w op) (process_of w p) (process_of w p).name)))
+    serves =
+        subst Serves (sym is)
+        (serves-act w.shape (next_name w caller) op (home_in w op) y (process_of w p) (decide (space_of w.shape) y.inherited (replica_of (process_of w p) (home_in w op)) op (found_at w.shape (home_in w op) (process_of w p) (process_of w p).name)))
 
     not_served : a ≡ says.Down → ⊥
     not_served e = subst Serves e serves

@@ -147,7 +147,9 @@ module _ (s : Dimensions) where
       marks_may l at_l =
           let sits = seat-known p l i (seated.sits l at_l.0) (lower-lost p d l i lower at_l.1) in
           let seat_l : seat_of q l ≡ Some (at 0 p.ranks l) = same.seats l ∙ sits.0 ∙ ap Some (sym sits.1) in
-          each-map P (λ j. record { to = ParityNode j; message = tells.Mark (session_of i number) (rank (at 0 p.ranks l)) block (partition l) (replica_of p l).applied }) (filter (λ j. not (j == i)) (rows_of s p))
+          each-map P
+          (λ j. record { to = ParityNode j; message = tells.Mark (session_of i number) (rank (at 0 p.ranks l)) block (partition l) (replica_of p l).applied })
+          (filter (λ j. not (j == i)) (rows_of s p))
           (each-all (λ j. MaySend Owes s.k q (ParityNode j) (tells.Mark (session_of i number) (rank (at 0 p.ranks l)) block (partition l) (replica_of p l).applied)) (λ j. (at_l.0, seat_l, (λ above. name), tt)) (filter (λ j. not (j == i)) (rows_of s p)))
 
   -- a leader opens a session

@@ -101,11 +101,17 @@ module _ (w : World) (settled : List (List Update)) (framed : Framed w.shape w.n
   }
 
   stands : (e : Event) → MayCome w e → StandsStill w e
-  stands (Ask caller op p) may = still (Ask caller op p) (one (Ask caller op p) p _ may.1 refl (answers-down (node_of w p) (treated w.shape (node_of w p) (ask_process w.shape (next_name w caller) op (node_of w p).process)) (node_of w p).down (told p may.1)))
-  stands (Collect caller call p) may = still (Collect caller call p) (one (Collect caller call p) p _ may.1 refl (answers-down (node_of w p) (treated w.shape (node_of w p) (collect_from caller call (node_of w p).process (range_with_len 0 w.shape.k))) (node_of w p).down (told p may.1)))
+  stands (Ask caller op p) may =
+      still (Ask caller op p)
+      (one (Ask caller op p) p _ may.1 refl (answers-down (node_of w p) (treated w.shape (node_of w p) (ask_process w.shape (next_name w caller) op (node_of w p).process)) (node_of w p).down (told p may.1)))
+  stands (Collect caller call p) may =
+      still (Collect caller call p)
+      (one (Collect caller call p) p _ may.1 refl (answers-down (node_of w p) (treated w.shape (node_of w p) (collect_from caller call (node_of w p).process (range_with_len 0 w.shape.k))) (node_of w p).down (told p may.1)))
   stands (Flush p) may =
       still (Flush p) (one (Flush p) p _ may refl (answers-down (node_of w p) (treated w.shape (node_of w p) (flush_process w.shape (node_of w p).process)) (node_of w p).down (told p may)))
-  stands (Trace caller call d p) may = still (Trace caller call d p) (one (Trace caller call d p) p _ may.3 refl (answers-down (node_of w p) (unchanged (fate_of w.shape caller call d.0 (node_of w p).process (head_at (node_of w p).process d.0)) (node_of w p)) (node_of w p).down (told p may.3)))
+  stands (Trace caller call d p) may =
+      still (Trace caller call d p)
+      (one (Trace caller call d p) p _ may.3 refl (answers-down (node_of w p) (unchanged (fate_of w.shape caller call d.0 (node_of w p).process (head_at (node_of w p).process d.0)) (node_of w p)) (node_of w p).down (told p may.3)))
   stands (Deliver from to) may = still (Deliver from to) (by (node_of w to).down (told to may.1)) where
     answers : (b : Bool) → b ≡ true → (t : DeliveryStep) → t ≡ delivered b (node_of w to).dead w.shape from to (node_of w from) (node_of w to) (at [] (node_of w from).links (index_of w.shape to))
         → (t.receiver.answer ≡ says.Down) × (t.receiver.settled ≡ []) × (t.sender ≡ node_of w from) × (t.receiver.node ≡ node_of w to)

@@ -65,7 +65,9 @@ module _ (s : Dimensions) (nodes : List Node) (settled : List (List Update)) (fr
     down = λ q qin. word q qin (same-cases q p) ∙ framed.down q qin ∙ ap (λ (n : ℕ). nat_lt s.m n) (sym (ap count_dead lost));
   } where
     lost : map (λ (n : Node). n.dead) (with_node s p node nodes) ≡ map (λ (n : Node). n.dead) nodes
-    lost = map-put (λ (n : Node). n.dead) (opening_node s p) (opening_node s p) nodes (index_of s p) node (let low = index-below s p pin in let many = framed.nodes_many in omega (arith, low, many)) dead
+    lost =
+        map-put (λ (n : Node). n.dead) (opening_node s p) (opening_node s p) nodes (index_of s p) node
+        (let low = index-below s p pin in let many = framed.nodes_many in omega (arith, low, many)) dead
 
     word : (q : ProcessId) → IsProcess s q → (q ≡ p) ⊎ (q ≢ p) → (node_in s (with_node s p node nodes) q).down ≡ (node_in s nodes q).down
     word q qin (inr other) = ap (λ (n : Node). n.down) (node-other s nodes p q node pin qin other framed.nodes_many)
@@ -235,7 +237,8 @@ event_comes h (Flush p) framed may =
     comes_treated h.world.shape h.world.nodes h.settled framed p (flush_process h.world.shape (node_of h.world p).process) may
     (node_of h.world p).down (node_of h.world p).dead refl refl Flushes
 event_comes h (Trace caller call d p) framed may =
-    comes_answered h.world.shape h.world.nodes h.settled framed p may.3 (if_up (node_of h.world p).down (node_of h.world p).dead (node_of h.world p) answer) (traced (node_of h.world p).down (node_of h.world p).dead).0 (traced (node_of h.world p).down (node_of h.world p).dead).1
+    comes_answered h.world.shape h.world.nodes h.settled framed p may.3 (if_up (node_of h.world p).down (node_of h.world p).dead (node_of h.world p) answer)
+    (traced (node_of h.world p).down (node_of h.world p).dead).0 (traced (node_of h.world p).down (node_of h.world p).dead).1
   where
     answer : NodeStep
     answer = unchanged (fate_of h.world.shape caller call d.0 (node_of h.world p).process (head_at (node_of h.world p).process d.0)) (node_of h.world p)

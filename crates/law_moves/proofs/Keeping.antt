@@ -150,9 +150,13 @@ module _ (s : Dimensions) where
       known-dead y yin other knows = known-is-dead y (v.dead y) (knows_dead (v.process (ParityNode i)).known y) (v.link y (ParityNode i)) (ground.stands y (ParityNode i) yin xin other lives) knows
 
       dead : (j : ℕ) → j < suc i → knows_lower (v.process (ParityNode i)).known d i ≡ true → v.dead (of_rank d j) ≡ true
-      dead zero low lower = known-dead (DataNode d) below (λ same. cc same) (parts (knows_dead (v.process (ParityNode i)).known (DataNode d)) (list_all (λ j. knows_dead (v.process (ParityNode i)).known (ParityNode j)) (range_with_len 0 i)) lower).0
+      dead zero low lower =
+          known-dead (DataNode d) below (λ same. cc same)
+          (parts (knows_dead (v.process (ParityNode i)).known (DataNode d)) (list_all (λ j. knows_dead (v.process (ParityNode i)).known (ParityNode j)) (range_with_len 0 i)) lower).0
       dead (suc j) low lower =
-          let knows = lower-each (v.process (ParityNode i)).known j 0 i (parts (knows_dead (v.process (ParityNode i)).known (DataNode d)) (list_all (λ j. knows_dead (v.process (ParityNode i)).known (ParityNode j)) (range_with_len 0 i)) lower).1 (omega arith) (omega (arith, low)) in
+          let knows = lower-each (v.process (ParityNode i)).known j 0 i
+          (parts (knows_dead (v.process (ParityNode i)).known (DataNode d)) (list_all (λ j. knows_dead (v.process (ParityNode i)).known (ParityNode j)) (range_with_len 0 i)) lower).1
+          (omega arith) (omega (arith, low)) in
           known-dead (ParityNode j) (omega (arith, low, xin)) (λ same. let equal : j ≡ i = cc same in absurd (omega (arith, low, equal))) knows
 
   -- deaths stay, and so do seats of the living
@@ -166,7 +170,9 @@ module _ (s : Dimensions) where
     partition = reigns.partition;
     rank = reigns.rank;
     below = λ j low. goes.dead (of_rank d j) (of_rank-in s d j reigns.partition (let high = reigns.rank in omega (arith, low, high))) (reigns.below j low);
-    leads = λ living. goes.seats (of_rank d r) d r (of_rank-in s d r reigns.partition reigns.rank) living (reigns.leads (goes.lives (of_rank d r) (of_rank-in s d r reigns.partition reigns.rank) living));
+    leads =
+        λ living. goes.seats (of_rank d r) d r (of_rank-in s d r reigns.partition reigns.rank) living
+        (reigns.leads (goes.lives (of_rank d r) (of_rank-in s d r reigns.partition reigns.rank) living));
   }
 
   may-on : (v w : State) → Goes v w → (x q : ProcessId) (m : Message) → MayStand s v x q m → MayStand s w x q m
@@ -213,7 +219,8 @@ module _ (s : Dimensions) where
     pub owed : (to : ProcessId) (r d : ℕ) → due to r d → IsFrom s v to d r
     pub may : (x : ProcessId) → IsProcess s x → x ≢ p → Each (MayStand s v x p) (w.link x p)
 
-  module _ (due : ProcessId → ℕ → ℕ → Type 0) (v w : State) (p : ProcessId) (t : ProcessStep) (pin : IsProcess s p) (lives : v.dead p ≡ false) (members : Members s v) (change : Change due v w p t) where
+  module _ (due : ProcessId → ℕ → ℕ → Type 0) (v w : State) (p : ProcessId) (t : ProcessStep) (pin : IsProcess s p) (lives : v.dead p ≡ false)
+      (members : Members s v) (change : Change due v w p t) where
     seat-kept : (q : ProcessId) (d r : ℕ) → IsProcess s q → (q ≡ p) ⊎ (q ≢ p) → seat_of (v.process q) d ≡ Some r → seat_of (w.process q) d ≡ Some r
     seat-kept q d r qin (inl same) seat =
         ap (λ (y : ProcessId). seat_of (w.process y) d) same ∙ ap (λ (y : Process). seat_of y d) change.process
@@ -278,7 +285,8 @@ module _ (s : Dimensions) where
     may_by : (x q : ProcessId) → IsProcess s x → IsProcess s q → x ≢ q → w.dead q ≡ false → (x ≡ p) ⊎ (x ≢ p) → (q ≡ p) ⊎ (q ≢ p) → Each (MayStand s w x q) (w.link x q)
     may_by x q xin qin apart here (inl xp) (inl qp) = absurd (apart (xp ∙ sym qp))
     may_by x q xin qin apart here (inr other) (inl qp) =
-        subst (λ (y : ProcessId). Each (MayStand s w x y) (w.link x y)) (sym qp) (each-weaker (MayStand s v x p) (MayStand s w x p) (λ m may. may-on v w goes x p m may) (w.link x p) (change.may x xin other))
+        subst (λ (y : ProcessId). Each (MayStand s w x y) (w.link x y)) (sym qp)
+        (each-weaker (MayStand s v x p) (MayStand s w x p) (λ m may. may-on v w goes x p m may) (w.link x p) (change.may x xin other))
     may_by x q xin qin apart here (inr other) (inr qother) =
         subst (λ (link : List Message). Each (MayStand s w x q) link) (sym (change.between x q xin qin other qother))
         (each-weaker (MayStand s v x q) (MayStand s w x q) (λ m may. may-on v w goes x q m may) (v.link x q) (members.may x q xin qin apart (sym (change.dead q qin) ∙ here)))
@@ -308,7 +316,9 @@ module _ (s : Dimensions) where
       not_self = ground.not_self;
       stands = ground.stands;
       sits = ground.sits;
-      ranks = λ q d qin here below. at_p (λ y z. Reigns s w d (at 0 y.ranks d)) q qin (same-cases q p) (rank_here d below (change.ranks d below)) (λ other. reigns-on v w goes d (at 0 (v.process q).ranks d) (members.ranks q d qin (sym (change.dead q qin) ∙ here) below));
+      ranks =
+          λ q d qin here below. at_p (λ y z. Reigns s w d (at 0 y.ranks d)) q qin (same-cases q p) (rank_here d below (change.ranks d below))
+          (λ other. reigns-on v w goes d (at 0 (v.process q).ranks d) (members.ranks q d qin (sym (change.dead q qin) ∙ here) below));
       may = λ x q xin qin apart here. may_by x q xin qin apart here (same-cases x p) (same-cases q p);
     }
 
@@ -559,7 +569,9 @@ module _ (s : Dimensions) (shaped : IsShape s) where
     t = receive s x (tells.Notice dead) (v.process p)
 
     facts : (v.dead x ≡ true) × (knows_dead (v.process p).known x ≡ false) × (dead ≡ x) × (u.link x p ≡ [])
-    facts = stands-notice x (v.dead x) (knows_dead (v.process p).known x) dead (u.link x p) (subst (Stands x (v.dead x) (knows_dead (v.process p).known x)) pops.first (members.stands x p xin pin apart lives))
+    facts =
+        stands-notice x (v.dead x) (knows_dead (v.process p).known x) dead (u.link x p)
+        (subst (Stands x (v.dead x) (knows_dead (v.process p).known x)) pops.first (members.stands x p xin pin apart lives))
 
     got : Noticed s dead (v.process p) t p
     got = noticed s dead (v.process p) p (seated v members p pin lives)
@@ -570,7 +582,8 @@ module _ (s : Dimensions) (shaped : IsShape s) where
 
     comes_by : (y : ProcessId) → IsProcess s y → y ≢ p → (y ≡ x) ⊎ (y ≢ x) → Stands y (v.dead y) (knows_dead t.process.known y) (w.link y p)
     comes_by y yin other (inr yother) =
-        subst (λ (link : List Message). Stands y (v.dead y) (knows_dead t.process.known y) link) (sym (link_else v u w x p (tells.Notice dead) t xin pin apart pops acts y p yin pin other (inl yother)))
+        subst (λ (link : List Message). Stands y (v.dead y) (knows_dead t.process.known y) link)
+        (sym (link_else v u w x p (tells.Notice dead) t xin pin apart pops acts y p yin pin other (inl yother)))
         (subst (λ (b : Bool). Stands y (v.dead y) b (v.link y p)) (sym (ap (λ (known : Membership). knows_dead known y) got.known ∙ knows-other (v.process p).known dead y (λ same. yother (same ∙ facts.2)))) (members.stands y p yin pin other lives))
     comes_by y yin other (inl same) =
         subst (λ (z : ProcessId). Stands z (v.dead z) (knows_dead t.process.known z) (w.link z p)) (sym same)
@@ -586,7 +599,9 @@ module _ (s : Dimensions) (shaped : IsShape s) where
     may_in : (y : ProcessId) → IsProcess s y → y ≢ p → (y ≡ x) ⊎ (y ≢ x) → Each (MayStand s v y p) (w.link y p)
     may_in y yin other (inr yother) =
         subst (Each (MayStand s v y p)) (sym (link_else v u w x p (tells.Notice dead) t xin pin apart pops acts y p yin pin other (inl yother))) (members.may y p yin pin other lives)
-    may_in y yin other (inl same) = subst (λ (z : ProcessId). Each (MayStand s v z p) (w.link z p)) (sym same) (subst (Each (MayStand s v x p)) (sym (link_here v u w x p (tells.Notice dead) t xin pin apart pops acts ∙ facts.3)) tt)
+    may_in y yin other (inl same) =
+        subst (λ (z : ProcessId). Each (MayStand s v z p) (w.link z p)) (sym same)
+        (subst (Each (MayStand s v x p)) (sym (link_here v u w x p (tells.Notice dead) t xin pin apart pops acts ∙ facts.3)) tt)
 
   receives : (v u w : State) (x p : ProcessId) (m : Message) → IsProcess s x → IsProcess s p → x ≢ p → IsUp s v → v.dead p ≡ false → Members s v
       → Popped s v u x p m → Acted s u w p (receive s x m (v.process p)) → Members s w
@@ -609,7 +624,9 @@ module _ (s : Dimensions) (shaped : IsShape s) where
     not_self = λ q qin here. ap (λ (y : Process). knows_dead y.known q) (died.processes q qin) ∙ members.not_self q qin (lived q qin here);
     stands = λ x q xin qin apart here. stands_by x q xin qin apart here (same-cases x p);
     sits = λ q d qin here below. subst (λ (y : Process). Sits y d q) (sym (died.processes q qin)) (members.sits q d qin (lived q qin here) below);
-    ranks = λ q d qin here below. subst (λ (y : Process). Reigns s w d (at 0 y.ranks d)) (sym (died.processes q qin)) (reigns-on s v w goes d (at 0 (v.process q).ranks d) (members.ranks q d qin (lived q qin here) below));
+    ranks =
+        λ q d qin here below. subst (λ (y : Process). Reigns s w d (at 0 y.ranks d)) (sym (died.processes q qin))
+        (reigns-on s v w goes d (at 0 (v.process q).ranks d) (members.ranks q d qin (lived q qin here) below));
     may = λ x q xin qin apart here. may_by x q xin qin apart here (same-cases x p);
   } where
     other_than : (q : ProcessId) → w.dead q ≡ false → q ≢ p
@@ -644,7 +661,8 @@ module _ (s : Dimensions) (shaped : IsShape s) where
 
     may_by : (x q : ProcessId) → IsProcess s x → IsProcess s q → x ≢ q → w.dead q ≡ false → (x ≡ p) ⊎ (x ≢ p) → Each (MayStand s w x q) (w.link x q)
     may_by x q xin qin apart here (inr other) =
-        subst (Each (MayStand s w x q)) (sym (died.links x q xin qin other)) (each-weaker (MayStand s v x q) (MayStand s w x q) (λ m may. may-on s v w goes x q m may) (v.link x q) (members.may x q xin qin apart (lived q qin here)))
+        subst (Each (MayStand s w x q)) (sym (died.links x q xin qin other))
+        (each-weaker (MayStand s v x q) (MayStand s w x q) (λ m may. may-on s v w goes x q m may) (v.link x q) (members.may x q xin qin apart (lived q qin here)))
     may_by x q xin qin apart here (inl same) =
         subst (λ (z : ProcessId). Each (MayStand s w z q) (w.link z q)) (sym same)
         (subst (Each (MayStand s w p q)) (sym (died.cut q qin))

@@ -1,5 +1,6 @@
 pub mod Aways
 pub mod Calls
+pub mod Chains
 pub mod Cores
 pub mod Downs
 pub mod Events

@@ -70,7 +70,8 @@ module _ (s : Dimensions) (x : ProcessId) where
   acked m p i r d n None heads = still m p p (core-refl p)
   acked m p i r d n (Some h) heads =
       let q : Process = with_head d (Some (acknowledged i n h)) p in
-      by-step m p (when (r == h.rank) p (judge s d q)) (step-when (DueTo x m) s.k (r == h.rank) p (judge s d q) (step-from (DueTo x m) s.k p q (judge s d q) (core-acknowledged p i d n h heads) (step-judge (DueTo x m) s.k s d q)))
+      by-step m p (when (r == h.rank) p (judge s d q))
+      (step-when (DueTo x m) s.k (r == h.rank) p (judge s d q) (step-from (DueTo x m) s.k p q (judge s d q) (core-acknowledged p i d n h heads) (step-judge (DueTo x m) s.k s d q)))
 
   -- a new head's log: the rank is its rank, unless that is lower
   adopted : (b : Bool) (p : Process) (r d base : ℕ) (list : List Update) → nat_le (at 0 p.ranks d) r ≡ b

@@ -1,4 +1,4 @@
--- The three moves of a state, and what carries a sentence along every run.
+-- The three moves of a state, and the sentences that every move keeps.
 use Rattle.std.specs.Prelude.{ℕ, ◌≡◌, ◌≢◌, ◌<◌, ◌⊎◌, true, false, List, [], ◌∷◌, ◌++◌, take, All}
 use Rattle.std.specs.List.{range_with_len}
 use Rattle.group_types.specs.Dimensions.{Dimensions}

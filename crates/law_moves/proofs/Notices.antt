@@ -54,12 +54,14 @@ pub all-still : (known : Membership) (x : ProcessId) (js : List ℕ) → list_al
 all-still known x [] all = refl
 all-still known x (j ∷ js) all =
     let parts = both (knows_dead known (ParityNode j)) (list_all (λ j. knows_dead known (ParityNode j)) js) all in
-    and-true (knows_dead (with_dead known x) (ParityNode j)) (list_all (λ j. knows_dead (with_dead known x) (ParityNode j)) js) (knows-still known x (ParityNode j) parts.0) (all-still known x js parts.1)
+    and-true (knows_dead (with_dead known x) (ParityNode j)) (list_all (λ j. knows_dead (with_dead known x) (ParityNode j)) js)
+    (knows-still known x (ParityNode j) parts.0) (all-still known x js parts.1)
 
 pub lower-still : (known : Membership) (x : ProcessId) (d i : ℕ) → knows_lower known d i ≡ true → knows_lower (with_dead known x) d i ≡ true
 lower-still known x d i lower =
     let parts = both (knows_dead known (DataNode d)) (list_all (λ j. knows_dead known (ParityNode j)) (range_with_len 0 i)) lower in
-    and-true (knows_dead (with_dead known x) (DataNode d)) (list_all (λ j. knows_dead (with_dead known x) (ParityNode j)) (range_with_len 0 i)) (knows-still known x (DataNode d) parts.0) (all-still known x (range_with_len 0 i) parts.1)
+    and-true (knows_dead (with_dead known x) (DataNode d)) (list_all (λ j. knows_dead (with_dead known x) (ParityNode j)) (range_with_len 0 i))
+    (knows-still known x (DataNode d) parts.0) (all-still known x (range_with_len 0 i) parts.1)
 
 -- what becomes of a seat and a rank where takeovers are due: by whether the process heads the partition, and
 -- whether it knows all of lower rank dead
@@ -96,7 +98,9 @@ some-mapped f (Some x) = refl
 module _ (s : Dimensions) (i : ℕ) where
   -- the test of a takeover, in the words of seats
   test-is : (p : Process) (d : ℕ) → takes_over p d (ParityNode i) ≡ (not (is_some (seat_of p d)) && knows_lower p.known d i)
-  test-is p d = ap (λ (b : Bool). (not b && knows_dead p.known (DataNode d)) && list_all (λ j. knows_dead p.known (ParityNode j)) (range_with_len 0 i)) (sym (some-mapped (λ (y : Head). y.rank) (head_at p d)))
+  test-is p d =
+      ap (λ (b : Bool). (not b && knows_dead p.known (DataNode d)) && list_all (λ j. knows_dead p.known (ParityNode j)) (range_with_len 0 i))
+      (sym (some-mapped (λ (y : Head). y.rank) (head_at p d)))
       ∙ assoc (not (is_some (seat_of p d))) (knows_dead p.known (DataNode d)) (list_all (λ j. knows_dead p.known (ParityNode j)) (range_with_len 0 i)) where
         assoc : (a b c : Bool) → ((a && b) && c) ≡ (a && (b && c))
         assoc true b c = refl
@@ -107,8 +111,12 @@ module _ (s : Dimensions) (i : ℕ) where
 
   -- a partition is taken over
   taken : (p : Process) (d : ℕ) → p.name ≡ ParityNode i → d < s.k → is_some (seat_of p d) ≡ false → (t : ProcessStep) → t ≡ taken_over s d p
-      → (t.process.name ≡ p.name) × (t.process.known ≡ p.known) × (seat_of t.process d ≡ Some (suc i)) × (at 0 t.process.ranks d ≡ suc i) × ((e : ℕ) → e ≢ d → Stays p t.process e) × SentWell Owes s.k t.process t.sent
-  taken p d name below none t is = subst (λ (y : ProcessStep). (y.process.name ≡ p.name) × (y.process.known ≡ p.known) × (seat_of y.process d ≡ Some (suc i)) × (at 0 y.process.ranks d ≡ suc i) × ((e : ℕ) → e ≢ d → Stays p y.process e) × SentWell Owes s.k y.process y.sent) (sym is) made
+      → (t.process.name ≡ p.name) × (t.process.known ≡ p.known) × (seat_of t.process d ≡ Some (suc i)) × (at 0 t.process.ranks d ≡ suc i) ×
+      ((e : ℕ) → e ≢ d → Stays p t.process e) × SentWell Owes s.k t.process t.sent
+  taken p d name below none t is =
+      subst
+      (λ (y : ProcessStep). (y.process.name ≡ p.name) × (y.process.known ≡ p.known) × (seat_of y.process d ≡ Some (suc i)) × (at 0 y.process.ranks d ≡ suc i) × ((e : ℕ) → e ≢ d → Stays p y.process e) × SentWell Owes s.k y.process y.sent)
+      (sym is) made
     where
       r : ℕ
       r = suc (parity_number p.name)
@@ -199,7 +207,9 @@ module _ (s : Dimensions) (i : ℕ) where
       name = later.name ∙ first.name;
       known = later.known ∙ first.known;
       due = λ d low high. due_at d low high (cases_eq d a);
-      before = λ d low. let there = later.before d (omega (arith, low)) in let here = first.others d (λ same. absurd (omega (arith, same, low))) in record { seat = there.seat ∙ here.seat; rank = there.rank ∙ here.rank };
+      before =
+          λ d low. let there = later.before d (omega (arith, low)) in let here = first.others d
+          (λ same. absurd (omega (arith, same, low))) in record { seat = there.seat ∙ here.seat; rank = there.rank ∙ here.rank };
       keeps = record { name = later.keeps.name ∙ first.keeps.name; seats = λ e r sits. later.keeps.seats e r (first.keeps.seats e r sits) };
       sent = each-append (λ z. MaySend Owes s.k rest.process z.to z.message) t.sent rest.sent (sent-kept Owes s.k t.process rest.process later.keeps t.sent first.sent) later.sent;
     } where
@@ -279,7 +289,9 @@ module _ (s : Dimensions) (dead : ProcessId) (p : Process) where
   noticed_data e seated = record {
     name = whole.same.name ∙ core-known dead;
     known = whole.same.known ∙ known-known dead;
-    sits = λ d below. let sits = seated.sits d below in (whole.same.seats d ∙ (stays-known dead d).seat ∙ sits.0, ap (λ (ranks : List ℕ). at 0 ranks d) whole.same.ranks ∙ (stays-known dead d).rank ∙ sits.1);
+    sits =
+        λ d below. let sits = seated.sits d below in
+        (whole.same.seats d ∙ (stays-known dead d).seat ∙ sits.0, ap (λ (ranks : List ℕ). at 0 ranks d) whole.same.ranks ∙ (stays-known dead d).rank ∙ sits.1);
     ranks = λ d below. inl (ap (λ (ranks : List ℕ). at 0 ranks d) whole.same.ranks ∙ (stays-known dead d).rank);
     keeps = record { name = whole.same.name ∙ core-known dead; seats = λ d r sits. whole.same.seats d ∙ (stays-known dead d).seat ∙ sits };
     sent = whole.sent;
@@ -319,11 +331,13 @@ module _ (s : Dimensions) (dead : ProcessId) (p : Process) where
         → AfterTake (is_some (seat_of p d)) new i (seat_of p d) (at 0 p.ranks d) (seat_of rest.process d) (at 0 rest.process.ranks d)
         → SitsWhen new i (seat_of rest.process d) (at 0 rest.process.ranks d)
     sits_by d true new rises sits after =
-        let moved : AfterTake true new i (seat_of p d) (at 0 p.ranks d) (seat_of rest.process d) (at 0 rest.process.ranks d) = subst (λ (x : Option ℕ). AfterTake (is_some x) new i (seat_of p d) (at 0 p.ranks d) (seat_of rest.process d) (at 0 rest.process.ranks d)) sits.0 after in
+        let moved : AfterTake true new i (seat_of p d) (at 0 p.ranks d) (seat_of rest.process d) (at 0 rest.process.ranks d) = subst
+        (λ (x : Option ℕ). AfterTake (is_some x) new i (seat_of p d) (at 0 p.ranks d) (seat_of rest.process d) (at 0 rest.process.ranks d)) sits.0 after in
         subst (λ (b : Bool). SitsWhen b i (seat_of rest.process d) (at 0 rest.process.ranks d)) (sym (rises refl)) (moved.0 ∙ sits.0, moved.1 ∙ sits.1)
     sits_by d false true rises sits after = subst (λ (x : Option ℕ). AfterTake (is_some x) true i (seat_of p d) (at 0 p.ranks d) (seat_of rest.process d) (at 0 rest.process.ranks d)) sits.0 after
     sits_by d false false rises sits after =
-        let moved : AfterTake false false i (seat_of p d) (at 0 p.ranks d) (seat_of rest.process d) (at 0 rest.process.ranks d) = subst (λ (x : Option ℕ). AfterTake (is_some x) false i (seat_of p d) (at 0 p.ranks d) (seat_of rest.process d) (at 0 rest.process.ranks d)) sits.0 after in
+        let moved : AfterTake false false i (seat_of p d) (at 0 p.ranks d) (seat_of rest.process d) (at 0 rest.process.ranks d) = subst
+        (λ (x : Option ℕ). AfterTake (is_some x) false i (seat_of p d) (at 0 p.ranks d) (seat_of rest.process d) (at 0 rest.process.ranks d)) sits.0 after in
         (moved.0 ∙ sits.0, let same : at 0 rest.process.ranks d ≡ at 0 p.ranks d = moved.1 in let low = sits.1 in omega (arith, same, low))
 
     sits_at : (d : ℕ) → d < s.k → Sits rest.process d (ParityNode i)

@@ -1,5 +1,5 @@
 -- What is read of nodes and links after one of them changed.
-use Rattle.std.proofs.Common.{ℕ, ◌≡◌, ◌≢◌, ◌+◌, Bool, false, List, [], ◌∷◌, ◌++◌, length, take, map, if◌then◌else◌, refl, sym, ap, ◌∙◌, arith}
+use Rattle.std.proofs.Common.{ℕ, ◌≡◌, ◌≢◌, ◌+◌, Bool, false, List, [], ◌∷◌, ◌++◌, length, take, map, if◌then◌else◌, refl, sym, ap, ◌∙◌, arith, Option, Some, None}
 use Rattle.std.proofs.lemmas.List.{append-nil}
 use Rattle.std.specs.List.{range_with_len}
 use Rattle.group_types.specs.Dimensions.{Dimensions}
@@ -71,3 +71,7 @@ link-others s dead links q qin other =
     at-indices s [] (λ x. if same_process (process_at s x) dead then [] else at [] links x) q qin
     ∙ ap (λ (x : ProcessId). if same_process x dead then [] else at [] links (index_of s q)) (process_at-index s q qin)
     ∙ ap (λ (b : Bool). if b then [] else at [] links (index_of s q)) (same-ne q dead other)
+
+-- one thing stands in an option
+pub some-same : {X : Type 0} (a b : X) → Some a ≡ Some b → a ≡ b
+some-same a b is = ap (λ (o : Option _). elim o [ None ↦ a | Some x ↦ x ]) is

@@ -16,9 +16,8 @@ use Rattle.group_run.specs.Headline.{IsRunFrom, MayCome}
 use Rattle.group_run.specs.History.{History, history_from, history_of, no_history, prolonged}
 use Rattle.group_run.specs.Process.{Node}
 use Rattle.group_run.specs.World.{World, node_in, opening_node, world_after}
-use Rattle.law_moves.specs.Moves.{HoldsAlways}
 use Rattle.law_moves.proofs.Moves.{Keeps, Moves, RunsMove, Stays, Treated, Received, Failed}
-use Rattle.law_moves.specs.State.{State, state_of}
+use Rattle.law_moves.specs.State.{State, state_of, HoldsAlways}
 use Rattle.law_moves.proofs.State.{Opens}
 use Rattle.law_moves.proofs.Events.{Comes, FramedHistory, event_comes}
 use Rattle.law_moves.proofs.Reading.{at-indices}

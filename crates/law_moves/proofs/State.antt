@@ -1,4 +1,4 @@
--- What laws look at of a group: functions of a process, so that no law looks at nodes or at lists of links.
+-- A state at the start of a group.
 use Rattle.std.specs.Prelude.{ℕ, ◌≡◌, false, []}
 use Rattle.group_types.specs.Dimensions.{Dimensions}
 use Rattle.group_types.specs.Names.{IsProcess}

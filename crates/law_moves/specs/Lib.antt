@@ -1,4 +1,3 @@
 pub mod Away
 pub mod Down
-pub mod Moves
 pub mod State

@@ -1,4 +1,5 @@
--- What laws look at of a group: functions of a process, so that no law looks at nodes or at lists of links.
+-- What laws look at of a group: functions of a process, so that no law looks at nodes or at lists of links; and
+-- what it is that a sentence on them holds along every run.
 use Rattle.std.specs.Prelude.{ℕ, ◌≤◌, ◌+◌, Bool, List, [], map}
 use Rattle.std.specs.List.{range_with_len}
 use Rattle.group_types.specs.Dimensions.{Dimensions}
@@ -8,9 +9,11 @@ use Rattle.group_types.specs.declared.process.ProcessId.{ProcessId}
 use Rattle.membership.specs.Members.{count_dead}
 use Rattle.group_message.specs.declared.message.Message.{Message}
 use Rattle.group_message.specs.declared.update.Update.{Update}
-use Rattle.group_run.specs.History.{History}
+use Rattle.group_calls.specs.declared.event.Event.{Event}
+use Rattle.group_run.specs.History.{History, history_of}
 use Rattle.group_run.specs.Process.{Process, Node}
 use Rattle.group_run.specs.World.{node_in}
+use Rattle.group_run.specs.Headline.{IsRun}
 
 -- the processes, who of them is dead, the links between them, and the settled updates of each partition
 pub record State : Type 0 where
@@ -39,3 +42,7 @@ lost_in s v = count_dead (map (λ x. v.dead (process_at s x)) (range_with_len 0 
 -- at most m processes are dead
 abbrev pub IsUp : Dimensions → State → Type 0
 IsUp s v = lost_in s v ≤ s.m
+
+-- the sentence holds along every run
+abbrev pub HoldsAlways : Dimensions → (State → Type 0) → Type 0
+HoldsAlways s P = (es : List Event) → IsRun s es → P (state_of (history_of s es))

@@ -48,24 +48,26 @@ module _ (s : Dimensions) (v w : State) (p : ProcessId) (keep : ℕ) (pin : IsPr
   died-rows : (l n r d : ℕ) → l < s.m → r < s.m → d < s.k → w.dead (ParityNode l) ≡ false → w.dead (ParityNode r) ≡ false → WantsRow r (opened (w.process (ParityNode l)) n)
       → (knows_dead (w.process (ParityNode l)).known (DataNode d) ≡ true) ⊎ (w.dead (DataNode d) ≡ false)
       → (knows_dead (v.process (ParityNode l)).known (DataNode d) ≡ true → v.dead (DataNode d) ≡ true) → RowComes s w l n r d
-  died-rows l n r d lin rin low l_lives r_lives wants may known_dead = on (old.waited.rows l n r d lin rin low (lived (ParityNode l) lin l_lives) (lived (ParityNode r) rin r_lives) (subst (λ (y : Process). WantsRow r (opened y n)) (process-is (ParityNode l) lin) wants) (may_v may)) where
-    may_v : (knows_dead (w.process (ParityNode l)).known (DataNode d) ≡ true) ⊎ (w.dead (DataNode d) ≡ false)
-        → (knows_dead (v.process (ParityNode l)).known (DataNode d) ≡ true) ⊎ (v.dead (DataNode d) ≡ false)
-    may_v (inl known) = inl (ap (λ (y : Process). knows_dead y.known (DataNode d)) (sym (process-is (ParityNode l) lin)) ∙ known)
-    may_v (inr living) = inr (lived (DataNode d) low living)
+  died-rows l n r d lin rin low l_lives r_lives wants may known_dead =
+      on
+      (old.waited.rows l n r d lin rin low (lived (ParityNode l) lin l_lives) (lived (ParityNode r) rin r_lives) (subst (λ (y : Process). WantsRow r (opened y n)) (process-is (ParityNode l) lin) wants) (may_v may)) where
+        may_v : (knows_dead (w.process (ParityNode l)).known (DataNode d) ≡ true) ⊎ (w.dead (DataNode d) ≡ false)
+            → (knows_dead (v.process (ParityNode l)).known (DataNode d) ≡ true) ⊎ (v.dead (DataNode d) ≡ false)
+        may_v (inl known) = inl (ap (λ (y : Process). knows_dead y.known (DataNode d)) (sym (process-is (ParityNode l) lin)) ∙ known)
+        may_v (inr living) = inr (lived (DataNode d) low living)
 
-    data_on : (knows_dead (w.process (ParityNode l)).known (DataNode d) ≡ true) ⊎ (w.dead (DataNode d) ≡ false) → v.dead (DataNode d) ≡ false → w.dead (DataNode d) ≡ false
-    data_on (inr living) lives = living
-    data_on (inl known) lives = absurd (cc (sym lives ∙ known_dead (ap (λ (y : Process). knows_dead y.known (DataNode d)) (sym (process-is (ParityNode l) lin)) ∙ known)))
+        data_on : (knows_dead (w.process (ParityNode l)).known (DataNode d) ≡ true) ⊎ (w.dead (DataNode d) ≡ false) → v.dead (DataNode d) ≡ false → w.dead (DataNode d) ≡ false
+        data_on (inr living) lives = living
+        data_on (inl known) lives = absurd (cc (sym lives ∙ known_dead (ap (λ (y : Process). knows_dead y.known (DataNode d)) (sym (process-is (ParityNode l) lin)) ∙ known)))
 
-    on : RowComes s v l n r d → RowComes s w l n r d
-    on (Asked living has) = Asked (data_on may living) (subst (Has (IsAsk l n r)) (sym (link-is (ParityNode l) (DataNode d) lin low (not-p (ParityNode l) l_lives))) has)
-    on (Copied held) = Copied (subst (λ (y : Process). Marked d (marks_in y l n)) (sym (process-is (ParityNode r) rin)) held)
-    on (Given apart has) = Given apart (subst (Has (IsRow l n)) (sym (link-is (ParityNode r) (ParityNode l) rin lin (not-p (ParityNode r) r_lives))) has)
-    on (Marking x xin apart living which has) = Marking x xin apart (source which) which (subst (Has (IsMark l n d)) (sym (link-is x (ParityNode r) xin rin (not-p x (source which)))) has) where
-      source : (x ≡ ParityNode l) ⊎ (x ≡ DataNode d) → w.dead x ≡ false
-      source (inl is) = ap w.dead is ∙ l_lives
-      source (inr is) = ap w.dead is ∙ data_on may (ap v.dead (sym is) ∙ living)
+        on : RowComes s v l n r d → RowComes s w l n r d
+        on (Asked living has) = Asked (data_on may living) (subst (Has (IsAsk l n r)) (sym (link-is (ParityNode l) (DataNode d) lin low (not-p (ParityNode l) l_lives))) has)
+        on (Copied held) = Copied (subst (λ (y : Process). Marked d (marks_in y l n)) (sym (process-is (ParityNode r) rin)) held)
+        on (Given apart has) = Given apart (subst (Has (IsRow l n)) (sym (link-is (ParityNode r) (ParityNode l) rin lin (not-p (ParityNode r) r_lives))) has)
+        on (Marking x xin apart living which has) = Marking x xin apart (source which) which (subst (Has (IsMark l n d)) (sym (link-is x (ParityNode r) xin rin (not-p x (source which)))) has) where
+          source : (x ≡ ParityNode l) ⊎ (x ≡ DataNode d) → w.dead x ≡ false
+          source (inl is) = ap w.dead is ∙ l_lives
+          source (inr is) = ap w.dead is ∙ data_on may (ap v.dead (sym is) ∙ living)
 
   died-pending : (l n r : ℕ) → l < s.m → r < s.m → Pending s w l n r → Pending s v l n r
   died-pending l n r lin rin (CopyThere some) = CopyThere (ap (λ (y : Process). is_some (marks_in y l n)) (sym (process-is (ParityNode r) rin)) ∙ some)
@@ -95,7 +97,9 @@ module _ (s : Dimensions) (v w : State) (p : ProcessId) (keep : ℕ) (pin : IsPr
           subst (λ (y : Process). at 0 y.as_row.ceased l < n) (sym (process-is (ParityNode r) rin)) before.0,
           λ apart. subst (Each (Leaves n)) (sym (link-is (ParityNode l) (ParityNode r) lin rin (not-p (ParityNode l) l_lives))) (before.1 apart),
         );
-    pends = λ l n r lin rin l_lives r_lives pend. on l n r lin rin l_lives (old.pends l n r lin rin (lived (ParityNode l) lin l_lives) (lived (ParityNode r) rin r_lives) (died-pending l n r lin rin pend));
+    pends =
+        λ l n r lin rin l_lives r_lives pend. on l n r lin rin l_lives
+        (old.pends l n r lin rin (lived (ParityNode l) lin l_lives) (lived (ParityNode r) rin r_lives) (died-pending l n r lin rin pend));
   } where
     blocks : (l n d : ℕ) → l < s.m → d < s.k → w.dead (ParityNode l) ≡ false → w.dead (DataNode d) ≡ false → BlockComes v l n d → BlockComes w l n d
     blocks l n d lin low l_lives d_lives (inl has) = inl (subst (Has (IsRead l n)) (sym (link-is (ParityNode l) (DataNode d) lin low (not-p (ParityNode l) l_lives))) has)

@@ -63,17 +63,22 @@ module _ (s : Dimensions) (v : State) (carried : Carried s v) where
   pub none-new : (l d : ℕ) → l < s.m → d < s.k → tokens s v (token l (suc (v.process (ParityNode l)).as_leader.last_session) d (Row l)) ≤ 0
   none-new l d lin low =
       let less = carried.tokens (token l (suc (v.process (ParityNode l)).as_leader.last_session) d (Row l)) low lin in
-      let none : one_if (nat_lt (suc (v.process (ParityNode l)).as_leader.last_session) (suc (v.process (ParityNode l)).as_leader.last_session)) ≡ 0 = ap one_if (not-below (suc (v.process (ParityNode l)).as_leader.last_session)) in
+      let none : one_if (nat_lt (suc (v.process (ParityNode l)).as_leader.last_session) (suc (v.process (ParityNode l)).as_leader.last_session)) ≡ 0 = ap one_if
+      (not-below (suc (v.process (ParityNode l)).as_leader.last_session)) in
       omega (arith, less, none)
     where
       not-below : (a : ℕ) → nat_lt a a ≡ false
       not-below a = grind (arith, common_steps)
 
 -- a process treats something
-module _ (s : Dimensions) (shaped : IsShape s) (v w : State) (p : ProcessId) (t : ProcessStep) (pin : IsProcess s p) (lives : v.dead p ≡ false) (held : Held s v) (after : Members s w) (treats : Treats s (v.process p) t) (acts : Acted s v w p t) where
+module _ (s : Dimensions) (shaped : IsShape s) (v w : State) (p : ProcessId) (t : ProcessStep) (pin : IsProcess s p) (lives : v.dead p ≡ false)
+    (held : Held s v) (after : Members s w) (treats : Treats s (v.process p) t) (acts : Acted s v w p t) where
   treated-free : (l : ℕ) → p ≡ ParityNode l
       → (at 0 (v.process p).as_row.ceased l < suc (v.process p).as_leader.last_session) × (marks_in (v.process p) l (suc (v.process p).as_leader.last_session) ≡ None)
-  treated-free l is = subst (λ (y : ProcessId). (at 0 (v.process y).as_row.ceased l < suc (v.process y).as_leader.last_session) × (marks_in (v.process y) l (suc (v.process y).as_leader.last_session) ≡ None)) (sym is)
+  treated-free l is =
+      subst
+      (λ (y : ProcessId). (at 0 (v.process y).as_row.ceased l < suc (v.process y).as_leader.last_session) × (marks_in (v.process y) l (suc (v.process y).as_leader.last_session) ≡ None))
+      (sym is)
       ((held.ending.ceased l l (suc (v.process (ParityNode l)).as_leader.last_session) lin lin l_lives l_lives (inr (omega arith))).0, by (marks_in (v.process (ParityNode l)) l (suc (v.process (ParityNode l)).as_leader.last_session)) refl)
     where
       lin : l < s.m
@@ -141,7 +146,9 @@ module _ (s : Dimensions) (v u w : State) (x p : ProcessId) (m : Message) (xin :
   leader-unknown l lin l_lives = by (same-cases (ParityNode l) p) where
     by : (ParityNode l ≡ p) ⊎ (ParityNode l ≢ p) → knows_dead (v.process p).known (ParityNode l) ≡ false
     by (inl is) = subst (λ (y : ProcessId). knows_dead (v.process p).known y ≡ false) (sym is) (held.members.not_self p pin lives)
-    by (inr other) = living-unknown (ParityNode l) (v.dead (ParityNode l)) (knows_dead (v.process p).known (ParityNode l)) (v.link (ParityNode l) p) (held.members.stands (ParityNode l) p lin pin other lives) l_lives
+    by (inr other) =
+        living-unknown (ParityNode l) (v.dead (ParityNode l)) (knows_dead (v.process p).known (ParityNode l)) (v.link (ParityNode l) p)
+        (held.members.stands (ParityNode l) p lin pin other lives) l_lives
 
   -- a mark of a living process has the rank that the row stands under
   rank-is : (session : Session) (r block d n i : ℕ) → p ≡ ParityNode i
@@ -158,7 +165,9 @@ module _ (s : Dimensions) (v u w : State) (x p : ProcessId) (m : Message) (xin :
     i_lives = ap v.dead (sym is) ∙ lives
 
     goes_along : Along (next d) (LaneGoes Any d (v.settled d)) (seen_at d (v.settled d) (v.process (ParityNode i))) (tells.Mark session (record { 0 = r }) block (record { 0 = d }) n ∷ u.link x p)
-    goes_along = subst (Along (next d) (LaneGoes Any d (v.settled d)) (seen_at d (v.settled d) (v.process (ParityNode i)))) (ap (v.link x) (sym is) ∙ first) ((held.reach d low).lanes x i xin iin (λ same. apart (same ∙ sym is)) i_lives).goes
+    goes_along =
+        subst (Along (next d) (LaneGoes Any d (v.settled d)) (seen_at d (v.settled d) (v.process (ParityNode i)))) (ap (v.link x) (sym is) ∙ first)
+        ((held.reach d low).lanes x i xin iin (λ same. apart (same ∙ sym is)) i_lives).goes
 
     under : at 0 (v.process (ParityNode i)).ranks d ≤ r
     under = by (cases_lt r (at 0 (v.process (ParityNode i)).ranks d)) where
@@ -249,7 +258,9 @@ module _ (s : Dimensions) (v u w : State) (x p : ProcessId) (m : Message) (xin :
 -- who is known dead is
 known-dead : (s : Dimensions) (v : State) → Members s v → (l d : ℕ) → l < s.m → d < s.k → v.dead (ParityNode l) ≡ false
     → knows_dead (v.process (ParityNode l)).known (DataNode d) ≡ true → v.dead (DataNode d) ≡ true
-known-dead s v members l d lin low lives known = known-is-dead (DataNode d) (v.dead (DataNode d)) (knows_dead (v.process (ParityNode l)).known (DataNode d)) (v.link (DataNode d) (ParityNode l)) (members.stands (DataNode d) (ParityNode l) low lin (λ same. cc same) lives) known
+known-dead s v members l d lin low lives known =
+    known-is-dead (DataNode d) (v.dead (DataNode d)) (knows_dead (v.process (ParityNode l)).known (DataNode d)) (v.link (DataNode d) (ParityNode l))
+    (members.stands (DataNode d) (ParityNode l) low lin (λ same. cc same) lives) known
 
 pub keeps-held : (s : Dimensions) → IsShape s → Keeps s (Held s)
 keeps-held s shaped = record {

@@ -69,7 +69,9 @@ load-is w = sums-same w.shape (load_from w) (way_from w.shape v) from 0 (w.shape
       ∙ ap (λ (i : ℕ). if (node_at w y).dead then 0 else weights (at [] (node_at w x).links i)) (sym (index-process_at w.shape y))
 
   from : (x : ℕ) → load_from w x ≡ way_from w.shape (state_from w.shape w.nodes []) (process_at w.shape x)
-  from x = sums-same w.shape (λ y. if (node_at w y).dead then 0 else sum_by weight_of (at [] (node_at w x).links y)) (on_way (state_from w.shape w.nodes []) (process_at w.shape x)) (link x) 0 (w.shape.k + w.shape.m)
+  from x =
+      sums-same w.shape (λ y. if (node_at w y).dead then 0 else sum_by weight_of (at [] (node_at w x).links y))
+      (on_way (state_from w.shape w.nodes []) (process_at w.shape x)) (link x) 0 (w.shape.k + w.shape.m)
 
 -- what is sent weighs as much as what the processes get of it
 front-weighs : (to q : ProcessId) (m : Message) (rest : List Message) → weights (front_if (same_process to q) m rest) ≤ only_at to (weight_of m) q + weights rest
@@ -89,7 +91,8 @@ sent-sum s (z ∷ zs) =
     let rest = sent-sum s zs in
     let first = sum-only (everyone s) z.to (weight_of z.message) (everyone-once s) in
     let split = sum-both (everyone s) (only_at z.to (weight_of z.message)) (λ q. weights (sent_to q zs)) in
-    let whole = sum-le (everyone s) (λ q. only_at z.to (weight_of z.message) q + weights (sent_to q zs)) (λ q. weights (sent_to q (z ∷ zs))) (λ q there. front-weighs z.to q z.message (sent_to q zs)) in
+    let whole = sum-le (everyone s) (λ q. only_at z.to (weight_of z.message) q + weights (sent_to q zs)) (λ q. weights (sent_to q (z ∷ zs)))
+    (λ q there. front-weighs z.to q z.message (sent_to q zs)) in
     omega (arith, rest, first, split, whole)
 
 -- a link has at most what was sent more

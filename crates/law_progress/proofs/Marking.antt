@@ -172,7 +172,8 @@ module _ (s : Dimensions) where
 
     waiting-other : (i j : ℕ) → ((i ≡ c.leader) × (j ≡ c.number) → ⊥) → marks_in waiting i j ≡ marks_in p i j
     waiting-other i j other =
-        ap (option_map (λ x. x.marks)) (found-apart (is_copy i j) (is_copy c.leader c.number) more q.as_row.copies (copy-other i j c.leader c.number more (copy-is more) other) (λ x swap. copy-other i j c.leader c.number x swap other))
+        ap (option_map (λ x. x.marks))
+        (found-apart (is_copy i j) (is_copy c.leader c.number) more q.as_row.copies (copy-other i j c.leader c.number more (copy-is more) other) (λ x swap. copy-other i j c.leader c.number x swap other))
         ∙ others i j other
 
     rid-here : marks_in rid c.leader c.number ≡ None
@@ -191,7 +192,9 @@ module _ (s : Dimensions) where
       ceased = ceased;
       others = rid-other;
       calm = tt;
-      outcome = Own rid-here (rest full) (sym name ∙ same-eq q.name (ParityNode c.leader) own) (gathers-from p rid _ c.number (λ r. r ≡ c.leader) (λ e. ⊥) sessions last (row-gathers s c.number c.leader more.bytes rid));
+      outcome =
+          Own rid-here (rest full) (sym name ∙ same-eq q.name (ParityNode c.leader) own)
+          (gathers-from p rid _ c.number (λ r. r ≡ c.leader) (λ e. ⊥) sessions last (row-gathers s c.number c.leader more.bytes rid));
     }
     finished false own full = record {
       name = name;
@@ -199,7 +202,9 @@ module _ (s : Dimensions) where
       ceased = ceased;
       others = rid-other;
       calm = (tt, tt);
-      outcome = Goes rid-here (rest full) (λ (same : p.name ≡ ParityNode c.leader). cc (sym own ∙ ap (λ (y : ProcessId). same_process y (ParityNode c.leader)) (name ∙ same) ∙ same-refl (ParityNode c.leader)))
+      outcome =
+          Goes rid-here (rest full)
+          (λ (same : p.name ≡ ParityNode c.leader). cc (sym own ∙ ap (λ (y : ProcessId). same_process y (ParityNode c.leader)) (name ∙ same) ∙ same-refl (ParityNode c.leader)))
           (gathers-same s p rid c.number sessions last) (inl (refl, (refl, refl)));
     }
 

@@ -85,7 +85,9 @@ module _ (s : Dimensions) (v u w : State) (x p : ProcessId) (came : List Message
   stays-w : (P : Message → Type 0) (a b : ProcessId) → IsProcess s a → IsProcess s b → v.dead b ≡ false → Has P (u.link a b) → Has P (w.link a b)
   stays-w P a b ain bin living has = by (same-cases a p) where
     by : (a ≡ p) ⊎ (a ≢ p) → Has P (w.link a b)
-    by (inl is) = subst (λ (y : ProcessId). Has P (w.link y b)) (sym is) (subst (Has P) (sym (grown b bin living)) (has-left P (u.link p b) (sent_to b t.sent) (subst (λ (y : ProcessId). Has P (u.link y b)) is has)))
+    by (inl is) =
+        subst (λ (y : ProcessId). Has P (w.link y b)) (sym is)
+        (subst (Has P) (sym (grown b bin living)) (has-left P (u.link p b) (sent_to b t.sent) (subst (λ (y : ProcessId). Has P (u.link y b)) is has)))
     by (inr other) = subst (Has P) (sym (move.acts.links a b ain bin other)) has
 
   stays : (P : Message → Type 0) (a b : ProcessId) → IsProcess s a → IsProcess s b → v.dead b ≡ false → Has P (v.link a b) → ((a ≡ x) × (b ≡ p) × Has P came) ⊎ Has P (w.link a b)
@@ -172,7 +174,8 @@ module _ (s : Dimensions) (v u w : State) (x p : ProcessId) (came : List Message
           (each-sent_to (λ to m. Leaves n m) (ParityNode r) t.sent (move.fair.sent.ceases l n (named l is) (subst (λ (y : Process). Fresh y n) (now-p (ParityNode l) is) fresh)))))
 
   -- rows that are waited for
-  module _ (l n r d : ℕ) (lin : l < s.m) (rin : r < s.m) (low : d < s.k) (l_lives : w.dead (ParityNode l) ≡ false) (r_lives : w.dead (ParityNode r) ≡ false) (wants : WantsRow r (opened (w.process (ParityNode l)) n)) where
+  module _ (l n r d : ℕ) (lin : l < s.m) (rin : r < s.m) (low : d < s.k) (l_lives : w.dead (ParityNode l) ≡ false) (r_lives : w.dead (ParityNode r) ≡ false)
+      (wants : WantsRow r (opened (w.process (ParityNode l)) n)) where
     l_lived : v.dead (ParityNode l) ≡ false
     l_lived = lived (ParityNode l) lin l_lives
 
@@ -234,7 +237,9 @@ module _ (s : Dimensions) (v u w : State) (x p : ProcessId) (came : List Message
           Asked living (subst (λ (y : ProcessId). Has (IsAsk l n r) (w.link y (DataNode d))) (sym is) (sent-there (IsAsk l n r) (DataNode d) low (lives-v living) sends))
 
       by : (ParityNode l ≡ p) ⊎ (ParityNode l ≢ p) → RowComes s w l n r d
-      by (inr other) = carry (λ from is has. absurd (other is)) (old-rows (subst (λ (y : Process). WantsRow r (opened y n)) (other-same (ParityNode l) lin other) wants) (may-v (ap (λ (y : Process). y.known) (other-same (ParityNode l) lin other)) may))
+      by (inr other) =
+          carry (λ from is has. absurd (other is))
+          (old-rows (subst (λ (y : Process). WantsRow r (opened y n)) (other-same (ParityNode l) lin other) wants) (may-v (ap (λ (y : Process). y.known) (other-same (ParityNode l) lin other)) may))
       by (inl is) = split (move.fair.leader.rows l n r (named l is) wants_t) where
         wants_t : WantsRow r (opened t.process n)
         wants_t = subst (λ (y : Process). WantsRow r (opened y n)) (now-p (ParityNode l) is) wants
@@ -379,7 +384,8 @@ module _ (s : Dimensions) (v u w : State) (x p : ProcessId) (came : List Message
           where
             held : 1 ≤ at_process (token l n e (Row r)) (u.process (ParityNode r))
             held =
-                let there = marked-token s l n r u e u-name (subst (λ (y : Process). Marked e (marks_in y l n)) (sym (move.same (ParityNode r) rin)) (subst (λ (y : ProcessId). Marked e (marks_in (v.process y) l n)) (sym here) (others e low other))) in
+                let there = marked-token s l n r u e u-name
+                (subst (λ (y : Process). Marked e (marks_in y l n)) (sym (move.same (ParityNode r) rin)) (subst (λ (y : ProcessId). Marked e (marks_in (v.process y) l n)) (sym here) (others e low other))) in
                 let one : one_if (in_copy (token l n e (Row r)) (Row r) (u.process (ParityNode r))) ≡ 1 = ap one_if there in
                 omega (arith, one)
 
@@ -417,7 +423,10 @@ module _ (s : Dimensions) (v u w : State) (x p : ProcessId) (came : List Message
       by (inl is) = split (move.fair.row.copies l n r (named r is) (ap is_some (ap (λ (y : Process). marks_in y l n) (sym (now-p (ParityNode r) is))) ∙ some)) where
         split : (is_some (marks_in (v.process p) l n) ≡ true) ⊎ ((d : ℕ) × Has (IsMark l n d) came) ⊎ ((r ≡ l) × WantsRow r (opened t.process n)) → Goal
         split (inl there) = was-pending (CopyThere (subst (λ (y : ProcessId). is_some (marks_in (v.process y) l n) ≡ true) (sym is) there)) (CopyThere some)
-        split (inr (inl (d, has))) = was-pending (MarkThere x d move.from (λ same. move.apart (has-some (IsMark l n d) came has) (same ∙ is)) (subst (λ (y : ProcessId). Has (IsMark l n d) (v.link x y)) (sym is) (came-v (IsMark l n d) has))) (CopyThere some)
+        split (inr (inl (d, has))) =
+            was-pending
+            (MarkThere x d move.from (λ same. move.apart (has-some (IsMark l n d) came has) (same ∙ is)) (subst (λ (y : ProcessId). Has (IsMark l n d) (v.link x y)) (sym is) (came-v (IsMark l n d) has)))
+            (CopyThere some)
         split (inr (inr (same, wants))) = wants-now (ap ParityNode (sym same) ∙ is) wants
     pends-w (MarkThere a d ain apart has) = by (was-u (IsMark l n d) a (ParityNode r) ain rin r_was has) where
       by : Has (IsMark l n d) (u.link a (ParityNode r)) ⊎ ((a ≡ p) × Sends (IsMark l n d) (ParityNode r) t.sent) → Goal

@@ -95,14 +95,20 @@ module _ (s : Dimensions) (x dead : ProcessId) (p : Process) where
     last = ap (λ l. l.last_session) knows.leader;
     marks = λ l n. marks_by l n (marks-left i last ended l n);
     rises = λ l. let c = ap (λ (ns : List ℕ). at 0 ns l) knows.ceased in let r = ceased-rises i last ended l in omega (arith, c, r);
-    below = λ l n low above. ceased-below i last ended l n (let c = ap (λ (ns : List ℕ). at 0 ns l) knows.ceased in omega (arith, c, low)) (λ same. let high = above (same ∙ number) in omega (arith, high, last_is));
+    below =
+        λ l n low above. ceased-below i last ended l n (let c = ap (λ (ns : List ℕ). at 0 ns l) knows.ceased in omega (arith, c, low))
+        (λ same. let high = above (same ∙ number) in omega (arith, high, last_is));
     above = λ l n marks found low. above_by l n marks found (let c = ap (λ (ns : List ℕ). at 0 ns l) knows.ceased in omega (arith, c, low)) (marks-left i last ended l n);
     ends = λ n some low. (
       (let own = ceased-own i last ended in let here : at 0 (copies_ceased i last ended).as_row.ceased (parity_number p.name) ≡ at 0 (copies_ceased i last ended).as_row.ceased i = ap (at 0 (copies_ceased i last ended).as_row.ceased) (sym number) in omega (arith, own, here, low, last_is)),
       (λ j has. has-map (λ z. (z.to ≡ ParityNode j) × IsCease n z.message) (λ k. record { to = ParityNode k; message = tells.Cease last }) (other_parities s.m told.name told.known) (each_to n j (omega (arith, low, last_is)) (other_parities s.m told.name told.known) has)),
     );
-    sent = λ P never y sends. never_to P never y (other_parities s.m told.name told.known) (map-has (λ z. (z.to ≡ y) × P z.message) (λ k. record { to = ParityNode k; message = tells.Cease last }) (other_parities s.m told.name told.known) sends);
-    leaves = λ n low. each-map (λ z. Leaves n z.message) (λ k. record { to = ParityNode k; message = tells.Cease last }) (other_parities s.m told.name told.known) (each-all (λ k. last < n) (λ k. omega (arith, low, last_is)) (other_parities s.m told.name told.known));
+    sent =
+        λ P never y sends. never_to P never y (other_parities s.m told.name told.known)
+        (map-has (λ z. (z.to ≡ y) × P z.message) (λ k. record { to = ParityNode k; message = tells.Cease last }) (other_parities s.m told.name told.known) sends);
+    leaves =
+        λ n low. each-map (λ z. Leaves n z.message) (λ k. record { to = ParityNode k; message = tells.Cease last }) (other_parities s.m told.name told.known)
+        (each-all (λ k. last < n) (λ k. omega (arith, low, last_is)) (other_parities s.m told.name told.known));
   } where
     i : ℕ
     i = parity_number told.name
@@ -122,7 +128,9 @@ module _ (s : Dimensions) (x dead : ProcessId) (p : Process) where
     marks_by : (l n : ℕ) → ((l ≡ i) × (n ≤ last) × (marks_in (copies_ceased i last ended) l n ≡ None)) ⊎ ((marks_in (copies_ceased i last ended) l n ≡ marks_in ended l n) × (l ≡ i → last < n))
         → (marks_in (copies_ceased i last ended) l n ≡ marks_in told l n) ⊎ ((marks_in (copies_ceased i last ended) l n ≡ None) × (n ≤ at 0 (copies_ceased i last ended).as_row.ceased l))
     marks_by l n (inr same) = inl same.0
-    marks_by l n (inl gone) = inr (gone.2, let own = ceased-own i last ended in let low = gone.1 in let here : at 0 (copies_ceased i last ended).as_row.ceased l ≡ at 0 (copies_ceased i last ended).as_row.ceased i = ap (at 0 (copies_ceased i last ended).as_row.ceased) gone.0 in omega (arith, own, low, here))
+    marks_by l n (inl gone) =
+        inr
+        (gone.2, let own = ceased-own i last ended in let low = gone.1 in let here : at 0 (copies_ceased i last ended).as_row.ceased l ≡ at 0 (copies_ceased i last ended).as_row.ceased i = ap (at 0 (copies_ceased i last ended).as_row.ceased) gone.0 in omega (arith, own, low, here))
 
     above_by : (l n : ℕ) (marks : List (Option ℕ)) → marks_in (copies_ceased i last ended) l n ≡ Some marks → at 0 ended.as_row.ceased l < n
         → ((l ≡ i) × (n ≤ last) × (marks_in (copies_ceased i last ended) l n ≡ None)) ⊎ ((marks_in (copies_ceased i last ended) l n ≡ marks_in ended l n) × (l ≡ i → last < n))
@@ -180,7 +188,8 @@ module _ (s : Dimensions) (x dead : ProcessId) (p : Process) where
   what-left l n = by (closed.marks l n) (knows-dead.marks l n) where
     by : (marks_in closing.process l n ≡ marks_in told l n) ⊎ ((marks_in closing.process l n ≡ None) × (n ≤ at 0 closing.process.as_row.ceased l))
         → (marks_in told l n ≡ marks_in p l n) ⊎ ((marks_in told l n ≡ None) × (knows_dead told.known (ParityNode l) ≡ true))
-        → (marks_in noticed.process l n ≡ marks_in p l n) ⊎ ((marks_in noticed.process l n ≡ None) × ((knows_dead noticed.process.known (ParityNode l) ≡ true) ⊎ (n ≤ at 0 noticed.process.as_row.ceased l)))
+        → (marks_in noticed.process l n ≡ marks_in p l n) ⊎
+        ((marks_in noticed.process l n ≡ None) × ((knows_dead noticed.process.known (ParityNode l) ≡ true) ⊎ (n ≤ at 0 noticed.process.as_row.ceased l)))
     by (inr gone) _ = inr (rest.marks l n ∙ gone.0, inr (let c = ceased-now l in let low = gone.1 in omega (arith, c, low)))
     by (inl same) (inl old) = inl (rest.marks l n ∙ same ∙ old)
     by (inl same) (inr gone) = inr (rest.marks l n ∙ same ∙ gone.0, inl (ap (λ known. knows_dead known (ParityNode l)) (rest.known ∙ closed.known) ∙ gone.1))
@@ -222,7 +231,9 @@ module _ (s : Dimensions) (x dead : ProcessId) (p : Process) where
 
   -- an open session is ceased at all others
   left-notice : LeaderFine s p → (l n r : ℕ) → p.name ≡ ParityNode l → WantsRow r (opened p n) → NoMore s x came_notice p noticed l n r
-  left-notice fine l n r name wants = sides.Closed (let low = ends.0 in let c = ceased-now (parity_number p.name) in let here : at 0 noticed.process.as_row.ceased l ≡ at 0 noticed.process.as_row.ceased (parity_number p.name) = ap (at 0 noticed.process.as_row.ceased) (sym (ap parity_number name)) in omega (arith, low, c, here))
+  left-notice fine l n r name wants =
+      sides.Closed
+      (let low = ends.0 in let c = ceased-now (parity_number p.name) in let here : at 0 noticed.process.as_row.ceased l ≡ at 0 noticed.process.as_row.ceased (parity_number p.name) = ap (at 0 noticed.process.as_row.ceased) (sym (ap parity_number name)) in omega (arith, low, c, here))
       (λ i low other unknown. has-left (λ z. (z.to ≡ ParityNode i) × IsCease n z.message) (closing.sent ++ (judged closing.process).sent) (taking (judged closing.process).process).sent
       (has-left (λ z. (z.to ≡ ParityNode i) × IsCease n z.message) closing.sent (judged closing.process).sent (ends.1 i (among i low other unknown))))
     where
@@ -274,7 +285,8 @@ module _ (s : Dimensions) (x dead : ProcessId) (p : Process) where
     last_below n (inr above) = let a = rest.last in let b = closed.last in omega (arith, above, a, b)
 
     fine_by : RowFine s p → (l n : ℕ) (marks : List (Option ℕ)) → marks_in noticed.process l n ≡ Some marks
-        → (marks_in noticed.process l n ≡ marks_in p l n) ⊎ ((marks_in noticed.process l n ≡ None) × ((knows_dead noticed.process.known (ParityNode l) ≡ true) ⊎ (n ≤ at 0 noticed.process.as_row.ceased l)))
+        → (marks_in noticed.process l n ≡ marks_in p l n) ⊎
+        ((marks_in noticed.process l n ≡ None) × ((knows_dead noticed.process.known (ParityNode l) ≡ true) ⊎ (n ≤ at 0 noticed.process.as_row.ceased l)))
         → CopyFine s noticed.process l n marks
     fine_by fine l n marks is (inr gone) = absurd (cc (sym gone.0 ∙ is))
     fine_by fine l n marks is (inl same) =

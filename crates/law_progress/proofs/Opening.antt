@@ -98,47 +98,54 @@ module _ (s : Dimensions) (x : ProcessId) (p : Process) (block l : ℕ) (inside 
   mark_of e i = record { to = ParityNode i; message = tells.Mark (session_of l number) (rank (at 0 p.ranks e)) block (partition e) (replica_of p e).applied }
 
   asks-d : (d r : ℕ) → d < s.k → knows_dead p.known (DataNode d) ≡ false → Has (λ i. i ≡ r) (rows_of s p) → Sends (IsAsk l number r) (DataNode d) step.sent
-  asks-d d r low is row = has-left P (session_starts s l number block p) ran.sent (has-left P (map question (left_of s p)) (flat_map (leader_marks s l number block p) (lost_of s p)) (has-map P question (left_of s p) (each_of (left_of s p) (left-has d low is)))) where
-    P : Sent → Type 0
-    P z = (z.to ≡ DataNode d) × IsAsk l number r z.message
+  asks-d d r low is row =
+      has-left P (session_starts s l number block p) ran.sent
+      (has-left P (map question (left_of s p)) (flat_map (leader_marks s l number block p) (lost_of s p)) (has-map P question (left_of s p) (each_of (left_of s p) (left-has d low is)))) where
+        P : Sent → Type 0
+        P z = (z.to ≡ DataNode d) × IsAsk l number r z.message
 
-    each_of : (ds : List ℕ) → Has (λ i. i ≡ d) ds → Has (λ i. (DataNode i ≡ DataNode d) × (OfSession l number (session_of l number) × Has (λ i. i ≡ r) (rows_of s p))) ds
-    each_of [] has = absurd has
-    each_of (e ∷ es) (inl same) = inl (ap DataNode same, ((refl, refl), row))
-    each_of (e ∷ es) (inr there) = inr (each_of es there)
+        each_of : (ds : List ℕ) → Has (λ i. i ≡ d) ds → Has (λ i. (DataNode i ≡ DataNode d) × (OfSession l number (session_of l number) × Has (λ i. i ≡ r) (rows_of s p))) ds
+        each_of [] has = absurd has
+        each_of (e ∷ es) (inl same) = inl (ap DataNode same, ((refl, refl), row))
+        each_of (e ∷ es) (inr there) = inr (each_of es there)
 
   reads-d : (d : ℕ) → d < s.k → knows_dead p.known (DataNode d) ≡ false → Sends (IsRead l number) (DataNode d) step.sent
-  reads-d d low is = has-left P (session_starts s l number block p) ran.sent (has-left P (map question (left_of s p)) (flat_map (leader_marks s l number block p) (lost_of s p)) (has-map P question (left_of s p) (each_of (left_of s p) (left-has d low is)))) where
-    P : Sent → Type 0
-    P z = (z.to ≡ DataNode d) × IsRead l number z.message
+  reads-d d low is =
+      has-left P (session_starts s l number block p) ran.sent
+      (has-left P (map question (left_of s p)) (flat_map (leader_marks s l number block p) (lost_of s p)) (has-map P question (left_of s p) (each_of (left_of s p) (left-has d low is)))) where
+        P : Sent → Type 0
+        P z = (z.to ≡ DataNode d) × IsRead l number z.message
 
-    each_of : (ds : List ℕ) → Has (λ i. i ≡ d) ds → Has (λ i. (DataNode i ≡ DataNode d) × OfSession l number (session_of l number)) ds
-    each_of [] has = absurd has
-    each_of (e ∷ es) (inl same) = inl (ap DataNode same, (refl, refl))
-    each_of (e ∷ es) (inr there) = inr (each_of es there)
+        each_of : (ds : List ℕ) → Has (λ i. i ≡ d) ds → Has (λ i. (DataNode i ≡ DataNode d) × OfSession l number (session_of l number)) ds
+        each_of [] has = absurd has
+        each_of (e ∷ es) (inl same) = inl (ap DataNode same, (refl, refl))
+        each_of (e ∷ es) (inr there) = inr (each_of es there)
 
   marks-d : (d r : ℕ) → d < s.k → knows_dead p.known (DataNode d) ≡ true → r ≢ l → Has (λ i. i ≡ r) (rows_of s p) → Sends (IsMark l number d) (ParityNode r) step.sent
-  marks-d d r low is other row = has-left P (session_starts s l number block p) ran.sent (has-right P (map question (left_of s p)) (flat_map (leader_marks s l number block p) (lost_of s p)) (has-flat P (leader_marks s l number block p) (lost_of s p) (each_lost (lost_of s p) (lost-has d low is)))) where
-    P : Sent → Type 0
-    P z = (z.to ≡ ParityNode r) × IsMark l number d z.message
+  marks-d d r low is other row =
+      has-left P (session_starts s l number block p) ran.sent
+      (has-right P (map question (left_of s p)) (flat_map (leader_marks s l number block p) (lost_of s p)) (has-flat P (leader_marks s l number block p) (lost_of s p) (each_lost (lost_of s p) (lost-has d low is)))) where
+        P : Sent → Type 0
+        P z = (z.to ≡ ParityNode r) × IsMark l number d z.message
 
-    rows : Has (λ i. i ≡ r) (filter (λ i. not (i == l)) (rows_of s p))
-    rows = has-filter (λ i. not (i == l)) r (rows_of s p) row (ap not (ne_eqb r l other))
+        rows : Has (λ i. i ≡ r) (filter (λ i. not (i == l)) (rows_of s p))
+        rows = has-filter (λ i. not (i == l)) r (rows_of s p) row (ap not (ne_eqb r l other))
 
-    each_of : (e : ℕ) → e ≡ d → (is : List ℕ) → Has (λ i. i ≡ r) is → Has (λ i. (ParityNode i ≡ ParityNode r) × (OfSession l number (session_of l number) × (e ≡ d))) is
-    each_of e same [] has = absurd has
-    each_of e same (i ∷ is) (inl here) = inl (ap ParityNode here, ((refl, refl), same))
-    each_of e same (i ∷ is) (inr there) = inr (each_of e same is there)
+        each_of : (e : ℕ) → e ≡ d → (is : List ℕ) → Has (λ i. i ≡ r) is → Has (λ i. (ParityNode i ≡ ParityNode r) × (OfSession l number (session_of l number) × (e ≡ d))) is
+        each_of e same [] has = absurd has
+        each_of e same (i ∷ is) (inl here) = inl (ap ParityNode here, ((refl, refl), same))
+        each_of e same (i ∷ is) (inr there) = inr (each_of e same is there)
 
-    each_lost : (es : List ℕ) → Has (λ i. i ≡ d) es → Has (λ e. Has (λ z. (z.to ≡ ParityNode r) × IsMark l number d z.message) (leader_marks s l number block p e)) es
-    each_lost [] has = absurd has
-    each_lost (e ∷ es) (inl same) =
-        inl (has-map (λ z. (z.to ≡ ParityNode r) × IsMark l number d z.message) (mark_of e) (filter (λ i. not (i == l)) (rows_of s p)) (each_of e same (filter (λ i. not (i == l)) (rows_of s p)) rows))
-    each_lost (e ∷ es) (inr there) = inr (each_lost es there)
+        each_lost : (es : List ℕ) → Has (λ i. i ≡ d) es → Has (λ e. Has (λ z. (z.to ≡ ParityNode r) × IsMark l number d z.message) (leader_marks s l number block p e)) es
+        each_lost [] has = absurd has
+        each_lost (e ∷ es) (inl same) =
+            inl (has-map (λ z. (z.to ≡ ParityNode r) × IsMark l number d z.message) (mark_of e) (filter (λ i. not (i == l)) (rows_of s p)) (each_of e same (filter (λ i. not (i == l)) (rows_of s p)) rows))
+        each_lost (e ∷ es) (inr there) = inr (each_lost es there)
 
   -- what is sent comes of this session alone
   split-sent : (P : Message → Type 0) → ((m : Message) → sides.Calm m → P m → ⊥) → (y : ProcessId) → Sends P y step.sent
-      → Has (λ d. (DataNode d ≡ y) × P (tells.ReadBlock (session_of l number) block (rows_of s p))) (left_of s p) ⊎ Has (λ e. Has (λ i. (ParityNode i ≡ y) × P (mark_of e i).message) (filter (λ i. not (i == l)) (rows_of s p))) (lost_of s p)
+      → Has (λ d. (DataNode d ≡ y) × P (tells.ReadBlock (session_of l number) block (rows_of s p))) (left_of s p) ⊎ Has
+      (λ e. Has (λ i. (ParityNode i ≡ y) × P (mark_of e i).message) (filter (λ i. not (i == l)) (rows_of s p))) (lost_of s p)
   split-sent P never y sends = outer (has-either Q (session_starts s l number block p) ran.sent sends) where
     Q : Sent → Type 0
     Q z = (z.to ≡ y) × P z.message
@@ -150,12 +157,14 @@ module _ (s : Dimensions) (x : ProcessId) (p : Process) (block l : ℕ) (inside 
     each_lost (e ∷ es) (inr there) = inr (each_lost es there)
 
     inner : Has (λ z. (z.to ≡ y) × P z.message) (map question (left_of s p)) ⊎ Has (λ z. (z.to ≡ y) × P z.message) (flat_map (leader_marks s l number block p) (lost_of s p))
-        → Has (λ d. (DataNode d ≡ y) × P (tells.ReadBlock (session_of l number) block (rows_of s p))) (left_of s p) ⊎ Has (λ e. Has (λ i. (ParityNode i ≡ y) × P (mark_of e i).message) (filter (λ i. not (i == l)) (rows_of s p))) (lost_of s p)
+        → Has (λ d. (DataNode d ≡ y) × P (tells.ReadBlock (session_of l number) block (rows_of s p))) (left_of s p) ⊎ Has
+        (λ e. Has (λ i. (ParityNode i ≡ y) × P (mark_of e i).message) (filter (λ i. not (i == l)) (rows_of s p))) (lost_of s p)
     inner (inl one) = inl (map-has (λ z. (z.to ≡ y) × P z.message) question (left_of s p) one)
     inner (inr two) = inr (each_lost (lost_of s p) (flat-has (λ z. (z.to ≡ y) × P z.message) (leader_marks s l number block p) (lost_of s p) two))
 
     outer : Has (λ z. (z.to ≡ y) × P z.message) (session_starts s l number block p) ⊎ Has (λ z. (z.to ≡ y) × P z.message) ran.sent
-        → Has (λ d. (DataNode d ≡ y) × P (tells.ReadBlock (session_of l number) block (rows_of s p))) (left_of s p) ⊎ Has (λ e. Has (λ i. (ParityNode i ≡ y) × P (mark_of e i).message) (filter (λ i. not (i == l)) (rows_of s p))) (lost_of s p)
+        → Has (λ d. (DataNode d ≡ y) × P (tells.ReadBlock (session_of l number) block (rows_of s p))) (left_of s p) ⊎ Has
+        (λ e. Has (λ i. (ParityNode i ≡ y) × P (mark_of e i).message) (filter (λ i. not (i == l)) (rows_of s p))) (lost_of s p)
     outer (inl starts) = inner (has-either (λ z. (z.to ≡ y) × P z.message) (map question (left_of s p)) (flat_map (leader_marks s l number block p) (lost_of s p)) starts)
     outer (inr more) = absurd (calm-none P never y ran.sent runs.calm more)
 
@@ -168,7 +177,9 @@ module _ (s : Dimensions) (x : ProcessId) (p : Process) (block l : ℕ) (inside 
 
   -- so is its own, while some data process is left
   waits-own : (d : ℕ) → d < s.k → knows_dead p.known (DataNode d) ≡ false → WantsRow l (opened ran.process number)
-  waits-own d low is = (runs.apart d low (λ lost. cc (sym is ∙ (filter-has (λ e. knows_dead p.known (DataNode e)) d (range_with_len 0 s.k) lost).1)) (λ held. absurd (subst (Marked d) free held))).1 (wants-new l own-row)
+  waits-own d low is =
+      (runs.apart d low (λ lost. cc (sym is ∙ (filter-has (λ e. knows_dead p.known (DataNode e)) d (range_with_len 0 s.k) lost).1)) (λ held. absurd (subst (Marked d) free held))).1
+      (wants-new l own-row)
 
   waits-any : (r d : ℕ) → d < s.k → knows_dead p.known (DataNode d) ≡ false → Has (λ i. i ≡ r) (rows_of s p) → WantsRow r (opened ran.process number)
   waits-any r d low is row = by (cases_eq r l) where
@@ -240,10 +251,12 @@ module _ (s : Dimensions) (x : ProcessId) (p : Process) (block l : ℕ) (inside 
     blocks : (k n d : ℕ) → p.name ≡ ParityNode k → d < s.k → WantsBlock d (opened ran.process n) → (n ≡ number) ⊎ (n ≢ number)
         → (WantsBlock d (opened p n) × (x ≡ DataNode d → ⊥ → ⊥)) ⊎ NewBlock s x [] p step k n d
     blocks k n d is low wants (inr other) = inl (subst (WantsBlock d) (opened-old n other) (runs.blocks n d wants), λ from has. has)
-    blocks k n d is low wants (inl same) = inr (subst (λ (i : ℕ). NewBlock s x [] p step i n d) (parity-one l k (sym name ∙ is)) (subst (λ (i : ℕ). NewBlock s x [] p step l i d) (sym same) (by (knows_dead p.known (DataNode d)) refl))) where
-      by : (b : Bool) → knows_dead p.known (DataNode d) ≡ b → NewBlock s x [] p step l number d
-      by true known = inl (ap (λ k. knows_dead k (DataNode d)) runs.known ∙ known)
-      by false known = inr (reads-d d low known)
+    blocks k n d is low wants (inl same) =
+        inr
+        (subst (λ (i : ℕ). NewBlock s x [] p step i n d) (parity-one l k (sym name ∙ is)) (subst (λ (i : ℕ). NewBlock s x [] p step l i d) (sym same) (by (knows_dead p.known (DataNode d)) refl))) where
+          by : (b : Bool) → knows_dead p.known (DataNode d) ≡ b → NewBlock s x [] p step l number d
+          by true known = inl (ap (λ k. knows_dead k (DataNode d)) runs.known ∙ known)
+          by false known = inr (reads-d d low known)
 
     left : (k n r : ℕ) → WantsRow r (opened p n) → (n ≡ number) ⊎ (n ≢ number) → WantsRow r (opened ran.process n) ⊎ sides.NoMore s x [] p step k n r
     left k n r wants (inl same) = absurd (subst (WantsRow r) (ap (opened p) same ∙ number-new) wants)
@@ -303,7 +316,9 @@ module _ (s : Dimensions) (x : ProcessId) (p : Process) (block l : ℕ) (inside 
     mark_among k n r d (e ∷ es) (inr there) = mark_among k n r d es there
 
     marks : (k n r d : ℕ)
-        → Has (λ e. (DataNode e ≡ ParityNode r) × ⊥) (left_of s p) ⊎ Has (λ e. Has (λ i. (ParityNode i ≡ ParityNode r) × (OfSession k n (session_of l number) × (e ≡ d))) (filter (λ i. not (i == l)) (rows_of s p))) (lost_of s p)
+        → Has (λ e. (DataNode e ≡ ParityNode r) × ⊥) (left_of s p) ⊎ Has
+        (λ e. Has (λ i. (ParityNode i ≡ ParityNode r) × (OfSession k n (session_of l number) × (e ≡ d))) (filter (λ i. not (i == l)) (rows_of s p)))
+        (lost_of s p)
         → (p.name ≡ ParityNode k) × WantsRow r (opened ran.process n)
     marks k n r d (inl wrong) = absurd (no_data r (left_of s p) ⊥ wrong)
     marks k n r d (inr has) = mark_among k n r d (lost_of s p) has
@@ -324,7 +339,8 @@ module _ (s : Dimensions) (x : ProcessId) (p : Process) (block l : ℕ) (inside 
     datas e (d ∷ ds) (inr there) = inr (datas e ds there)
 
     asks : (k n r e : ℕ) → e < s.k
-        → Has (λ d. (DataNode d ≡ DataNode e) × (OfSession k n (session_of l number) × Has (λ i. i ≡ r) (rows_of s p))) (left_of s p) ⊎ Has (λ d. Has (λ i. (ParityNode i ≡ DataNode e) × ⊥) (filter (λ i. not (i == l)) (rows_of s p))) (lost_of s p)
+        → Has (λ d. (DataNode d ≡ DataNode e) × (OfSession k n (session_of l number) × Has (λ i. i ≡ r) (rows_of s p))) (left_of s p) ⊎ Has
+        (λ d. Has (λ i. (ParityNode i ≡ DataNode e) × ⊥) (filter (λ i. not (i == l)) (rows_of s p))) (lost_of s p)
         → (p.name ≡ ParityNode k) × WantsRow r (opened ran.process n)
     asks k n r e low (inr wrong) = absurd (no_marks e (lost_of s p) wrong)
     asks k n r e low (inl has) =

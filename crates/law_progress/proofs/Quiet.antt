@@ -67,7 +67,9 @@ module _ (s : Dimensions) (v : State) (some : 0 < s.k) (held : Held s v) (fits :
 
   -- whoever isn't known dead lives
   lives-if : (l : ℕ) (q : ProcessId) → l < s.m → IsProcess s q → q ≢ ParityNode l → v.dead (ParityNode l) ≡ false → knows_dead (v.process (ParityNode l)).known q ≡ false → v.dead q ≡ false
-  lives-if l q lin qin other lives unknown = living-by q (v.dead q) (knows_dead (v.process (ParityNode l)).known q) (v.link q (ParityNode l)) (held.members.stands q (ParityNode l) qin lin other lives) unknown (empty q (ParityNode l) qin lin lives other)
+  lives-if l q lin qin other lives unknown =
+      living-by q (v.dead q) (knows_dead (v.process (ParityNode l)).known q) (v.link q (ParityNode l))
+      (held.members.stands q (ParityNode l) qin lin other lives) unknown (empty q (ParityNode l) qin lin lives other)
 
   module _ (l n : ℕ) (g : Gathering) (lin : l < s.m) (lives : v.dead (ParityNode l) ≡ false) (opens : opened (v.process (ParityNode l)) n ≡ Some g) where
     is-for : IsFor s (v.process (ParityNode l)).known g
@@ -135,12 +137,14 @@ module _ (s : Dimensions) (v : State) (some : 0 < s.k) (held : Held s v) (fits :
     by (g ∷ gs) is = absurd (no-session l g.number g lin lives (ap (find (λ x. x.number == g.number)) is ∙ ap (λ (b : Bool). cond b (Some g) (find (λ x. x.number == g.number) gs)) (eq-eqb g.number g.number refl)))
 
   -- copies
-  module _ (r : ℕ) (rin : r < s.m) (lives : v.dead (ParityNode r) ≡ false) (forgets : (l : ℕ) → l < s.m → v.dead (ParityNode l) ≡ true → Each (λ c. c.leader ≢ l) (v.process (ParityNode r)).as_row.copies) where
+  module _ (r : ℕ) (rin : r < s.m) (lives : v.dead (ParityNode r) ≡ false)
+      (forgets : (l : ℕ) → l < s.m → v.dead (ParityNode l) ≡ true → Each (λ c. c.leader ≢ l) (v.process (ParityNode r)).as_row.copies) where
     no-first : (c : Copy) (cs : List Copy) → (v.process (ParityNode r)).as_row.copies ≡ c ∷ cs → ⊥
     no-first c cs is = by (cases_lt c.leader s.m) where
       there : marks_in (v.process (ParityNode r)) c.leader c.number ≡ Some c.marks
       there = ap (λ (all : List Copy). option_map (λ x. x.marks) (copy_in all c.leader c.number)) is
-          ∙ ap (λ (b : Bool). option_map (λ x. x.marks) (cond b (Some c) (copy_in cs c.leader c.number))) (and-join (c.leader == c.leader) (c.number == c.number) (eq-eqb c.leader c.leader refl) (eq-eqb c.number c.number refl))
+          ∙ ap (λ (b : Bool). option_map (λ x. x.marks) (cond b (Some c) (copy_in cs c.leader c.number)))
+          (and-join (c.leader == c.leader) (c.number == c.number) (eq-eqb c.leader c.leader refl) (eq-eqb c.number c.number refl))
 
       fine : CopyFine s (v.process (ParityNode r)) c.leader c.number c.marks
       fine = held.ending.rows (ParityNode r) rin lives c.leader c.number c.marks there
@@ -160,7 +164,9 @@ module _ (s : Dimensions) (v : State) (some : 0 < s.k) (held : Held s v) (fits :
 
       by : (c.leader < s.m) ⊎ (s.m ≤ c.leader) → ⊥
       by (inl lin) = of-leader lin (v.dead (ParityNode c.leader)) refl
-      by (inr outside) = no-copy s c.leader c.number r v fine.some.0 (held.carried.strangers (token c.leader c.number fine.some.0 (Row r)) fine.some.1 outside) rin lives (held.members.named (ParityNode r) rin) (subst (Marked fine.some.0) (sym there) fine.some.2)
+      by (inr outside) =
+          no-copy s c.leader c.number r v fine.some.0 (held.carried.strangers (token c.leader c.number fine.some.0 (Row r)) fine.some.1 outside) rin lives
+          (held.members.named (ParityNode r) rin) (subst (Marked fine.some.0) (sym there) fine.some.2)
 
     no-copies : (v.process (ParityNode r)).as_row.copies ≡ []
     no-copies = by (v.process (ParityNode r)).as_row.copies refl where

@@ -47,10 +47,18 @@ Goes x _ y = Unit {0}
 
 module _ (s : Dimensions) (x : ProcessId) (p : Process) where
   idle-fair : (m : Message) (t : ProcessStep) → Idle m → Mild p t → Fair s x (m ∷ []) p t
-  idle-fair (tells.Update r d u stable) t idle mild = fair-mild s x _ p t mild (λ l n i e name has accepted. nothing has) (λ l n from has. nothing has) (λ l n i name from has. nothing has) (λ l n e name from has. nothing has) (λ l n i e name has. nothing has) (λ l n e name has. nothing has)
-  idle-fair (tells.Ack r d k) t idle mild = fair-mild s x _ p t mild (λ l n i e name has accepted. nothing has) (λ l n from has. nothing has) (λ l n i name from has. nothing has) (λ l n e name from has. nothing has) (λ l n i e name has. nothing has) (λ l n e name has. nothing has)
-  idle-fair (tells.Stable r d k) t idle mild = fair-mild s x _ p t mild (λ l n i e name has accepted. nothing has) (λ l n from has. nothing has) (λ l n i name from has. nothing has) (λ l n e name from has. nothing has) (λ l n i e name has. nothing has) (λ l n e name has. nothing has)
-  idle-fair (tells.Adopt r d base list) t idle mild = fair-mild s x _ p t mild (λ l n i e name has accepted. nothing has) (λ l n from has. nothing has) (λ l n i name from has. nothing has) (λ l n e name from has. nothing has) (λ l n i e name has. nothing has) (λ l n e name has. nothing has)
+  idle-fair (tells.Update r d u stable) t idle mild =
+      fair-mild s x _ p t mild (λ l n i e name has accepted. nothing has) (λ l n from has. nothing has) (λ l n i name from has. nothing has)
+      (λ l n e name from has. nothing has) (λ l n i e name has. nothing has) (λ l n e name has. nothing has)
+  idle-fair (tells.Ack r d k) t idle mild =
+      fair-mild s x _ p t mild (λ l n i e name has accepted. nothing has) (λ l n from has. nothing has) (λ l n i name from has. nothing has)
+      (λ l n e name from has. nothing has) (λ l n i e name has. nothing has) (λ l n e name has. nothing has)
+  idle-fair (tells.Stable r d k) t idle mild =
+      fair-mild s x _ p t mild (λ l n i e name has accepted. nothing has) (λ l n from has. nothing has) (λ l n i name from has. nothing has)
+      (λ l n e name from has. nothing has) (λ l n i e name has. nothing has) (λ l n e name has. nothing has)
+  idle-fair (tells.Adopt r d base list) t idle mild =
+      fair-mild s x _ p t mild (λ l n i e name has accepted. nothing has) (λ l n from has. nothing has) (λ l n i name from has. nothing has)
+      (λ l n e name from has. nothing has) (λ l n i e name has. nothing has) (λ l n e name has. nothing has)
   idle-fair (tells.ReadBlock _ _ _) t idle mild = absurd idle
   idle-fair (tells.Block _ _ _) t idle mild = absurd idle
   idle-fair (tells.Mark _ _ _ _ _) t idle mild = absurd idle
@@ -70,7 +78,9 @@ module _ (s : Dimensions) (x : ProcessId) (p : Process) where
       (let ranked : Process = with_rank d.0 r.0 p in
       let q : Process = apply_to s d.0 base ranked in
       record {
-        alike = alike-then p ranked _ (alike-same p ranked refl refl refl) (alike-then ranked q _ (alike-apply s d.0 base ranked) (alike-same q (with_replica d.0 (adopting base list (replica_of q d.0)) q) refl refl refl));
+        alike =
+            alike-then p ranked _ (alike-same p ranked refl refl refl)
+            (alike-then ranked q _ (alike-apply s d.0 base ranked) (alike-same q (with_replica d.0 (adopting base list (replica_of q d.0)) q) refl refl refl));
         calm = (tt, tt);
       }))
   receive-fair (tells.Ack r d n) fact comes goes = by x where
@@ -98,7 +108,9 @@ module _ (s : Dimensions) (x : ProcessId) (p : Process) where
   receive-fair (tells.Cease upto) fact comes goes = by x refl where
     by : (y : ProcessId) → x ≡ y → Fair s x (tells.Cease upto ∷ []) p (receive s y (tells.Cease upto) p)
     by (ParityNode i) is = subst (λ (y : ProcessId). Fair s y (tells.Cease upto ∷ []) p (receive s (ParityNode i) (tells.Cease upto) p)) (sym is) (cease-fair s i p upto)
-    by (DataNode e) is = fair-mild s x _ p (quiet p) (mild-self p) (λ l n i d name has accepted. nothing has) (λ l n from has. cc (sym is ∙ from)) (λ l n i name from has. nothing has) (λ l n d name from has. nothing has) (λ l n i d name has. nothing has) (λ l n d name has. nothing has)
+    by (DataNode e) is =
+        fair-mild s x _ p (quiet p) (mild-self p) (λ l n i d name has accepted. nothing has) (λ l n from has. cc (sym is ∙ from))
+        (λ l n i name from has. nothing has) (λ l n d name from has. nothing has) (λ l n i d name has. nothing has) (λ l n d name has. nothing has)
   receive-fair (tells.Notice dead) fact comes goes = notice-fair s x dead p
 
   -- a call, at a process that heads what it should

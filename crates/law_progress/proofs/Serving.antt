@@ -21,6 +21,7 @@ use Rattle.law_bytes.proofs.Copies.{stays-decoded}
 use Rattle.law_bytes.proofs.Finding.{found-passes}
 use Rattle.law_answers.proofs.Awaited.{decoded-some}
 use Rattle.law_moves.proofs.Members.{is_notice}
+use Rattle.law_moves.proofs.Chains.{goes-each, goes-when}
 use Rattle.law_bytes.proofs.LeadingWords.{lost_by}
 use Rattle.law_bytes.proofs.Local.{number-is}
 use Rattle.law_progress.proofs.Waiting.{Has}
@@ -100,7 +101,8 @@ module _ (s : Dimensions) where
       })
       by (inl here) =
           let it : awaits.session ≡ g = cc (sym awaits.opens ∙ ap (opened p) here ∙ opens) in
-          closes complete b (ap (λ (x : Gathering). x.block) (sym it) ∙ awaits.block) (ap (λ (x : Gathering). x.lost) (sym it) ∙ awaits.lost) (gathered-here s h g p.as_leader number opens is-number complete)
+          closes complete b (ap (λ (x : Gathering). x.block) (sym it) ∙ awaits.block) (ap (λ (x : Gathering). x.lost) (sym it) ∙ awaits.lost)
+          (gathered-here s h g p.as_leader number opens is-number complete)
 
   row-serves : (number i : ℕ) (bytes : List ℕ) (p : Process) → Serves p (row_comes s number i bytes p)
   row-serves number i bytes p = by (opened p number) refl where
@@ -126,12 +128,10 @@ module _ (s : Dimensions) where
     by b (inr rebuilt) = inr rebuilt
 
   when-serves : (b : Bool) (p : Process) (t : ProcessStep) → Serves p t.process → Serves p (when b p t).process
-  when-serves true p t serves = serves
-  when-serves false p t serves = serves-self p
+  when-serves = goes-when (λ p q. Serves p q) serves-self
 
   each-serves : (xs : List ℕ) (f : ℕ → Process → ProcessStep) (p : Process) → ((x : ℕ) (q : Process) → Serves q (f x q).process) → Serves p (for_each xs f p).process
-  each-serves [] f p all = serves-self p
-  each-serves (x ∷ xs) f p all = serves-then p (f x p).process (for_each xs f (f x p).process).process (all x p) (each-serves xs f (f x p).process all)
+  each-serves = goes-each (λ p q. Serves p q) serves-self serves-then
 
   mark-serves : (l number r block d n : ℕ) (p : Process) → Serves p (mark_comes s l number r block d n p).process
   mark-serves l number r block d n p = when-serves (accepts_mark p l number r d) p (mark_taken s l number block d n p)
@@ -155,7 +155,8 @@ module _ (s : Dimensions) where
       kept : (b : Bool) (c : Copy) (z : Process) → Serves z (copy_kept b s c z).process
       kept true c z =
           let y : Process = with_copies (without_copy c.leader c.number z.as_row.copies) z in
-          serves-then z y (row_finished (same_process z.name (ParityNode c.leader)) s c y).process (copies-serve (without_copy c.leader c.number z.as_row.copies) z) (finished (same_process z.name (ParityNode c.leader)) c y)
+          serves-then z y (row_finished (same_process z.name (ParityNode c.leader)) s c y).process
+          (copies-serve (without_copy c.leader c.number z.as_row.copies) z) (finished (same_process z.name (ParityNode c.leader)) c y)
       kept false c z = copies-serve _ z
 
       found : (o : Option Copy) → Serves (apply_to s d n (begin_copy s l number block p)) (copy_marked s d n o (apply_to s d n (begin_copy s l number block p))).process

@@ -74,7 +74,9 @@ module _ (s : Dimensions) (l n r : ℕ) where
     -- where there is none
     module _ (d : ℕ) (none : tokens s v (token l n d (Row r)) ≤ 0) where
       pub no-mark : (a : ProcessId) → IsProcess s a → r < s.m → a ≢ ParityNode r → v.dead (ParityNode r) ≡ false → Has (IsMark l n d) (v.link a (ParityNode r)) → ⊥
-      no-mark a ain rin apart lives has = each-not (IsMark l n d) (λ m. is_token (token l n d (Row r)) a (ParityNode r) m ≡ true) (mark-token d a) (v.link a (ParityNode r)) (link-none s v (token l n d (Row r)) none a (ParityNode r) ain rin apart lives) has
+      no-mark a ain rin apart lives has =
+          each-not (IsMark l n d) (λ m. is_token (token l n d (Row r)) a (ParityNode r) m ≡ true) (mark-token d a) (v.link a (ParityNode r))
+          (link-none s v (token l n d (Row r)) none a (ParityNode r) ain rin apart lives) has
 
       pub no-ask : l < s.m → d < s.k → v.dead (DataNode d) ≡ false → Has (IsAsk l n r) (v.link (ParityNode l) (DataNode d)) → ⊥
       no-ask lin low lives has = each-not (IsAsk l n r) (λ m. is_token (token l n d (Row r)) (ParityNode l) (DataNode d) m ≡ true) (ask-token d (ParityNode l)) (v.link (ParityNode l) (DataNode d))
@@ -108,7 +110,8 @@ module _ (s : Dimensions) (v : State) (k : Token) (few : tokens s v k ≤ 1) (q 
 
   rest-none : sum_of (everyone s) rest ≤ 0
   rest-none =
-      let less = sum-less (everyone s) (around s v k) rest q (at_process k (v.process q)) (within-everyone s q qin) (λ p there. rest-le p) (let a = rest-here in let b = around-here in omega (arith, a, b)) in
+      let less = sum-less (everyone s) (around s v k) rest q (at_process k (v.process q)) (within-everyone s q qin) (λ p there. rest-le p)
+      (let a = rest-here in let b = around-here in omega (arith, a, b)) in
       omega (arith, less, few, has)
 
   off : (a b : ProcessId) (ms : List Message) → in_link k a b ms ≤ 0 → Each (λ m. is_token k a b m ≡ true → ⊥) ms
@@ -133,7 +136,8 @@ module _ (s : Dimensions) (v : State) (k : Token) (few : tokens s v k ≤ 1) (q 
         let none = rest-none in
         let one = sum-at (everyone s) rest b (within-everyone s b bin) in
         let here = rest-other b other in
-        let is : around s v k b ≡ at_process k (v.process b) + sum_of (everyone s) (between v k b) = ap (λ (c : Bool). if c then 0 else at_process k (v.process b) + sum_of (everyone s) (between v k b)) b_lives in
+        let is : around s v k b ≡ at_process k (v.process b) + sum_of (everyone s)
+        (between v k b) = ap (λ (c : Bool). if c then 0 else at_process k (v.process b) + sum_of (everyone s) (between v k b)) b_lives in
         let sum = sum-at (everyone s) (between v k b) a (within-everyone s a ain) in
         let it = linked in
         omega (arith, none, one, here, is, sum, it)

@@ -182,7 +182,9 @@ module _ (s : Dimensions) (l number block : ℕ) where
     copy = λ fine. rest.copy (one.copy fine);
     keeps = λ d held. rest.keeps d (one.keeps d held);
     done = λ d has. done d has;
-    apart = λ d within other free. let first = one.apart d within (λ here. other (front d here)) free in let next = rest.apart d within (λ there. other (inr there)) first.0 in (next.0, λ wants. next.1 (first.1 wants));
+    apart =
+        λ d within other free. let first = one.apart d within (λ here. other (front d here)) free in let next = rest.apart d within
+        (λ there. other (inr there)) first.0 in (next.0, λ wants. next.1 (first.1 wants));
     holds = λ differ free wants some. holds es refl differ free wants some;
   } where
     front : (d : ℕ) → (e ≡ d) ⊎ ⊥ → (e ≡ d) ⊎ Has (λ i. i ≡ d) es

@@ -178,7 +178,8 @@ module _ (s : Dimensions) (es : List Event) (run : IsRun s es) where
     event-leaves known = move-leaves s run.0 (state_of here) (state_of (prolonged here e)) members known same-dead ((runs_move s).moves es e run (subst (λ (w : World). MayCome w e) world-is may))
 
   -- a call has to wait for a block
-  module _ (caller : ℕ) (op : Asked) (p : ProcessId) (b : ℕ) (may : MayCome here.world (Ask caller op p)) (drained : IsDrained here.world) (waits : (step here.world (Ask caller op p)).turn.answer ≡ says.Retry (cause.Block b)) where
+  module _ (caller : ℕ) (op : Asked) (p : ProcessId) (b : ℕ) (may : MayCome here.world (Ask caller op p)) (drained : IsDrained here.world)
+      (waits : (step here.world (Ask caller op p)).turn.answer ≡ says.Retry (cause.Block b)) where
     abbrev ask : Event
     ask = Ask caller op p
 
@@ -257,10 +258,14 @@ module _ (s : Dimensions) (es : List Event) (run : IsRun s es) where
     pub then-served : Served s b ((state_of (prolonged here ask)).process p)
     then-served = by causes.2.1 where
       fits : SessionsFit s (state_of (prolonged here (Ask caller op p)))
-      fits = subst (λ (h : History). SessionsFit s (state_of h)) (history-append (no_history s) es (Ask caller op p)) (sessions_always_fit s (es ++ Ask caller op p ∷ []) (run.0, run-append (no_history s) es (Ask caller op p) run.1 may))
+      fits =
+          subst (λ (h : History). SessionsFit s (state_of h)) (history-append (no_history s) es (Ask caller op p))
+          (sessions_always_fit s (es ++ Ask caller op p ∷ []) (run.0, run-append (no_history s) es (Ask caller op p) run.1 may))
 
       rows : RowsSound s (state_of (prolonged here (Ask caller op p)))
-      rows = subst (λ (h : History). RowsSound s (state_of h)) (history-append (no_history s) es (Ask caller op p)) (rows-sound-always s (es ++ Ask caller op p ∷ []) (run.0, run-append (no_history s) es (Ask caller op p) run.1 may))
+      rows =
+          subst (λ (h : History). RowsSound s (state_of h)) (history-append (no_history s) es (Ask caller op p))
+          (rows-sound-always s (es ++ Ask caller op p ∷ []) (run.0, run-append (no_history s) es (Ask caller op p) run.1 may))
 
       living : (state_of (prolonged here (Ask caller op p))).dead p ≡ false
       living = same-dead (Ask caller op p) may tt p pin ∙ lives

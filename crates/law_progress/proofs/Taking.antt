@@ -288,5 +288,7 @@ module _ (s : Dimensions) (x : ProcessId) (p : Process) (i : ℕ) (name : p.name
   pub mark-fair : Fair s x came_mark p (mark_comes s (parity_number session.leader) session.number r block d n p)
   mark-fair = subst (λ (y : ℕ). Fair s x came_mark p (mark_comes s y session.number r block d n p)) (sym (ap parity_number leads)) (by (accepts_mark p l session.number r d) refl) where
     by : (b : Bool) → accepts_mark p l session.number r d ≡ b → Fair s x came_mark p (when b p taken)
-    by false denies = fair-mild s x came_mark p (quiet p) (mild-self p) (λ k j q e is has accepted. refused denies accepted) (λ k j from has. nothing has) (λ k j q is from has. nothing has) (λ k j e is from has. nothing has) (λ k j q e is has. nothing has) (λ k j e is has. nothing has)
+    by false denies =
+        fair-mild s x came_mark p (quiet p) (mild-self p) (λ k j q e is has accepted. refused denies accepted) (λ k j from has. nothing has)
+        (λ k j q is from has. nothing has) (λ k j e is from has. nothing has) (λ k j q e is has. nothing has) (λ k j e is has. nothing has)
     by true accepted_it = fair-taken accepted_it

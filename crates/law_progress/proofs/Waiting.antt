@@ -12,8 +12,7 @@ use Rattle.group_message.specs.declared.message.Message.TheVariants as tells
 use Rattle.group_run.specs.Leaders.{open_session}
 use Rattle.group_run.specs.Process.{Gathering, Process}
 use Rattle.group_run.specs.Rows.{copy_in}
-use Rattle.law_moves.specs.Moves.{HoldsAlways}
-use Rattle.law_moves.specs.State.{State}
+use Rattle.law_moves.specs.State.{State, HoldsAlways}
 use Rattle.law_bytes.proofs.Stamps.{OfSession}
 
 -- one of a list is so

@@ -60,7 +60,8 @@ record Counted (s : Dimensions) (h : History) (p : ProcessId) (bs : List ℕ) : 
   pub below : (b : ℕ) → Has (λ i. i ≡ b) bs → b < s.blocks
   pub served : (bs ≡ []) ⊎ (AllKnown s (state_of h) × IsProcess s p × ((state_of h).dead p ≡ false) × ((b : ℕ) → Has (λ i. i ≡ b) bs → Served s b ((state_of h).process p)))
 
-module _ (s : Dimensions) (p : ProcessId) (before : List Event) (run : IsRun s before) (e : Event) (bs : List ℕ) (may : MayCome (history_of s before).world e) (goes : IsNoFailure e) (count : Counted s (history_of s before) p bs) where
+module _ (s : Dimensions) (p : ProcessId) (before : List Event) (run : IsRun s before) (e : Event) (bs : List ℕ) (may : MayCome (history_of s before).world e)
+    (goes : IsNoFailure e) (count : Counted s (history_of s before) p bs) where
   -- an event leaves what was counted
   leaves-count : Counted s (prolonged (history_of s before) e) p bs
   leaves-count = record { differ = count.differ; below = count.below; served = by count.served } where
@@ -72,7 +73,8 @@ module _ (s : Dimensions) (p : ProcessId) (before : List Event) (run : IsRun s b
         inr (leaves.known, pin, same-dead s before run e may goes p pin ∙ lives, λ b has. leaves.served p b pin lives (all b has))
 
   -- a call that has to wait for a block is one more
-  module _ (caller : ℕ) (op : Asked) (b : ℕ) (is : e ≡ Ask caller op p) (answered : (step (history_of s before).world e).turn.answer ≡ says.Retry (cause.Block b)) (asked : AsksDrained (history_of s before).world e) where
+  module _ (caller : ℕ) (op : Asked) (b : ℕ) (is : e ≡ Ask caller op p)
+      (answered : (step (history_of s before).world e).turn.answer ≡ says.Retry (cause.Block b)) (asked : AsksDrained (history_of s before).world e) where
     drained : IsDrained (history_of s before).world
     drained = subst (AsksDrained (history_of s before).world) is asked
 
@@ -145,7 +147,8 @@ module _ (s : Dimensions) (p : ProcessId) where
 pub few_waits_always : FewWaitsAlways
 few_waits_always s es run later p comes asked =
     let world = world-is s es run in
-    let few = counted s p later es run (subst (λ (w : World). IsRunFrom w later) (sym world) comes) (subst (λ (w : World). AskedDrained w later) (sym world) asked) [] (record { differ = tt; below = λ b has. absurd has; served = inl refl }) in
+    let few = counted s p later es run (subst (λ (w : World). IsRunFrom w later) (sym world) comes)
+    (subst (λ (w : World). AskedDrained w later) (sym world) asked) [] (record { differ = tt; below = λ b has. absurd has; served = inl refl }) in
     let same : block_waits p (turns_from (history_of s es).world later) ≡ block_waits p (turns_from (after s es) later) = ap (λ (w : World). block_waits p (turns_from w later)) world in
     let shape : (after s es).shape.blocks ≡ s.blocks = ap (λ (w : World). w.shape.blocks) (sym world) ∙ ap (λ (t : Dimensions). t.blocks) (shape-is s es run) in
     omega (arith, few, same, shape)

@@ -1,6 +1,6 @@
-//! Draining ends, block sessions end, and a call waits for a block but once. What a process sends on receiving a message
-//! weighs less in all than the message, so as many deliveries as the weight of what is on its way drain a group; and
-//! a drained group has nothing unfinished. It is told of the pure machine, for every shape and every run.
+//! Draining ends, block sessions end, and a call waits for a block but once. What a process sends on receiving a
+//! message weighs less in all than the message, so as many deliveries as the weight of what is on its way drain a
+//! group; and a drained group has nothing unfinished. It is told of the pure machine, for every shape and every run.
 #![tactic(auto)]
 
 ghost use Rattle.law_progress.specs.Drains.{DrainsWholeAlways, NextComesAlways, RisesLittleAlways};

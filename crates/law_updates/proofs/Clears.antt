@@ -77,19 +77,22 @@ pub record IsFree (space : ℕ) (r : Replica) (a : ℕ) : Type 0 where
   pub frees : list_any (λ u. in_some_run a u.frees) r.log ≡ false
 
 pub free-is : (space : ℕ) (r : Replica) (a : ℕ) → is_free space r a ≡ true → IsFree space r a
-free-is space r a free = by (nat_lt a space) refl (list_any (λ x. in_run a (run_in x.1)) r.items) refl (list_any (λ u. in_some_run a (run_of u.body)) r.log) refl (list_any (λ u. in_some_run a u.frees) r.log) refl free where
-  by : (b : Bool) → nat_lt a space ≡ b → (c : Bool) → list_any (λ x. in_run a (run_in x.1)) r.items ≡ c → (d : Bool) → list_any (λ u. in_some_run a (run_of u.body)) r.log ≡ d
-      → (e : Bool) → list_any (λ u. in_some_run a u.frees) r.log ≡ e → (b && not c && not d && not e) ≡ true → IsFree space r a
-  by true p false q false t false z free = record { inside = grind (arith, common_steps); items = q; writes = t; frees = z }
-  by false p c q d t e z free = absurd (cc free)
-  by true p true q d t e z free = absurd (cc free)
-  by true p false q true t e z free = absurd (cc free)
-  by true p false q false t true z free = absurd (cc free)
+free-is space r a free =
+    by (nat_lt a space) refl (list_any (λ x. in_run a (run_in x.1)) r.items) refl (list_any (λ u. in_some_run a (run_of u.body)) r.log) refl
+    (list_any (λ u. in_some_run a u.frees) r.log) refl free where
+      by : (b : Bool) → nat_lt a space ≡ b → (c : Bool) → list_any (λ x. in_run a (run_in x.1)) r.items ≡ c → (d : Bool) → list_any (λ u. in_some_run a (run_of u.body)) r.log ≡ d
+          → (e : Bool) → list_any (λ u. in_some_run a u.frees) r.log ≡ e → (b && not c && not d && not e) ≡ true → IsFree space r a
+      by true p false q false t false z free = record { inside = grind (arith, common_steps); items = q; writes = t; frees = z }
+      by false p c q d t e z free = absurd (cc free)
+      by true p true q d t e z free = absurd (cc free)
+      by true p false q true t e z free = absurd (cc free)
+      by true p false q false t true z free = absurd (cc free)
 
 pub is-free : (space : ℕ) (r : Replica) (a : ℕ) → IsFree space r a → is_free space r a ≡ true
 is-free space r a free =
     let low : nat_lt a space ≡ true = let below = free.inside in grind (arith, common_steps) in
-    by (nat_lt a space) low (list_any (λ x. in_run a (run_in x.1)) r.items) free.items (list_any (λ u. in_some_run a (run_of u.body)) r.log) free.writes (list_any (λ u. in_some_run a u.frees) r.log) free.frees where
+    by (nat_lt a space) low (list_any (λ x. in_run a (run_in x.1)) r.items) free.items (list_any (λ u. in_some_run a (run_of u.body)) r.log) free.writes
+    (list_any (λ u. in_some_run a u.frees) r.log) free.frees where
       by : (b : Bool) → b ≡ true → (c : Bool) → c ≡ false → (d : Bool) → d ≡ false → (e : Bool) → e ≡ false → (b && not c && not d && not e) ≡ true
       by b p c q d t e z =
           ap (λ (x : Bool). x && not c && not d && not e) p ∙ ap (λ (x : Bool). true && not x && not d && not e) q ∙ ap (λ (x : Bool). true && not false && not x && not e) t

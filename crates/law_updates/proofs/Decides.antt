@@ -1,7 +1,6 @@
 -- What a head decides of a call, walked through once.
 use Rattle.std.proofs.Common.{ℕ, zero, suc, ◌≡◌, ◌+◌, ◌<◌, ◌≤◌, nat_le, nat_lt, Bool, true, false, ◌&&◌, List, length, Option, Some, None, if◌then◌else◌, refl, sym, ap, subst, ◌∙◌, arith}
 use Rattle.std.proofs.lemmas.Grind.{common_steps}
-use Rattle.std.proofs.lemmas.List.{length-replicate}
 use Rattle.field_byte.specs.Vectors.{add_bytes}
 use Rattle.erasure_code.specs.Spaces.{bytes_at}
 use Rattle.group_types.specs.declared.run.Run.{Run}
@@ -21,18 +20,17 @@ use Rattle.group_calls.specs.declared.decision.Decision.TheVariants.{Issue}
 use Rattle.run_alloc.specs.Free.{AllFree}
 use Rattle.law_updates.proofs.Placing.{places_are_best}
 use Rattle.law_updates.specs.Placing.{IsPlaced}
-use Rattle.group_run.specs.Deciding.{Bytes, Found, Missing, blind_reply, decide_accepted, decide_blind, decide_found, decide_left, decide_placed, decide_ruled, decide_waiting, decide_written, held_as, is_blind, is_get, is_touch, item_found, length_of, outcome_of, reads_bytes, ruling_with, unseen, waits_for, window}
+use Rattle.group_run.specs.Deciding.{Bytes, Found, Missing, blind_reply, decide_accepted, decide_blind, decide_found, decide_left, decide_placed, decide_ruled, decide_waiting, decide_written, is_get, is_touch, item_found, length_of, outcome_of, reads_bytes, ruling_with, unseen, waits_for, window}
 use Rattle.group_run.specs.Fitting.{IsRunOf}
 use Rattle.group_run.specs.Free.{is_free, place_for}
 use Rattle.group_run.specs.Replica.{Items, Replica, last_of, number_on, run_in, slot_in}
 use Rattle.law_updates.specs.Decisions.{DecisionsAreSound, IsPlacedBody, IsPlacedPut, IsRefusal, IsSound, ReadsFrom}
 use Rattle.law_updates.specs.Right.{ruling_in}
 use Rattle.law_updates.specs.Store.{Store, held, held_in}
-use Rattle.law_updates.proofs.Blind.{Alike, LeavesAlike, alike-same, blind-held, blind-refused, same-empty, unread-alike}
+use Rattle.law_updates.proofs.Blind.{Alike, LeavesAlike, alike-same, blind-refused}
 use Rattle.law_updates.proofs.Unread as unread
 use Rattle.law_updates.proofs.Keys.{OfSlot, each-slot}
 use Rattle.law_updates.proofs.Rules.{RulesWell, refusal, refusal-is, refused-any, rules-well}
-use Rattle.law_updates.proofs.Spaces.{length-bytes_at}
 
 -- a run that was found free
 pub record Place (space : ℕ) (r : Replica) (len : ℕ) (run : Run) : Type 0 where
@@ -147,13 +145,15 @@ module _ (space inherited : ℕ) (r : Replica) (store : Store) (op : Asked) (rea
     needed-found (Missing b) found = tt
     needed-found (Bytes bytes) found =
         let same : bytes ≡ own = reads (run_in slot) bytes within found in
-        sound-ruled (ruling_on slot bytes) (ruling_on slot own) (alike-same (is_touch op.act) (ruling_on slot bytes) (ruling_on slot own) (ap (ruling_on slot) same)) (unread.real-on r store op slot is)
+        sound-ruled (ruling_on slot bytes) (ruling_on slot own)
+        (alike-same (is_touch op.act) (ruling_on slot bytes) (ruling_on slot own) (ap (ruling_on slot) same)) (unread.real-on r store op slot is)
 
     needed : (b : Bool) → (reads_bytes op.act && is_live op.moment slot.until && nat_lt 0 slot.len) ≡ b
         → IsSound space inherited r store op (decide_found space r op read (Some slot) (item_found read (Some slot) (if b then Some (run_in slot) else None)))
     needed true need = needed-found (read (run_in slot)) refl
     needed false none =
-        sound-ruled (ruling_on slot (unseen (Some slot))) (ruling_on slot own) (unread.unneeded r store op slot is within (reads_bytes op.act) (is_live op.moment slot.until) refl none) (unread.real-on r store op slot is)
+        sound-ruled (ruling_on slot (unseen (Some slot))) (ruling_on slot own)
+        (unread.unneeded r store op slot is within (reads_bytes op.act) (is_live op.moment slot.until) refl none) (unread.real-on r store op slot is)
 
     item : (blind : Option Reply) → blind_reply slot.len (ruling_on slot (unseen (Some slot))) ≡ blind
         → IsSound space inherited r store op (decide_blind space r op read (Some slot) blind)

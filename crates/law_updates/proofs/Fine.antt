@@ -1,5 +1,4 @@
--- Histories of a partition whose every update is right, and whose runs are clear of all that may still be
--- read.
+-- The replica that has a part of a history, and an update that comes behind all of it.
 use Rattle.std.specs.Prelude.{ℕ, ◌≡◌, ◌<◌, ◌≤◌, List, [], length, take, drop, Contains}
 use Rattle.group_message.specs.declared.update.Update.{Update}
 use Rattle.group_run.specs.Replica.{Replica, items_after}

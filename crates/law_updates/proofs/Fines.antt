@@ -256,9 +256,11 @@ module _ (s : Dimensions) (calls : List Call) (d a : ℕ) where
       let steps : AreSteps s calls d (length xs) (store_after s d xs) (u ∷ us) = steps-behind s calls d 0 (length xs) (no_store s) xs (u ∷ us) (omega arith) fine.steps in
       let step : IsStep s calls d (suc (length xs)) (store_after s d xs) u = steps.0 in
       let within = replica.within in
-      let fine-xs : AreSteps s calls d 0 (no_store s) xs = subst (AreSteps s calls d 0 (no_store s)) (take_at xs (u ∷ us) (length xs) refl) (steps-take s calls d (length xs) 0 (no_store s) (xs ++ u ∷ us) fine.steps) in
+      let fine-xs : AreSteps s calls d 0 (no_store s) xs = subst (AreSteps s calls d 0 (no_store s)) (take_at xs (u ∷ us) (length xs) refl)
+      (steps-take s calls d (length xs) 0 (no_store s) (xs ++ u ∷ us) fine.steps) in
       let writes : Writes (space_of s) u.body = step-writes s calls d (suc (length xs)) (store_after s d xs) u (history-fits s calls d xs fine-xs) step in
-      let clear : AreClear r.items (r.log ++ u ∷ us) = subst (λ (ys : List Update). AreClear r.items ys) (drop-append-le a xs (u ∷ us) within ∙ ap (λ (ys : List Update). ys ++ u ∷ us) (sym replica.log))
+      let clear : AreClear r.items (r.log ++ u ∷ us) = subst (λ (ys : List Update). AreClear r.items ys)
+      (drop-append-le a xs (u ∷ us) within ∙ ap (λ (ys : List Update). ys ++ u ∷ us) (sym replica.log))
       (subst (λ (x : Items). AreClear x (drop a (xs ++ u ∷ us))) (ap (items_after []) (take-append-le a xs (u ∷ us) within) ∙ sym replica.items) fine.clear) in
       let items : (store_after s d (take a xs)).items ≡ r.items = store-items s d (no_store s) (take a xs) ∙ sym replica.items in
       let whole : take a xs ++ (r.log ++ u ∷ us) ≡ xs ++ u ∷ us

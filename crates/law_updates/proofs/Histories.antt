@@ -85,7 +85,8 @@ module _ (s : Dimensions) (calls : List Call) (d : ℕ) where
   writes-body store true (Some h) body fits is = subst (Writes (space_of s)) (sym is) tt
   writes-body store false (Some h) body fits is =
       let under = length-bytes_at is.run.at is.run.len store.space (omega (arith, fits.long, is.fits.inside)) in
-      let long : length (add_bytes h.item.value (bytes_at is.run.at is.run.len store.space)) ≡ length h.item.value = length-add_bytes h.item.value (bytes_at is.run.at is.run.len store.space) (omega (arith, under, is.fits.long)) in
+      let long : length (add_bytes h.item.value (bytes_at is.run.at is.run.len store.space)) ≡ length h.item.value = length-add_bytes h.item.value
+      (bytes_at is.run.at is.run.len store.space) (omega (arith, under, is.fits.long)) in
       subst (Writes (space_of s)) (sym is.is) (record { long = omega (arith, is.fits.long, long); inside = is.fits.inside })
 
   pub step-writes : (n : ℕ) (store : Store) (u : Update) → StoreFits s store → IsStep s calls d n store u → Writes (space_of s) u.body

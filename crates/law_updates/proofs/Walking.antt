@@ -1,4 +1,4 @@
--- The run that the machine's walk gives is the allocator's: the lowest of the shortest free runs.
+-- What the walk over a space gives.
 use Rattle.std.specs.Prelude.{ℕ, ◌≤◌, Bool, Option, Some, None}
 use Rattle.group_types.specs.declared.run.Run.{Run}
 use Rattle.run_alloc.specs.Free.{IsBestRun, NoPlace}

@@ -1,4 +1,4 @@
--- The laws of right updates and of fine histories.
+-- The law of right updates.
 use Rattle.std.specs.Prelude.{ℕ, ◌≡◌, ◌<◌, List, All}
 use Rattle.group_types.specs.Dimensions.{Dimensions}
 use Rattle.memc_table.specs.Act.{value_of}

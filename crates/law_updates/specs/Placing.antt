@@ -1,4 +1,4 @@
--- The run that the machine's walk gives is the allocator's: the lowest of the shortest free runs.
+-- The run that the machine gives a value is the front of the best run: the lowest of the shortest free ones.
 use Rattle.std.specs.Prelude.{ℕ, ◌≡◌, ◌≤◌, Option, Some, None}
 use Rattle.group_types.specs.declared.run.Run.{Run}
 use Rattle.run_alloc.specs.Free.{NoPlace, IsPlace}
