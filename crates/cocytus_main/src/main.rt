@@ -1,22 +1,25 @@
 //! The program: it makes the real input, output, listener and clock, and ends with the number of
 //! the status that `run_program` gives. The contract of `run_program` says what is written and when
 //! each status comes. What standard input and output really give and take is left to the system, and so is
-//! what a person reads on standard error of words, a line or a shape that was refused.
+//! what a person reads on standard error.
 #![tactic(auto)]
+
+ghost use Rattle.std.specs.Prelude.{◌≡◌, drop, IfOk};
+ghost use Rattle.std.specs.Process.{exit_status};
+ghost use Rattle.std.specs.Vec.Iter.{into_iter_items};
+ghost use Rattle.scenario_play.specs.Status.{number_of_status};
 
 use edge_io::{MemoryListener, ReadEdge, SystemClock, WriteEdge, write_all};
 use group_program::{Status, help_at, run_program, tell};
-use std::alloc::AllocError;
+use std::alloc::{AllocError, Global};
+use std::env::Args;
 use std::process::ExitCode;
 use std::{env, io};
 
 fn main(rt: HostRuntime) -> ExitCode {
     // Arguments that are no text name no command: they count as no words.
     let words = match env::args(&rt) {
-        Ok(mut words) => {
-            words.next();
-            words.collect(rt.alloc())
-        }
+        Ok(all) => behind_name(rt.alloc(), all),
         Err(error) if error.kind() == io::ErrorKind::OutOfMemory => Err(AllocError),
         Err(_) => Ok(Vec::new(rt.alloc())),
     };
@@ -37,5 +40,21 @@ fn main(rt: HostRuntime) -> ExitCode {
     if let Ok(help) = help_at(rt.alloc(), status) {
         let _ = write_all(&mut WriteEdge::new(rt.stderr()), help.as_bytes());
     }
+    exit_of(status)
+}
+
+/// The words behind the program's name, which is the first of all.
+fn behind_name(alloc: Global, all: Args) -> Result<Vec<String>, AllocError>
+    ensures { IfOk result (λ words. words.items ≡ drop 1 (into_iter_items all)) }
+{
+    let mut words = all;
+    words.next();
+    words.collect(alloc)
+}
+
+/// The exit status of a program that ended so.
+fn exit_of(status: Status) -> ExitCode
+    ensures { exit_status result ≡ number_of_status status }
+{
     ExitCode::from(status.number())
 }

@@ -8,8 +8,7 @@ const COMMANDS: &str = "usage: cocytus_main play < SCRIPT
        cocytus_main trial <n>
 ";
 
-const LINES: &str =
-    "expected one of these lines, its words one space apart, ended by a line feed alone:
+const LINES: &str = "is none of these, with words one space apart, ended by a line feed alone:
 group <k> <m> <blocks> <block>                 the first line, and no other
 ask <caller> <process> <op>                    op: get <key>, delete <key>, touch <key> <exptime>,
                                                set|add|replace <key> <flags> <value> [<exptime>],
@@ -27,15 +26,25 @@ stop
 A process is d<n> or p<n>; a value is -, hexadecimal digits, or *<len>*<hh>.
 ";
 
-const LENGTH: &str = "a script has at most 16777216 bytes\n";
-
-/// What a person is told beside the last line: what was expected there.
+/// What a person is told beside the last line: what was expected there, or what went wrong.
 pub fn help_at(alloc: Global, status: Status) -> Result<String, AllocError> {
     match status {
-        Status::BadWords => COMMANDS.to_string(alloc),
-        Status::BadLine(_) => LINES.to_string(alloc),
+        Status::BadLine(n) => format!(in alloc; "line {n} of the script {LINES}"),
         Status::BadShape(field) => format!(in alloc; "{}\n", BadShape { field }),
-        Status::TooLong => LENGTH.to_string(alloc),
-        _ => Ok(String::new(alloc)),
+        other => help_text(other).to_string(alloc),
+    }
+}
+
+fn help_text(status: Status) -> &'static str {
+    match status {
+        Status::BadWords => COMMANDS,
+        Status::TooLong => "a script has at most 16777216 bytes\n",
+        Status::ReadFault => "standard input could not be read\n",
+        Status::WriteFault => "standard output could not be written\n",
+        Status::Want => "there is not enough memory\n",
+        Status::Cut => "the input ended inside a request\n",
+        Status::LineTooLong => "a line of a request has at most 32768 bytes\n",
+        Status::Worn => "a connection has at most 2^62 bytes\n",
+        _ => "",
     }
 }
