@@ -15,17 +15,17 @@ use Rattle.group_calls.specs.declared.event.Answer.TheVariants as says
 use Rattle.group_calls.specs.declared.event.Cause.TheVariants as cause
 use Rattle.group_calls.specs.declared.event.Event.{Event}
 use Rattle.group_calls.specs.declared.event.Event.TheVariants.{Ask, Collect, Deliver, Fail, Flush, Trace}
-use Rattle.group_frame.proofs.Reading.{grown-is}
+use Rattle.law_moves.proofs.Reading.{grown-is}
 use Rattle.group_run.specs.Draining.{next_delivery}
 use Rattle.group_run.specs.Headline.{MayCome}
 use Rattle.group_run.specs.Meaning.{IsDown}
 use Rattle.group_run.specs.World.{Ticket, World, after, call_of, group_step, is_issued, logged_at_once, next_name, step, world_after}
-use Rattle.group_shown.specs.Shown.{is_down}
-use Rattle.group_updates.specs.Each.{Each, EachTwo}
-use Rattle.group_updates.proofs.Eaches.{each-append}
-use Rattle.group_log.specs.Ties.{NamesDiffer}
-use Rattle.group_weights.specs.Laws.{IsDelivery}
-use Rattle.group_weights.proofs.Whole.{next-comes}
+use Rattle.group_run.specs.Shown.{is_down}
+use Rattle.group_types.specs.Each.{Each, EachTwo}
+use Rattle.law_updates.proofs.Eaches.{each-append}
+use Rattle.law_log.proofs.Ties.{NamesDiffer}
+use Rattle.law_progress.specs.Ends.{IsDelivery}
+use Rattle.law_progress.proofs.Whole.{next-comes}
 use Rattle.world_caller.specs.Calling.{Brings, IsDone, IsEvent, IsOwn, asked_to, collected_to, due}
 use Rattle.world_caller.proofs.Delivering.{due-first}
 use Rattle.world_caller.specs.declared.stage.Next.{Next}

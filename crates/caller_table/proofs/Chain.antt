@@ -15,7 +15,7 @@ use Rattle.group_calls.specs.Turns.{entry_of}
 use Rattle.group_calls.specs.declared.entry.Entry.{Entry}
 use Rattle.group_calls.specs.declared.event.Event.{Event}
 use Rattle.group_calls.specs.declared.event.Event.TheVariants.{Fail}
-use Rattle.group_log.proofs.Tables.{table-append}
+use Rattle.law_log.proofs.Tables.{table-append}
 use Rattle.group_run.specs.World.{World, opening, step, world_after}
 use Rattle.front_end.specs.Calls.{Call, Made, Failed, Leads}
 use Rattle.world_caller.specs.Callers.{GroupCaller, HasCalled, HasFailed, IsOrdered}

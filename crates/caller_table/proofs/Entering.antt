@@ -14,11 +14,11 @@ use Rattle.group_run.specs.Applying.{Settlement}
 use Rattle.group_run.specs.Asking.{reply_from}
 use Rattle.group_run.specs.World.{Call, Ledger, Ticket, World, call_of, entries_for, entry_then, group_step, ledger_after, ledger_with, logged_at_once, new_ones, next_name, op_in, op_moved, ops_moved, refusal_logged, same_call, settled_in, step, ticket_if, tickets_after, update_name, is_issued}
 use Rattle.group_types.specs.declared.process.ProcessId.{ProcessId}
-use Rattle.group_log.specs.Ties.{is_logged}
-use Rattle.group_frame.proofs.Reading.{grown-is}
-use Rattle.group_updates.specs.Each.{Each}
-use Rattle.group_updates.proofs.Eaches.{each-append}
-use Rattle.group_log.proofs.Entries.{call-eq, call-refl}
+use Rattle.law_log.proofs.Ties.{is_logged}
+use Rattle.law_moves.proofs.Reading.{grown-is}
+use Rattle.group_types.specs.Each.{Each}
+use Rattle.law_updates.proofs.Eaches.{each-append}
+use Rattle.law_log.proofs.Entries.{call-eq, call-refl}
 use Rattle.group_types.specs.Lists.{at}
 
 none-some : {X : Type 0} {x : X} → None ≡ Some x → ⊥

@@ -8,8 +8,8 @@ use Rattle.memc_table.specs.Contents.{Contents, empty_table}
 use Rattle.group_calls.specs.Log.{table_of}
 use Rattle.group_calls.specs.declared.entry.Entry.{Entry}
 use Rattle.group_calls.specs.declared.event.Event.{Event}
-use Rattle.group_log.specs.Book.{book_of}
-use Rattle.group_log.specs.Laws.{LogTies}
+use Rattle.law_log.specs.Book.{book_of}
+use Rattle.law_log.proofs.Laws.{LogTies}
 use Rattle.group_run.specs.Replica.{run_of}
 use Rattle.group_run.specs.World.{World, after, opening, step, world_after}
 use Rattle.caller_table.proofs.Naming.{IsLed, ties}

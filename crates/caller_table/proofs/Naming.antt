@@ -17,20 +17,20 @@ use Rattle.group_calls.specs.declared.event.Event.{Event}
 use Rattle.group_calls.specs.declared.event.Event.TheVariants.{Ask, Collect}
 use Rattle.group_run.specs.Headline.{IsRun, IsRunFrom, MayCome, OneLog}
 use Rattle.group_run.specs.World.{World, after, next_name, opening, step, turns_from, turns_of, world_after}
-use Rattle.group_headline.proofs.All.{whole-always}
-use Rattle.group_headline.proofs.Headlines.{headline_always}
-use Rattle.group_headline.proofs.Promises.{stands-always}
-use Rattle.group_log.specs.Book.{book_of, no_book}
-use Rattle.group_log.specs.Laws.{LogTies}
-use Rattle.group_log.specs.Ties.{NamesDiffer}
-use Rattle.group_log.proofs.Books.{book-turns, book-world}
-use Rattle.group_log.proofs.Calls.{each-contained}
-use Rattle.group_log.proofs.Logging.{LogsOf, logs_always}
-use Rattle.group_log.proofs.Logs.{EntriesAsked}
-use Rattle.group_log.proofs.Ones.{log_is_tied}
-use Rattle.group_log.proofs.Turnings.{asks_counted, get-contained, get-last}
-use Rattle.group_updates.specs.Each.{Each, EachTwo}
-use Rattle.group_updates.proofs.Eaches.{each-append, each-weaker}
+use Rattle.law_headline.proofs.All.{whole-always}
+use Rattle.law_headline.proofs.Headlines.{headline_always}
+use Rattle.law_headline.proofs.Promises.{stands-always}
+use Rattle.law_log.specs.Book.{book_of, no_book}
+use Rattle.law_log.proofs.Laws.{LogTies}
+use Rattle.law_log.proofs.Ties.{NamesDiffer}
+use Rattle.law_log.proofs.Books.{book-turns, book-world}
+use Rattle.law_log.proofs.Calls.{each-contained}
+use Rattle.law_log.proofs.Logging.{LogsOf, logs_always}
+use Rattle.law_log.proofs.Logs.{EntriesAsked}
+use Rattle.law_log.proofs.Ones.{log_is_tied}
+use Rattle.law_log.proofs.Turnings.{asks_counted, get-contained, get-last}
+use Rattle.group_types.specs.Each.{Each, EachTwo}
+use Rattle.law_updates.proofs.Eaches.{each-append, each-weaker}
 use Rattle.caller_table.proofs.Entering.{IsOf}
 use Rattle.caller_table.proofs.Placing.{after-append}
 

@@ -10,7 +10,7 @@ use Rattle.group_calls.specs.declared.event.Event.{Event}
 use Rattle.group_run.specs.Applying.{Settlement}
 use Rattle.group_run.specs.Replica.{run_of}
 use Rattle.group_run.specs.World.{Ledger, Ticket, World, after, grown, ledger_after, ledger_with, new_ones, opening, settled_in, step, world_after}
-use Rattle.group_frame.proofs.Reading.{grown-is}
+use Rattle.law_moves.proofs.Reading.{grown-is}
 
 pub after-append : (w : World) (es fs : List Event) → world_after w (es ++ fs) ≡ world_after (world_after w es) fs
 after-append w [] fs = refl

@@ -11,7 +11,7 @@ use Rattle.group_types.proofs.Names.{index-below}
 use Rattle.group_calls.specs.declared.event.Answer.{Answer}
 use Rattle.group_run.specs.Process.{Node}
 use Rattle.group_run.specs.World.{NodeStep, opening_node, unchanged, with_node}
-use Rattle.group_frame.proofs.Reading.{node-back}
+use Rattle.law_moves.proofs.Reading.{node-back}
 use Rattle.group_node.specs.Standing.{Standing}
 use Rattle.group_node.specs.Steps as node
 use Rattle.group_node.specs.declared.node.NodeOut.{NodeOut}

@@ -17,16 +17,16 @@ use Rattle.group_run.specs.Process.{Node}
 use Rattle.group_run.specs.World.{World, dead_nodes, node_of}
 use Rattle.group_run.specs.Replica.{last_of}
 use Rattle.group_run.specs.Rows.{parity_number}
-use Rattle.group_frame.proofs.Downs.{words_always}
-use Rattle.group_headline.proofs.Headlines.{fits_always, headline_always}
-use Rattle.group_bounds.specs.Deliveries.{FirstsAreFor, IsFor, KnowsFewDead, OwnMarksStarted}
-use Rattle.group_bounds.proofs.Addressing.{kinds_always}
-use Rattle.group_bounds.proofs.Deaths.{few_dead_always}
-use Rattle.group_bounds.proofs.OwnMarks.{own_marks_always}
+use Rattle.law_moves.proofs.Downs.{words_always}
+use Rattle.law_headline.proofs.Headlines.{fits_always, headline_always}
+use Rattle.law_answers.specs.Deliveries.{FirstsAreFor, IsFor, KnowsFewDead, OwnMarksStarted}
+use Rattle.law_answers.proofs.Addressing.{kinds_always}
+use Rattle.law_answers.proofs.Deaths.{few_dead_always}
+use Rattle.law_answers.proofs.OwnMarks.{own_marks_always}
 use Rattle.group_node.specs.Delivering.{Comes}
 use Rattle.group_node.specs.Standing.{Standing}
 use Rattle.leader_role.specs.Sound.{IsOfGroup}
-use Rattle.group_shown.specs.Shown.{process_stamp, stamp_of}
+use Rattle.group_run.specs.Shown.{process_stamp, stamp_of}
 use Rattle.group_core.specs.Runs.{HasHeadline, HasRun}
 use Rattle.group_core.specs.Seats.{IsKnownLow}
 use Rattle.group_core.proofs.Runs.{named, numbers-low}

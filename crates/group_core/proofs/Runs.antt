@@ -9,13 +9,13 @@ use Rattle.group_calls.specs.declared.event.Event.{Event}
 use Rattle.group_run.specs.Headline.{MayCome}
 use Rattle.group_run.specs.History.{no_history}
 use Rattle.group_run.specs.World.{World, node_of, opening, step}
-use Rattle.group_frame.proofs.Runs.{world-from}
-use Rattle.group_members.proofs.Keeping.{members_always}
-use Rattle.group_bounds.specs.Numbers.{NumbersAreLow}
-use Rattle.group_bounds.specs.Tickets.{TicketsStand}
-use Rattle.group_bounds.proofs.Entries.{after-more, entries_always, run-more}
-use Rattle.group_bounds.proofs.Numbers.{numbers_low_always}
-use Rattle.group_bounds.proofs.Tickets.{tickets_always}
+use Rattle.law_moves.proofs.Runs.{world-from}
+use Rattle.law_moves.proofs.Keeping.{members_always}
+use Rattle.law_answers.specs.Numbers.{NumbersAreLow}
+use Rattle.law_answers.specs.Tickets.{TicketsStand}
+use Rattle.law_answers.proofs.Entries.{after-more, entries_always, run-more}
+use Rattle.law_answers.proofs.Numbers.{numbers_low_always}
+use Rattle.law_answers.proofs.Tickets.{tickets_always}
 use Rattle.group_core.specs.Runs.{HasRun}
 
 pub begun : (s : Dimensions) → IsShape s → HasRun (opening s)

@@ -16,8 +16,8 @@ use Rattle.group_run.specs.Applying.{Settlement, head_at}
 use Rattle.group_run.specs.Asking.{ask_process, collect_from, fate_of}
 use Rattle.group_run.specs.Process.{Node}
 use Rattle.group_run.specs.World.{World, all_change, ask_node, collect_node, deliver_nodes, delivered, flush_node, flush_process, group_step, if_up, node_of, treated}
-use Rattle.group_bounds.specs.Steps.{waiting}
-use Rattle.group_bounds.proofs.Settling.{settles_few}
+use Rattle.law_answers.specs.Steps.{waiting}
+use Rattle.law_answers.proofs.Settling.{settles_few}
 
 module _ (s : Dimensions) (node : Node) where
   asked : (name : CallName) (op : Asked) → length (ask_node s name op node).settled ≤ suc (waiting node.process.replicas)

@@ -6,7 +6,7 @@ ghost use Rattle.group_calls.specs.Log.{IsLegal};
 ghost use Rattle.group_run.specs.Headline.{AgreeOnStamp};
 ghost use Rattle.group_run.specs.Meaning.{IsDown, is_dead};
 ghost use Rattle.group_run.specs.Replica.{callers};
-ghost use Rattle.group_shown.specs.Shown.{held, stamp_of};
+ghost use Rattle.group_run.specs.Shown.{held, stamp_of};
 ghost use Rattle.group_core.specs.Runs.{HasHeadline, HasRun};
 
 use crate::world::World;

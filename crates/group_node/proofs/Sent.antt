@@ -9,7 +9,7 @@ use Rattle.group_types.proofs.Lists.{at-put, at-put-other}
 use Rattle.group_types.proofs.Names.{index-below, index-process_at, process_at-in, process_at-index, same-eq, same-refl}
 use Rattle.membership.specs.Members.{Membership, knows_dead}
 use Rattle.group_message.specs.declared.message.Message.{Message}
-use Rattle.group_bounds.specs.Steps.{FewForEach}
+use Rattle.law_answers.specs.Steps.{FewForEach}
 use Rattle.group_run.specs.Applying.{Sent}
 use Rattle.group_run.specs.World.{front_if, link_after, links_after, sent_to}
 use Rattle.link_core.specs.Outgoing.{Link, link_to, with_link}

@@ -15,7 +15,7 @@ use Rattle.group_run.specs.Fitting.{Fits}
 use Rattle.group_run.specs.Process.{Node, Process, opening_process}
 use Rattle.group_run.specs.Receiving.{receive}
 use Rattle.group_run.specs.World.{NodeStep, collect_node, if_up, opening_node, treated, unchanged}
-use Rattle.group_bounds.specs.Steps.{AlwaysSendsFew, FewForEach}
+use Rattle.law_answers.specs.Steps.{AlwaysSendsFew, FewForEach}
 use Rattle.head_service.specs.declared.step.CallStep.{CallStep}
 use Rattle.process_service.specs.declared.step.Step.{Step}
 use Rattle.process_service.specs.Standing as whole

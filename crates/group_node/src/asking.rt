@@ -6,7 +6,7 @@ ghost use Rattle.group_node.specs.Steps.{IsRefusal, made};
 
 use crate::node::{Node, NodeOut};
 use crate::sending::{make_room, send_all};
-use group_bounds::sends_few;
+use law_answers::sends_few;
 use group_calls::Answer;
 use group_types::Partition;
 use head_service::Call;

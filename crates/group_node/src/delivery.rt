@@ -8,7 +8,7 @@ ghost use Rattle.group_node.specs.Steps.{made};
 
 use crate::node::{Node, NodeOut};
 use crate::sending::{index_of, make_room, send_all};
-use group_bounds::sends_few;
+use law_answers::sends_few;
 use group_calls::Answer;
 use group_message::Message;
 use group_types::ProcessId;

@@ -13,7 +13,7 @@ ghost use Rattle.head_service.specs.Acting.{name_of};
 ghost use Rattle.process_service.specs.Noticing.{waiting};
 ghost use Rattle.process_service.specs.Steps.{called, stepped};
 ghost use Rattle.group_node.specs.Delivering.{Comes};
-ghost use Rattle.group_shown.specs.Shown.{process_stamp};
+ghost use Rattle.group_run.specs.Shown.{process_stamp};
 
 use crate::reading::numbers_of;
 use data_process::DataProcess;

@@ -1,7 +1,7 @@
 ghost use Rattle.std.specs.Prelude.{◌≡◌, ◌+◌, ◌≤◌, IfOk, length};
 ghost use Rattle.group_types.specs.Dimensions.{space_of};
 ghost use Rattle.erasure_code.specs.Spaces.{bytes_at};
-ghost use Rattle.group_shown.specs.Shown.{process_stamp};
+ghost use Rattle.group_run.specs.Shown.{process_stamp};
 
 use crate::node::Node;
 use group_types::{Payload, Run};

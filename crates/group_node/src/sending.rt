@@ -3,7 +3,7 @@ ghost use Rattle.group_run.specs.Applying as machine;
 ghost use Rattle.group_types.specs.Names as names;
 ghost use Rattle.group_types.specs.Names.{IsProcess};
 ghost use Rattle.group_types.specs.Shape.{IsShape};
-ghost use Rattle.group_bounds.specs.Steps.{FewForEach};
+ghost use Rattle.law_answers.specs.Steps.{FewForEach};
 ghost use Rattle.group_run.specs.World.{links_after};
 ghost use Rattle.group_node.specs.Rooms.{HasRoom, HasRoomFor, IsLiving, messages};
 

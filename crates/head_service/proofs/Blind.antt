@@ -13,7 +13,7 @@ use Rattle.memc_table.specs.declared.ruling.Ruling.{Ruling}
 use Rattle.memc_table.specs.declared.ruling.Ruling.TheVariants.{Refused, Accepted}
 use Rattle.group_run.specs.Deciding.{Found, blind_reply, decide_blind, decide_found, decide_left, decide_accepted, decide_ruled, decide_waiting, held_as, is_blind, is_touch, item_found, length_of, outcome_of, reads_bytes, ruling_with, run_needed, unseen, window}
 use Rattle.group_run.specs.Replica.{Replica, last_of, run_in}
-use Rattle.group_updates.proofs.Blind.{Alike, LeavesAlike, alike-same, same-empty, unread-alike}
+use Rattle.law_updates.proofs.Blind.{Alike, LeavesAlike, alike-same, same-empty, unread-alike}
 
 module _ (space : ℕ) (r : Replica) (op : Asked) (read : Run → Found) where
   left-alike : (reply : Reply) (touch : Bool) (mine theirs : Option Holding) → LeavesAlike touch mine theirs

@@ -15,7 +15,7 @@ use Rattle.group_calls.specs.declared.decision.Decision.{Decision}
 use Rattle.group_run.specs.Deciding.{Found, decide_accepted, decide_left, decide_ruled, decide_waiting, held_as, is_touch, outcome_of, ruling_with, window}
 use Rattle.group_run.specs.Free.{place_for}
 use Rattle.group_run.specs.Replica.{Replica, last_of}
-use Rattle.group_updates.proofs.Decides.{place-free}
+use Rattle.law_updates.proofs.Decides.{place-free}
 
 -- a value that is longer than the space finds no place
 pub too-long : (space : ℕ) (r : Replica) (len : ℕ) → space < len → None ≡ place_for space r len

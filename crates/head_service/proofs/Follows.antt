@@ -20,10 +20,10 @@ use Rattle.group_calls.specs.declared.decision.Decision.{Decision}
 use Rattle.group_run.specs.Deciding.{Found, Bytes, Missing, blind_reply, decide_accepted, decide_blind, decide_found, decide_left, decide_placed, decide_ruled, decide_waiting, decide_written, held_as, is_get, is_touch, item_found, length_of, outcome_of, ruling_with, run_needed, unseen, waits_for, window}
 use Rattle.group_run.specs.Free.{place_for}
 use Rattle.group_run.specs.Replica.{Replica, freed_by, items_after, last_of, number_on, slot_in}
-use Rattle.group_updates.proofs.Clears.{number_on-none}
-use Rattle.group_updates.proofs.Decides.{Place, place-free}
-use Rattle.group_updates.proofs.Histories.{steps-keep-slot}
-use Rattle.group_updates.proofs.Rules.{RulesWell, rules-well}
+use Rattle.law_updates.proofs.Clears.{number_on-none}
+use Rattle.law_updates.proofs.Decides.{Place, place-free}
+use Rattle.law_updates.proofs.Histories.{steps-keep-slot}
+use Rattle.law_updates.proofs.Rules.{RulesWell, rules-well}
 use Rattle.head_service.specs.Issuing.{CanFollow, IsWhole}
 
 -- an op that isn't a get waits for any update on its key

@@ -4,9 +4,9 @@ use Rattle.group_types.specs.declared.run.Run.{Run}
 use Rattle.run_alloc.specs.Free.{AllFree, IsFreeRun, IsBestRun, IsPlace, NoPlace}
 use Rattle.group_run.specs.Free.{is_free, place_for}
 use Rattle.group_run.specs.Replica.{Replica}
-use Rattle.group_places.specs.Placing.{IsPlaced}
+use Rattle.law_updates.specs.Placing.{IsPlaced}
 use Rattle.group_run.specs.Fitting.{IsRunOf}
-use Rattle.group_places.proofs.Placing.{places_are_best}
+use Rattle.law_updates.proofs.Placing.{places_are_best}
 
 module _ (space : ℕ) (r : Replica) (len : ℕ) where
   none_found : (found : Option Run) → IsPlaced space r len found → NoPlace space (is_free space r) len → None ≡ found

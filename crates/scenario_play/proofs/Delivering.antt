@@ -10,10 +10,10 @@ use Rattle.group_run.specs.Draining.{drain_events, next_delivery}
 use Rattle.group_run.specs.Meaning.{IsDown}
 use Rattle.group_run.specs.Progress.{load_of}
 use Rattle.group_run.specs.World.{World, step, turns_from, world_after}
-use Rattle.group_frame.proofs.Reading.{grown-is}
+use Rattle.law_moves.proofs.Reading.{grown-is}
 use Rattle.group_calls.specs.declared.event.Answer.{Answer}
 use Rattle.scenario_text.specs.Texts.{answer_text, entries_text, entry_text}
-use Rattle.group_shown.specs.Shown.{is_down}
+use Rattle.group_run.specs.Shown.{is_down}
 use Rattle.scenario_run.specs.Playing.{drained_text, draining, turn_text}
 use Rattle.scenario_run.proofs.Draining.{Lightens, burden, lightens}
 use Rattle.scenario_run.proofs.Leading.{IsLedTo, led-step}

@@ -3,7 +3,7 @@ ghost use Rattle.group_types.specs.Dimensions.{space_of};
 ghost use Rattle.group_types.specs.Names.{IsProcess};
 ghost use Rattle.group_run.specs.Headline.{MayCome};
 ghost use Rattle.group_run.specs.World.{opening, step, turns_from, world_after};
-ghost use Rattle.group_shown.specs.Shown.{held};
+ghost use Rattle.group_run.specs.Shown.{held};
 ghost use Rattle.scenario_run.specs.Playing.{draining, drained_text, look, turn_text};
 ghost use Rattle.scenario_play.specs.Ends.{IsLight};
 

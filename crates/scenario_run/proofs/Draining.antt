@@ -16,18 +16,18 @@ use Rattle.group_run.specs.Meaning.{IsDown}
 use Rattle.group_run.specs.Progress.{load_of}
 use Rattle.group_run.specs.Process.{Node}
 use Rattle.group_run.specs.World.{World, opening, opening_node, step, world_after}
-use Rattle.group_frame.specs.State.{State, state_from}
-use Rattle.group_frame.proofs.Reading.{at-indices}
-use Rattle.group_sessions.specs.Tokens.{everyone}
-use Rattle.group_sessions.proofs.Sums.{everyone-inside, sum-zero}
-use Rattle.group_weights.specs.Drains.{NextComes}
-use Rattle.group_weights.proofs.Drained.{ready-after, still-up}
-use Rattle.group_weights.proofs.Loads.{load-is, on_way, way_from, weights}
-use Rattle.group_weights.proofs.Rising.{rises-little}
-use Rattle.group_weights.proofs.Whole.{next-comes}
-use Rattle.group_weights.proofs.Always.{deliveries_lower}
-use Rattle.group_weights.specs.Laws.{IsDelivery}
-use Rattle.group_shown.specs.Shown.{is_down}
+use Rattle.law_moves.specs.State.{State, state_from}
+use Rattle.law_moves.proofs.Reading.{at-indices}
+use Rattle.law_bytes.proofs.Tokens.{everyone}
+use Rattle.law_bytes.proofs.Sums.{everyone-inside, sum-zero}
+use Rattle.law_progress.specs.Drains.{NextComes}
+use Rattle.law_progress.proofs.Drained.{ready-after, still-up}
+use Rattle.law_progress.proofs.Loads.{load-is, on_way, way_from, weights}
+use Rattle.law_progress.proofs.Rising.{rises-little}
+use Rattle.law_progress.proofs.Whole.{next-comes}
+use Rattle.law_progress.proofs.Always.{deliveries_lower}
+use Rattle.law_progress.specs.Ends.{IsDelivery}
+use Rattle.group_run.specs.Shown.{is_down}
 use Rattle.scenario_run.specs.Playing.{draining}
 use Rattle.scenario_run.proofs.Leading.{IsLedTo, led-step}
 use Rattle.scenario_run.proofs.Truth.{up}

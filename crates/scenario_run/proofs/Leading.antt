@@ -8,7 +8,7 @@ use Rattle.group_calls.specs.declared.event.Event.{Event}
 use Rattle.group_run.specs.Headline.{IsRun, IsRunFrom, MayCome}
 use Rattle.group_run.specs.World as machine
 use Rattle.group_run.specs.World.{World, after, opening, step, world_after}
-use Rattle.group_frame.proofs.Reading.{grown-is}
+use Rattle.law_moves.proofs.Reading.{grown-is}
 
 -- events that lead from one group to another
 pub record Leads (w v : World) (turns : List Turn) : Type 0 where

@@ -9,9 +9,9 @@ use Rattle.group_calls.specs.declared.event.Event.{Event}
 use Rattle.group_run.specs.Headline.{Headline, IsRun}
 use Rattle.group_run.specs.World as machine
 use Rattle.group_run.specs.World.{World, after, opening, step, world_after}
-use Rattle.group_headline.proofs.Headlines.{headline_always}
-use Rattle.group_shown.specs.Shown.{HoldsTruth}
-use Rattle.group_shown.proofs.Truth.{truth_always}
+use Rattle.law_headline.proofs.Headlines.{headline_always}
+use Rattle.group_run.specs.Shown.{HoldsTruth}
+use Rattle.law_headline.proofs.Truth.{truth_always}
 use Rattle.scenario_text.specs.Meaning.{IsLineOf, line_of}
 use Rattle.scenario_text.specs.declared.line.Line.{Line}
 use Rattle.scenario_text.specs.declared.line.Line.TheVariants.{Skipped, Group, Ask, Collect, Deliver, Fail, Flush, Trace, Drain, Show, Time, Stop}

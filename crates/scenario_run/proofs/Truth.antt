@@ -6,7 +6,7 @@ use Rattle.group_types.specs.declared.process.ProcessId.{ProcessId}
 use Rattle.group_types.specs.declared.run.Run.{Run}
 use Rattle.group_run.specs.Meaning.{IsDown, is_dead}
 use Rattle.group_run.specs.World.{World}
-use Rattle.group_shown.specs.Shown.{HoldsTruth, held, is_down, stamp_of, told}
+use Rattle.group_run.specs.Shown.{HoldsTruth, held, is_down, stamp_of, told}
 use Rattle.scenario_text.specs.Texts.{shown_text}
 use Rattle.scenario_run.specs.Playing.{look}
 use Rattle.scenario_run.specs.Promises.{ShowsTruth}

@@ -14,7 +14,7 @@ use Rattle.group_run.specs.Draining.{drain_events}
 use Rattle.group_run.specs.Meaning.{is_dead}
 use Rattle.group_run.specs.Progress.{load_of}
 use Rattle.group_run.specs.World.{World, WorldStep, opening, step, turns_from, world_after}
-use Rattle.group_shown.specs.Shown.{held, is_down, stamp_of}
+use Rattle.group_run.specs.Shown.{held, is_down, stamp_of}
 use Rattle.scenario_text.specs.Meaning.{line_of}
 use Rattle.scenario_text.specs.Texts.{answer_text, entries_text, shown_text}
 use Rattle.scenario_text.specs.declared.line.Line.{Line}

@@ -10,7 +10,7 @@ use Rattle.group_calls.specs.Within.{AnswersWithin}
 use Rattle.group_run.specs.Headline.{Headline, IsRun}
 use Rattle.group_run.specs.World as machine
 use Rattle.group_run.specs.World.{World}
-use Rattle.group_shown.specs.Shown.{held, told}
+use Rattle.group_run.specs.Shown.{held, told}
 use Rattle.scenario_text.specs.Meaning.{line_of}
 use Rattle.scenario_text.specs.declared.line.Line.{Line}
 use Rattle.scenario_text.specs.declared.line.Line.TheVariants.{Show}

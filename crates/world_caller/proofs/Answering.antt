@@ -15,24 +15,23 @@ use Rattle.group_calls.specs.declared.event.Event.TheVariants.{Ask, Collect}
 use Rattle.group_run.specs.Applying.{head_at, held_at, replica_of}
 use Rattle.group_run.specs.Causes.{AnswersHaveCauses, AskCause, home_in}
 use Rattle.group_run.specs.Headline.{IsRun, MayCome}
-use Rattle.group_run.specs.History.{History, history_of}
+use Rattle.group_run.specs.History.{History, history_of, history}
 use Rattle.group_run.specs.Meaning.{HasTakenOver, Heads, IsDown, IsDrained, is_dead}
 use Rattle.group_run.specs.Process.{Head, Held}
 use Rattle.group_run.specs.Progress.{IsQuiet}
 use Rattle.group_run.specs.Replica.{Replica}
 use Rattle.group_run.specs.World.{after, step}
-use Rattle.group_frame.specs.State.{State, state_of}
-use Rattle.group_members.specs.Members.{Reigns}
-use Rattle.group_histories.specs.Histories.{history}
-use Rattle.group_reach.proofs.Around.{keeper-rank}
-use Rattle.group_reach.proofs.Ranks.{head-from}
-use Rattle.group_log.proofs.Calls.{each-contained}
-use Rattle.group_fates.specs.Held.{HeldFits, IsHeldOf}
-use Rattle.group_fates.proofs.Held.{held_always}
-use Rattle.group_drained.proofs.Finished.{reached-and-told}
-use Rattle.group_causes.proofs.Answering.{answers_always}
-use Rattle.group_quiet.proofs.Quiet.{quiet_always}
-use Rattle.group_waits.proofs.Steps.{shape-is, world-is}
+use Rattle.law_moves.specs.State.{State, state_of}
+use Rattle.law_moves.proofs.Members.{Reigns}
+use Rattle.law_histories.proofs.Around.{keeper-rank}
+use Rattle.law_histories.proofs.Ranks.{head-from}
+use Rattle.law_log.proofs.Calls.{each-contained}
+use Rattle.law_log.proofs.HeldWords.{HeldFits, IsHeldOf}
+use Rattle.law_log.proofs.Held.{held_always}
+use Rattle.law_histories.proofs.Finished.{reached-and-told}
+use Rattle.law_answers.proofs.Answering.{answers_always}
+use Rattle.law_progress.proofs.Quiet.{quiet_always}
+use Rattle.law_progress.proofs.Steps.{shape-is, world-is}
 use Rattle.world_caller.specs.Calling.{Serves, asked_to, collected_to, due}
 use Rattle.world_caller.specs.Laws.{AsksAlways, AsksLeadOn, CollectsAlways, CollectsLeadOn, IsTicketed, LeadsOn}
 use Rattle.world_caller.proofs.Delivering.{due-none, framed}

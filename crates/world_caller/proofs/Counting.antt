@@ -18,10 +18,10 @@ use Rattle.group_run.specs.History.{History, history_of, no_history}
 use Rattle.group_run.specs.Meaning.{Heads, IsDown, IsDrained, is_dead}
 use Rattle.group_run.specs.Progress.{AskedDrained, block_waits, waits_here}
 use Rattle.group_run.specs.World.{World, after, dead_nodes, step, turns_from, world_after}
-use Rattle.group_weights.proofs.Whole.{next-comes}
-use Rattle.group_causes.proofs.Answering.{answers_always}
-use Rattle.group_waits.proofs.Steps.{history-append, run-append, world-is}
-use Rattle.group_waits.proofs.Waits.{few_waits_always}
+use Rattle.law_progress.proofs.Whole.{next-comes}
+use Rattle.law_answers.proofs.Answering.{answers_always}
+use Rattle.law_progress.proofs.Steps.{history-append, run-append, world-is}
+use Rattle.law_progress.proofs.Waits.{few_waits_always}
 use Rattle.world_caller.specs.Calling.{Brings, IsDone, IsEvent, Serves, asked_to, due}
 use Rattle.world_caller.specs.Laws.{FewAlways}
 use Rattle.world_caller.specs.declared.stage.Next.{Next}

@@ -10,13 +10,13 @@ use Rattle.group_run.specs.Headline.{IsRun, MayCome}
 use Rattle.group_run.specs.History.{History, history_of, no_history}
 use Rattle.group_run.specs.Meaning.{IsDown, IsDrained}
 use Rattle.group_run.specs.World.{World, after, step}
-use Rattle.group_frame.proofs.Events.{FramedHistory}
-use Rattle.group_frame.proofs.Runs.{framed-from, framed-opening}
-use Rattle.group_weights.specs.Drains.{NextComes}
-use Rattle.group_weights.specs.Laws.{IsDelivery}
-use Rattle.group_weights.proofs.Whole.{next-comes}
-use Rattle.group_waits.proofs.Steps.{world-is}
-use Rattle.group_shown.specs.Shown.{is_down}
+use Rattle.law_moves.proofs.Events.{FramedHistory}
+use Rattle.law_moves.proofs.Runs.{framed-from, framed-opening}
+use Rattle.law_progress.specs.Drains.{NextComes}
+use Rattle.law_progress.specs.Ends.{IsDelivery}
+use Rattle.law_progress.proofs.Whole.{next-comes}
+use Rattle.law_progress.proofs.Steps.{world-is}
+use Rattle.group_run.specs.Shown.{is_down}
 use Rattle.scenario_run.proofs.Draining.{Lightens, lightens}
 use Rattle.scenario_run.proofs.Truth.{up}
 use Rattle.world_caller.specs.Calling.{due}

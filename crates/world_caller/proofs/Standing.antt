@@ -21,12 +21,12 @@ use Rattle.group_run.specs.Meaning.{Heads, IsDown, is_dead, process_of}
 use Rattle.group_run.specs.Process.{Held}
 use Rattle.group_run.specs.Progress.{IsNoFailure}
 use Rattle.group_run.specs.World.{dead_nodes, next_name, node_of, step}
-use Rattle.group_frame.specs.State.{State, lost_in, state_of}
-use Rattle.group_frame.proofs.Events.{FramedHistory, event_comes, lost-nodes}
-use Rattle.group_log.proofs.Calls.{Acts, Answers, Delivers, Idle, Nothing, Takes, call-comes, message-comes}
-use Rattle.group_fates.proofs.Holds.{holds-receive}
-use Rattle.group_drained.proofs.Heads.{rank-in}
-use Rattle.group_waits.proofs.Deaths.{dead-same}
+use Rattle.law_moves.specs.State.{State, lost_in, state_of}
+use Rattle.law_moves.proofs.Events.{FramedHistory, event_comes, lost-nodes}
+use Rattle.law_log.proofs.Calls.{Acts, Answers, Delivers, Idle, Nothing, Takes, call-comes, message-comes}
+use Rattle.law_log.proofs.Holds.{holds-receive}
+use Rattle.law_histories.proofs.Headed.{rank-in}
+use Rattle.law_progress.proofs.Deaths.{dead-same}
 use Rattle.world_caller.specs.Calling.{Serves}
 use Rattle.world_caller.specs.Laws.{IsTicketed}
 use Rattle.world_caller.proofs.Holding.{HoldsNamed, ask-holds}

@@ -17,7 +17,7 @@ use Rattle.group_run.specs.Causes.{AskCause, home_in}
 use Rattle.group_run.specs.Meaning.{IsDown, IsDrained}
 use Rattle.group_run.specs.Progress.{AsksDrained, IsNoFailure, waits_here}
 use Rattle.group_run.specs.World.{World, step}
-use Rattle.group_weights.specs.Laws.{IsDelivery}
+use Rattle.law_progress.specs.Ends.{IsDelivery}
 use Rattle.world_caller.specs.Calling.{IsOwn, Serves, asked_to, collected_to}
 use Rattle.world_caller.specs.declared.stage.Next.{Next}
 use Rattle.world_caller.specs.declared.stage.Next.TheVariants.{Ends, Goes}

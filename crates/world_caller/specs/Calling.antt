@@ -19,7 +19,7 @@ use Rattle.group_run.specs.Draining.{next_delivery}
 use Rattle.group_run.specs.Headline.{MayCome}
 use Rattle.group_run.specs.Meaning.{Heads}
 use Rattle.group_run.specs.World.{World, step, world_after}
-use Rattle.group_shown.specs.Shown.{is_down}
+use Rattle.group_run.specs.Shown.{is_down}
 use Rattle.world_caller.specs.declared.stage.Next.{Next}
 use Rattle.world_caller.specs.declared.stage.Next.TheVariants.{Goes, Ends}
 use Rattle.world_caller.specs.declared.stage.Stage.{Stage}

@@ -1,6 +1,6 @@
 use Rattle.std.proofs.Common.{sym, subst}
 use Rattle.group_types.specs.Names.{IsProcess}
-use Rattle.group_drained.proofs.Heads.{rank-in}
+use Rattle.law_histories.proofs.Headed.{rank-in}
 use Rattle.world_caller.proofs.Making.{collect-made}
 use Rattle.world_caller.proofs.calling.collect.Goals as goal
 

@@ -2,7 +2,7 @@ use Rattle.std.proofs.Common.{◌≤◌, ℕ, ◌+◌, length, sym, ap, subst, �
 use Rattle.group_calls.specs.declared.event.Event.{Event}
 use Rattle.group_run.specs.Process.{Node}
 use Rattle.group_run.specs.World.{World, group_step, node_of}
-use Rattle.group_bounds.specs.Steps.{waiting}
+use Rattle.law_answers.specs.Steps.{waiting}
 use Rattle.group_core.proofs.Settles.{ask-settles, at-most, collect-settles, delivery-settles, fail-settles, flush-settles, trace-settles}
 use Rattle.group_core.proofs.world.World.settles.Goals as goal
 
