@@ -2,4 +2,5 @@ pub mod Calls
 pub mod Connections
 pub mod Faults
 pub mod Memory
+pub mod Moving
 pub mod Writing

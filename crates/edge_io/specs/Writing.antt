@@ -1,8 +1,8 @@
 -- What a text that is written in pieces leaves in a sink.
-use Rattle.std.specs.Prelude.{ℕ, List, take, Option}
-use Rattle.std.specs.Io.KnownBytes.{Appends}
+use Rattle.std.specs.Prelude.{ℕ, List, take}
+use Rattle.edge_io.specs.Moving.{Appends}
 
 -- the front of a text was written
-pub record HasWritten (before now : Option (List ℕ)) (text : List ℕ) : Type 0 where
+pub record HasWritten (before now text : List ℕ) : Type 0 where
   pub count : ℕ
   pub bytes : Appends before now (take count text)

@@ -1,17 +1,19 @@
 //! The edge of the program: traits for where bytes come from, where they go, how connections
 //! arrive and what time it is, with implementations in memory and over the operating system.
-//! A contract says which bytes moved where an object tells them, and that a failure comes only
-//! with a counted fault. What the system's input, output and clock really give is left to them.
+//! A contract says which bytes moved, at every edge, and that a failure comes only with a counted
+//! fault. That the system's reads and writes move the bytes that they say, and its clock, is left to them.
 #![tactic(auto)]
 
 mod calls;
 mod clock;
 mod fault;
 mod fixed_clock;
+pub mod laws;
 mod listener;
 mod memory_listener;
 mod memory_sink;
 mod memory_source;
+mod past;
 mod read_edge;
 mod sink;
 mod source;
@@ -26,6 +28,7 @@ pub use listener::Listener;
 pub use memory_listener::MemoryListener;
 pub use memory_sink::MemorySink;
 pub use memory_source::MemorySource;
+pub use past::Past;
 pub use read_edge::ReadEdge;
 pub use sink::Sink;
 pub use source::Source;

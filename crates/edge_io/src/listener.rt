@@ -1,4 +1,4 @@
-ghost use Rattle.std.specs.Prelude.{◌≡◌, ℕ, ◌+◌, ◌^◌, ◌≤◌, Bool, List, [], Option, IfOk, IfSome, OnOk};
+ghost use Rattle.std.specs.Prelude.{◌≡◌, ℕ, ◌+◌, ◌^◌, ◌≤◌, Bool, false, List, [], Option, IfOk, IfSome, OnOk};
 ghost use Rattle.edge_io.specs.Faults.{HasCause};
 ghost use Rattle.edge_io.specs.Connections.{handed_out, IsOverAfter, TakesNext, StaysToCome};
 
@@ -44,7 +44,8 @@ pub trait Listener {
         ensures limit { accepted self.new ≤ 2 ^ 62 }
         ensures count { accepted self.new ≡ accepted self.old + handed_out result }
         ensures end { IsOverAfter (over self.old) (over self.new) result }
-        ensures next { TakesNext (to_come self.old) (to_come self.new) (λ c. Self.Incoming.left c.0) result }
-        ensures fresh { IfOk result (λ o. IfSome o (λ c. IfSome (Self.Outgoing.held c.1) (λ held. held ≡ []))) }
+        ensures next { TakesNext (to_come self.old) (to_come self.new) (λ c. (Self.Incoming.input c.0).left) result }
+        ensures unread { IfOk result (λ o. IfSome o (λ c. ((Self.Incoming.input c.0).taken ≡ []) × ((Self.Incoming.input c.0).ended ≡ false))) }
+        ensures fresh { IfOk result (λ o. IfSome o (λ c. Self.Outgoing.held c.1 ≡ [])) }
         ensures cause { HasCause (faults self.old) (faults self.new) result };
 }

@@ -42,20 +42,20 @@ impl MemorySink {
 }
 
 impl Sink for MemorySink {
-    ghost use Rattle.std.specs.Prelude.{◌≡◌, ◌<◌, ◌↔◌, length, Some, IfOk, IsTrue};
+    ghost use Rattle.std.specs.Prelude.{◌≡◌, ◌<◌, ◌↔◌, length, IfOk, IsTrue};
     ghost use Rattle.std.specs.Io.{WritesAtMost};
-    ghost use Rattle.std.specs.Io.KnownBytes.{WriteAppends};
     ghost use Rattle.edge_io.specs.Calls.{after_call, fails_next};
     ghost use Rattle.edge_io.specs.Faults.{HasCauseOf};
+    ghost use Rattle.edge_io.specs.Moving.{WriteMoves};
 
-    ghost held = { λ s. Some s.held };
+    ghost held = { λ s. s.held };
 
     ghost faults = { λ s. s.calls.faults };
 
     fn write(&mut self, piece: &[u8]) -> Result<usize, SinkFault>
         ensures bound { WritesAtMost result piece.now }
         ensures moves { IfOk result (λ n. 0 < length piece.now → 0 < n) }
-        ensures bytes { WriteAppends (Some self.old.held) (Some self.new.held) result piece.now }
+        ensures bytes { WriteMoves self.old.held self.new.held result piece.now }
         ensures cause { HasCauseOf self.old.calls.faults self.new.calls.faults result SinkFault.Failed }
         ensures want { result ≡ Err SinkFault.Want → self.new.calls.faults ≡ self.old.calls.faults }
         ensures whole { IfOk result (λ n. n ≡ length piece.now) }

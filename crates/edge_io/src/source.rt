@@ -1,14 +1,14 @@
-ghost use Rattle.std.specs.Prelude.{ℕ, List, Option};
+ghost use Rattle.std.specs.Prelude.{◌≡◌, ◌<◌, ◌↔◌, ℕ, length, IsTrue};
 ghost use Rattle.std.specs.Io.{ReadsAtMost};
-ghost use Rattle.std.specs.Io.KnownBytes.{ReadConsumes};
 ghost use Rattle.edge_io.specs.Faults.{HasCause};
+ghost use Rattle.edge_io.specs.Moving.{Input, ReadTakes};
 
 use crate::fault::Failed;
 
 /// Bytes that come in pieces of any size, up to their end.
 pub trait Source {
-    // The bytes still to come, where they are told.
-    ghost left: { Self → Option (List ℕ) };
+    // What was handed out so far, whether the end was met, and what is still to come, where that is known.
+    ghost input: { Self → Input };
 
     // The faults counted so far, a `u64`.
     ghost faults: { Self → ℕ };
@@ -17,6 +17,13 @@ pub trait Source {
     /// that is not empty is the end of input, and `Failed` leaves the bytes still to come.
     fn read(&mut self, into: &mut [u8]) -> Result<usize, Failed>
         ensures bound { ReadsAtMost result into.new }
-        ensures bytes { ReadConsumes (left self.old) (left self.new) result into.new }
+        ensures bytes { ReadTakes (input self.old) (input self.new) result into.new }
         ensures cause { HasCause (faults self.old) (faults self.new) result };
+}
+
+/// Whether a read that gave `n` bytes of this room met the end of input.
+pub(crate) fn meets_end(n: usize, room: &[u8]) -> bool
+    ensures { IsTrue result ↔ ((n ≡ 0) × (0 < length room.now)) }
+{
+    n == 0 && !room.is_empty()
 }

@@ -1,6 +1,7 @@
-ghost use Rattle.std.specs.Prelude.{◌≡◌};
+ghost use Rattle.std.specs.Prelude.{◌≡◌, []};
 
 use crate::fault::SinkFault;
+use crate::past::Past;
 use crate::sink::Sink;
 use std::io::{ErrorKind, Write};
 
@@ -8,20 +9,25 @@ use std::io::{ErrorKind, Write};
 const RETRIES: u32 = 1_000_000;
 
 /// A writer of std as a sink: each error counts as a fault, and so does an interruption of the
-/// last try and a write that takes nothing of a piece. It tells the bytes taken where the writer
-/// does, which standard output does not.
+/// last try and a write that takes nothing of a piece. It keeps the bytes taken, and the clause `inner`
+/// ties them to what the writer tells, which of standard output is nothing.
 #[derive(Drop)]
 pub struct WriteEdge<W> {
     inner: W,
     faults: u64,
+    past: Past,
 }
 
 impl<W: Write> WriteEdge<W> {
-    /// The writer `inner`, with no fault counted.
+    /// The writer `inner`, to which nothing was written and no fault counted.
     pub fn new(inner: W) -> WriteEdge<W>
-        ensures { result ≡ record { inner = inner; faults = 0 } }
+        ensures { result ≡ record { inner = inner; faults = 0; past = record { bytes = [] } } }
     {
-        WriteEdge { inner, faults: 0 }
+        WriteEdge {
+            inner,
+            faults: 0,
+            past: Past::new(),
+        }
     }
 }
 
@@ -30,15 +36,17 @@ impl<W: Write> Sink for WriteEdge<W> {
     ghost use Rattle.std.specs.Io.{WritesAtMost};
     ghost use Rattle.std.specs.Io.KnownBytes.{WriteAppends};
     ghost use Rattle.edge_io.specs.Faults.{HasCauseOf, raised};
+    ghost use Rattle.edge_io.specs.Moving.{WriteMoves};
 
-    ghost held = { λ s. W.contents s.inner };
+    ghost held = { λ s. s.past.bytes };
 
     ghost faults = { λ s. s.faults };
 
     fn write(&mut self, piece: &[u8]) -> Result<usize, SinkFault>
         ensures bound { WritesAtMost result piece.now }
         ensures moves { IfOk result (λ n. 0 < length piece.now → 0 < n) }
-        ensures bytes { WriteAppends (W.contents self.old.inner) (W.contents self.new.inner) result piece.now }
+        ensures bytes { WriteMoves self.old.past.bytes self.new.past.bytes result piece.now }
+        ensures inner { WriteAppends (W.contents self.old.inner) (W.contents self.new.inner) result piece.now }
         ensures cause { HasCauseOf self.old.faults self.new.faults result SinkFault.Failed }
         ensures no_want { IfErr result (λ fault. fault ≡ SinkFault.Failed) }
         ensures count { self.new.faults ≡ (if is_err result then raised self.old.faults else self.old.faults) }
@@ -49,6 +57,7 @@ impl<W: Write> Sink for WriteEdge<W> {
                     if n == 0 && !piece.is_empty() {
                         break 'tries;
                     }
+                    self.past.add(&piece[..n]);
                     return Ok(n);
                 }
                 Err(error) => {

@@ -1,6 +1,6 @@
 use Rattle.std.proofs.Common.{◌≡◌, ℕ, Bool, true, false, List, [], ◌∷◌, take, Option, Result, Ok, Err, OnOk, MatchResult, MatchBool, if◌then◌else◌, refl, sym, ap, ◌∙◌, subst, inl, inr}
-use Rattle.std.proofs.KnownBytes.{Appends-nil}
-use Rattle.std.specs.Io.KnownBytes.{Appends}
+use Rattle.edge_io.proofs.Moving.{Appends-nil}
+use Rattle.edge_io.specs.Moving.{Appends}
 use Rattle.edge_io.specs.Writing.{HasWritten}
 use Rattle.group_types.specs.declared.process.ProcessId.{ProcessId}
 use Rattle.memc_table.specs.Act.{key_of}
@@ -27,7 +27,7 @@ first-none told [] = tt
 first-none told (due ∷ dues) = refl
 
 -- nothing of a request was done
-pub broken-none : {C : Type 0} (ways : Ways C) (told : Option ℕ) (before after : C) (held : Option (List ℕ)) (fault : ConnectionFault) (request : Request)
+pub broken-none : {C : Type 0} (ways : Ways C) (told : Option ℕ) (before after : C) (held : List ℕ) (fault : ConnectionFault) (request : Request)
     → StandsAt ways before after fault → IsBroken ways told (stand before held) (stand after held) fault request
 broken-none ways told before after held fault request stands = record {
   calls = [];
@@ -45,7 +45,7 @@ stands-here ways at WriteFault = refl
 stands-here ways at Want = inl refl
 
 -- the first call of a request found no memory
-pub broken-wanted : {C : Type 0} (ways : Ways C) (told : Option ℕ) (before after : C) (held : Option (List ℕ)) (request : Request) → ways.kept before after → IsBroken ways told (stand before held) (stand after held) Want request
+pub broken-wanted : {C : Type 0} (ways : Ways C) (told : Option ℕ) (before after : C) (held : List ℕ) (request : Request) → ways.kept before after → IsBroken ways told (stand before held) (stand after held) Want request
 broken-wanted ways told before after held request kept = broken-none ways told before after held Want request (inr kept)
 
 -- all calls are the first calls
@@ -60,7 +60,7 @@ first-whole told (due ∷ dues) (call ∷ calls) whole = (whole.0, on_reply (is_
     on_reply false more rest = rest
 
 -- behind all calls of a request its text was written, or the front of it
-pub written : {C : Type 0} (ways : Ways C) (told : Option ℕ) (before at : C) (held now : Option (List ℕ)) (request : Request) (calls : List Call) (text : List ℕ) (result : Result (Unit {0}) ConnectionFault)
+pub written : {C : Type 0} (ways : Ways C) (told : Option ℕ) (before at : C) (held now : List ℕ) (request : Request) (calls : List Call) (text : List ℕ) (result : Result (Unit {0}) ConnectionFault)
     → AreCallsOf told true (dues_of request) calls → Leads ways before calls at → text ≡ answer_text request calls → OnOk result (Appends held now text) → HasWritten held now text
     → MatchResult result (λ _. IsAnswered ways told (stand before held) (stand at now) request) (λ fault. IsBroken ways told (stand before held) (stand at now) fault request)
 written ways told before at held now request calls text (Ok _) are leads is whole part = record {
@@ -92,11 +92,11 @@ pub made-as : {C : Type 0} (ways : Ways C) (told : Option ℕ) (before after : C
 made-as ways told before after asked wanted end made is = subst (λ (a : Act). IsMade ways told before after a end) is made
 
 -- nothing of a request was done, and there was no memory for its call
-pub broken-early : {C : Type 0} (ways : Ways C) (told : Option ℕ) (at : C) (held : Option (List ℕ)) (fault : ConnectionFault) (request : Request) → IsBroken ways told (stand at held) (stand at held) fault request
+pub broken-early : {C : Type 0} (ways : Ways C) (told : Option ℕ) (at : C) (held : List ℕ) (fault : ConnectionFault) (request : Request) → IsBroken ways told (stand at held) (stand at held) fault request
 broken-early ways told at held fault request = broken-none ways told at at held fault request (stands-here ways at fault)
 
 -- a change whose answer isn't written
-pub changed-silently : {C : Type 0} (ways : Ways C) (told : Option ℕ) (before after : C) (held : Option (List ℕ)) (asked : Act) (noreply : Bool) (end : CallEnd)
+pub changed-silently : {C : Type 0} (ways : Ways C) (told : Option ℕ) (before after : C) (held : List ℕ) (asked : Act) (noreply : Bool) (end : CallEnd)
     → IsMade ways told before after asked end → noreply ≡ true → IsAnswered ways told (stand before held) (stand after held) (Change asked noreply)
 changed-silently ways told before after held asked noreply end made silent = record {
   calls = Made made.op end ∷ [];
@@ -106,7 +106,7 @@ changed-silently ways told before after held asked noreply end made silent = rec
 }
 
 -- the text of a change
-pub changed : {C : Type 0} (ways : Ways C) (told : Option ℕ) (before at : C) (held now : Option (List ℕ)) (asked : Act) (noreply : Bool) (end : CallEnd) (key : List ℕ) (result : Result (Unit {0}) ConnectionFault)
+pub changed : {C : Type 0} (ways : Ways C) (told : Option ℕ) (before at : C) (held now : List ℕ) (asked : Act) (noreply : Bool) (end : CallEnd) (key : List ℕ) (result : Result (Unit {0}) ConnectionFault)
     → IsMade ways told before at asked end → noreply ≡ false → key ≡ key_of asked → OnOk result (Appends held now (end_text key false end)) → HasWritten held now (end_text key false end)
     → MatchResult result (λ _. IsAnswered ways told (stand before held) (stand at now) (Change asked noreply)) (λ fault. IsBroken ways told (stand before held) (stand at now) fault (Change asked noreply))
 changed ways told before at held now asked noreply end key result made spoken key_is whole part =
@@ -120,21 +120,21 @@ as_request ways told before after request by (Ok _) is answered = subst (IsAnswe
 as_request ways told before after request by (Err fault) is broken = subst (IsBroken ways told before after fault) (sym is) broken
 
 -- the text of the version
-pub versioned : {C : Type 0} (ways : Ways C) (told : Option ℕ) (at : C) (held now : Option (List ℕ)) (request : Request) (text : List ℕ) (result : Result (Unit {0}) ConnectionFault)
+pub versioned : {C : Type 0} (ways : Ways C) (told : Option ℕ) (at : C) (held now : List ℕ) (request : Request) (text : List ℕ) (result : Result (Unit {0}) ConnectionFault)
     → request ≡ Version → text ≡ version_text → OnOk result (Appends held now text) → HasWritten held now text
     → MatchResult result (λ _. IsAnswered ways told (stand at held) (stand at now) request) (λ fault. IsBroken ways told (stand at held) (stand at now) fault request)
 versioned ways told at held now request text result is text_is whole part =
     as_request ways told (stand at held) (stand at now) request Version result is (written ways told at at held now Version [] text result tt refl text_is whole part)
 
 -- the text of a refusal
-pub refused : {C : Type 0} (ways : Ways C) (told : Option ℕ) (at : C) (held now : Option (List ℕ)) (request : Request) (refusal : Refusal) (text : List ℕ) (result : Result (Unit {0}) ConnectionFault)
+pub refused : {C : Type 0} (ways : Ways C) (told : Option ℕ) (at : C) (held now : List ℕ) (request : Request) (refusal : Refusal) (text : List ℕ) (result : Result (Unit {0}) ConnectionFault)
     → request ≡ Refused refusal → text ≡ refusal_text refusal → OnOk result (Appends held now text) → HasWritten held now text
     → MatchResult result (λ _. IsAnswered ways told (stand at held) (stand at now) request) (λ fault. IsBroken ways told (stand at held) (stand at now) fault request)
 refused ways told at held now request refusal text result is text_is whole part =
     as_request ways told (stand at held) (stand at now) request (Refused refusal) result is (written ways told at at held now (Refused refusal) [] text result tt refl text_is whole part)
 
 -- the text of the order that a process fail
-pub ordered : {C : Type 0} (ways : Ways C) (told : Option ℕ) (before at : C) (held now : Option (List ℕ)) (request : Request) (process : ProcessId) (keep : ℕ) (end : FailEnd) (text : List ℕ) (result : Result (Unit {0}) ConnectionFault)
+pub ordered : {C : Type 0} (ways : Ways C) (told : Option ℕ) (before at : C) (held now : List ℕ) (request : Request) (process : ProcessId) (keep : ℕ) (end : FailEnd) (text : List ℕ) (result : Result (Unit {0}) ConnectionFault)
     → request ≡ Fail process keep → ways.failed before process keep end at → text ≡ fail_text end → OnOk result (Appends held now text) → HasWritten held now text
     → MatchResult result (λ _. IsAnswered ways told (stand before held) (stand at now) request) (λ fault. IsBroken ways told (stand before held) (stand at now) fault request)
 ordered ways told before at held now request process keep end text result is failed text_is whole part =

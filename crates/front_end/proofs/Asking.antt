@@ -1,8 +1,8 @@
 use Rattle.std.proofs.Common.{◌≡◌, ℕ, ◌+◌, min, map, Bool, true, false, List, [], ◌∷◌, ◌++◌, length, take, Option, Result, Ok, Err, OnOk, MatchResult, MatchBool, if◌then◌else◌, append-nil, refl, sym, ap, ◌∙◌, subst, arith}
-use Rattle.std.proofs.KnownBytes.{Appends-trans}
+use Rattle.edge_io.proofs.Moving.{Appends-trans}
 use Rattle.std.proofs.Math.Seq.{take-append-add}
 use Rattle.std.proofs.lemmas.List.{take-append-le, take_min}
-use Rattle.std.specs.Io.KnownBytes.{Appends}
+use Rattle.edge_io.specs.Moving.{Appends}
 use Rattle.edge_io.specs.Writing.{HasWritten}
 use Rattle.memc_table.specs.declared.act.Act.TheVariants as act
 use Rattle.memc_proto.specs.Text.{end_text, end_of_items}
@@ -91,7 +91,7 @@ asked-broken ways told before now after fault with_cas keys rest key after_it as
     asked.broken after fault (subst (λ (ks : List (List ℕ)). IsBroken ways told now after fault (Get ks with_cas)) (sym is) (broken after_it))
 
 -- the end of a get behind its last key
-pub asked-all : {C : Type 0} (ways : Ways C) (told : Option ℕ) (before : Stand C) (at : C) (held now : Option (List ℕ)) (with_cas : Bool) (keys rest : List (List ℕ)) (text : List ℕ) (result : Result (Unit {0}) ConnectionFault)
+pub asked-all : {C : Type 0} (ways : Ways C) (told : Option ℕ) (before : Stand C) (at : C) (held now : List ℕ) (with_cas : Bool) (keys rest : List (List ℕ)) (text : List ℕ) (result : Result (Unit {0}) ConnectionFault)
     → AreAsked ways told before (stand at held) with_cas keys rest → rest ≡ [] → text ≡ end_of_items → OnOk result (Appends held now text) → HasWritten held now text
     → MatchResult result (λ _. IsAnswered ways told before (stand at now) (Get keys with_cas)) (λ fault. IsBroken ways told before (stand at now) fault (Get keys with_cas))
 asked-all ways told before at held now with_cas keys rest text result asked none is whole part =
@@ -105,7 +105,7 @@ asked-all ways told before at held now with_cas keys rest text result asked none
     by_both (Err fault) broken = asked.broken (stand at now) fault broken
 
 -- the key of a get whose call ended, and whose text is written
-pub key-answered : {C : Type 0} (ways : Ways C) (told : Option ℕ) (before after : C) (held now : Option (List ℕ)) (with_cas : Bool) (key : List ℕ) (end : CallEnd) (replied : Bool)
+pub key-answered : {C : Type 0} (ways : Ways C) (told : Option ℕ) (before after : C) (held now : List ℕ) (with_cas : Bool) (key : List ℕ) (end : CallEnd) (replied : Bool)
     → IsMade ways told before after (act.Get key) end → Appends held now (end_text key with_cas end) → replied ≡ is_reply end → IsKeyAnswered ways told (stand before held) (stand after now) with_cas key replied
 key-answered ways told before after held now with_cas key end replied made bytes is = record {
   call = Made made.op end;
@@ -116,7 +116,7 @@ key-answered ways told before after held now with_cas key end replied made bytes
 }
 
 -- a fault came while the text of a key was written
-pub key-broken : {C : Type 0} (ways : Ways C) (told : Option ℕ) (before after : C) (held now : Option (List ℕ)) (fault : ConnectionFault) (with_cas : Bool) (key : List ℕ) (keys : List (List ℕ)) (end : CallEnd)
+pub key-broken : {C : Type 0} (ways : Ways C) (told : Option ℕ) (before after : C) (held now : List ℕ) (fault : ConnectionFault) (with_cas : Bool) (key : List ℕ) (keys : List (List ℕ)) (end : CallEnd)
     → IsMade ways told before after (act.Get key) end → HasWritten held now (end_text key with_cas end) → IsBroken ways told (stand before held) (stand after now) fault (Get (key ∷ keys) with_cas)
 key-broken ways told before after held now fault with_cas key keys end made part = record {
   calls = Made made.op end ∷ [];

@@ -1,6 +1,6 @@
 use Rattle.std.proofs.Common.{◌≡◌, ℕ, ◌↔◌, ◌||◌, Bool, true, false, List, [], ◌++◌, take, Option, None, Some, Result, Ok, Err, IsTrue, append-nil, refl, sym, ap, ◌∙◌, subst, inr}
 use Rattle.std.proofs.lemmas.List.Folds.{list_any-append}
-use Rattle.std.specs.Io.KnownBytes.{Appends}
+use Rattle.edge_io.specs.Moving.{Appends}
 use Rattle.std.specs.List.{list_any}
 use Rattle.std.specs.Result.{IsErrAnd}
 use Rattle.edge_io.specs.Writing.{HasWritten}
@@ -30,14 +30,14 @@ served-halted ways told before after kept input earlier piece given faults now W
     subst (λ (f : ConnectionFault). IsServed ways told before after kept input earlier piece (Err f)) (sym is) (inr (record { given = given; has_read = has_read }, halted))
 
 -- a text was written behind the answers
-pub answered-then : {C : Type 0} (ways : Ways C) (told : Option ℕ) (before : Stand C) (at : C) (held now : Option (List ℕ)) (requests : List Request) (more : List ℕ)
+pub answered-then : {C : Type 0} (ways : Ways C) (told : Option ℕ) (before : Stand C) (at : C) (held now : List ℕ) (requests : List Request) (more : List ℕ)
     → AreAnswered ways told before (stand at held) requests [] → Appends held now more → AreAnswered ways told before (stand at now) requests more
 answered-then ways told before at held now requests more answered bytes =
     subst (λ (rs : List Request). AreAnswered ways told before (stand at now) rs more) (append-nil requests)
     (answered-append ways told before (stand at held) (stand at now) requests [] more answered (record { turns = []; asked = refl; whole = tt; leads = refl; bytes = bytes }))
 
 -- the write of the text at a line that is too long failed
-pub halted-closing : {C : Type 0} (ways : Ways C) (told : Option ℕ) (before : Stand C) (at : C) (held now : Option (List ℕ)) (fault : ConnectionFault) (requests : List Request) (rest text : List ℕ)
+pub halted-closing : {C : Type 0} (ways : Ways C) (told : Option ℕ) (before : Stand C) (at : C) (held now : List ℕ) (fault : ConnectionFault) (requests : List Request) (rest text : List ℕ)
     → AreAnswered ways told before (stand at held) requests [] → IsTooLong rest → text ≡ too_long_text → HasWritten held now text → AreHalted ways told before (stand at now) fault [] requests rest
 halted-closing ways told before at held now fault requests rest text answered long is part =
     inr (take part.count text, inr (long, (part.count, ap (λ (bs : List ℕ). take part.count bs) is)), answered-then ways told before at held now requests (take part.count text) answered part.bytes)
@@ -59,7 +59,7 @@ not_long : (long : Bool) (P : Type 0) → (IsTrue long ↔ P) → long ≡ false
 not_long true P iff is holds = cc
 not_long false P iff is holds = let e : false ≡ true = iff.1 holds in cc
 
-pub served-long : {C : Type 0} (ways : Ways C) (told : Option ℕ) (before : Stand C) (at : C) (held now : Option (List ℕ)) (kept : Kept) (input : List ℕ) (earlier : List Request) (piece : List ℕ) (given : List Request) (ends long : Bool) (text : List ℕ)
+pub served-long : {C : Type 0} (ways : Ways C) (told : Option ℕ) (before : Stand C) (at : C) (held now : List ℕ) (kept : Kept) (input : List ℕ) (earlier : List Request) (piece : List ℕ) (given : List Request) (ends long : Bool) (text : List ℕ)
     → (has_read : HasRead kept (input ++ piece) (earlier ++ given)) → AreAnswered ways told before (stand at held) given [] → list_any is_quit earlier ≡ false → ends ≡ list_any is_quit given → ends ≡ false
     → (list_any is_quit (earlier ++ given) ≡ false → (IsTrue long ↔ IsTooLong has_read.rest)) → long ≡ true → text ≡ too_long_text → Appends held now text
     → IsServed ways told before (stand at now) kept input earlier piece (Ok (Some LineTooLong))

@@ -1,8 +1,8 @@
 use Rattle.std.proofs.Common.{◌≡◌, ℕ, ◌+◌, ◌<◌, ◌≤◌, ◌↔◌, IsTrue, Bool, true, false, List, [], ◌∷◌, ◌++◌, length, take, Option, None, Some, Result, Ok, Err, append-nil, length-append, append_assoc, refl, sym, ap, ◌∙◌, subst, inl, inr, arith}
-use Rattle.std.proofs.KnownBytes.{Consumes-trans}
-use Rattle.std.specs.Io.KnownBytes.{Consumes, Keeps, IsAtEnd}
 use Rattle.std.specs.List.{list_any}
 use Rattle.std.specs.Result.{IsErrAnd}
+use Rattle.edge_io.specs.Moving.{Input, IsEnded, Takes}
+use Rattle.edge_io.proofs.Moving.{Takes-none, Takes-trans}
 use Rattle.memc_proto.specs.Reader.{Kept, HasRead, IsTooLong}
 use Rattle.memc_proto.specs.Reads.{is_quit}
 use Rattle.memc_proto.specs.declared.request.Request.{Request}
@@ -17,9 +17,9 @@ use Rattle.front_end.specs.declared.end.End.TheVariants.{Quit, Ended, Cut, LineT
 use Rattle.front_end.proofs.Turning.{answered-none, answered-append}
 
 -- a connection that goes on: its reader was fed what was read, and the requests are answered
-pub record GoesOn {C : Type 0} (ways : Ways C) (told : Option ℕ) (left left_now : Option (List ℕ)) (before now : Stand C) (kept : Kept) (count : ℕ) : Type 0 where
+pub record GoesOn {C : Type 0} (ways : Ways C) (told : Option ℕ) (input input_now : Input) (before now : Stand C) (kept : Kept) (count : ℕ) : Type 0 where
   pub read : List ℕ
-  pub consumed : Consumes left left_now read
+  pub consumed : Takes input input_now read
   pub requests : List Request
   pub has_read : HasRead kept read requests
   pub no_quit : list_any is_quit requests ≡ false
@@ -27,21 +27,11 @@ pub record GoesOn {C : Type 0} (ways : Ways C) (told : Option ℕ) (left left_no
   pub answered : AreAnswered ways told before now requests []
   pub counted : length read ≡ count
 
-consumes-none : (left : Option (List ℕ)) → Consumes left left []
-consumes-none None = tt
-consumes-none (Some bytes) = refl
-
-consumes-kept : (left middle now : Option (List ℕ)) (read : List ℕ) → Consumes left middle read → Keeps middle now → Consumes left now read
-consumes-kept None middle now read consumed kept = tt
-consumes-kept (Some bytes) None now read consumed kept = absurd consumed
-consumes-kept (Some bytes) (Some rest) None read consumed kept = absurd kept
-consumes-kept (Some bytes) (Some rest) (Some same) read consumed kept = consumed ∙ ap (λ (bs : List ℕ). read ++ bs) (sym kept)
-
 -- nothing was read
-pub goes_on-none : {C : Type 0} (ways : Ways C) (told : Option ℕ) (left : Option (List ℕ)) (at : Stand C) (kept : Kept) → HasRead kept [] [] → GoesOn ways told left left at at kept 0
-goes_on-none ways told left at kept has_read = record {
+pub goes_on-none : {C : Type 0} (ways : Ways C) (told : Option ℕ) (input : Input) (at : Stand C) (kept : Kept) → HasRead kept [] [] → GoesOn ways told input input at at kept 0
+goes_on-none ways told input at kept has_read = record {
   read = [];
-  consumed = consumes-none left;
+  consumed = Takes-none input;
   requests = [];
   has_read = has_read;
   no_quit = refl;
@@ -50,54 +40,54 @@ goes_on-none ways told left at kept has_read = record {
   counted = refl;
 }
 
-is_open : {C : Type 0} (ways : Ways C) (told : Option ℕ) (left left_now : Option (List ℕ)) (before now : Stand C) (kept : Kept) (count : ℕ) (goes : GoesOn ways told left left_now before now kept count) → IsOpen goes.read goes.requests goes.has_read.rest
-is_open ways told left left_now before now kept count goes = record { reads = goes.has_read.reads; no_quit = goes.no_quit; short = goes.short }
+is_open : {C : Type 0} (ways : Ways C) (told : Option ℕ) (input input_now : Input) (before now : Stand C) (kept : Kept) (count : ℕ) (goes : GoesOn ways told input input_now before now kept count) → IsOpen goes.read goes.requests goes.has_read.rest
+is_open ways told input input_now before now kept count goes = record { reads = goes.has_read.reads; no_quit = goes.no_quit; short = goes.short }
 
-abbrev waiting : {C : Type 0} (ways : Ways C) (told : Option ℕ) (left middle left_now : Option (List ℕ)) (before now : Stand C) (kept : Kept) (count : ℕ) (rest : List ℕ) (goes : GoesOn ways told left middle before now kept count)
-    → Consumes left left_now goes.read → goes.has_read.rest ≡ rest → IsWaiting ways told left left_now before now rest
-waiting ways told left middle left_now before now kept count rest goes consumed is = record {
+abbrev waiting : {C : Type 0} (ways : Ways C) (told : Option ℕ) (input middle input_now : Input) (before now : Stand C) (kept : Kept) (count : ℕ) (rest : List ℕ) (goes : GoesOn ways told input middle before now kept count)
+    → Takes input input_now goes.read → goes.has_read.rest ≡ rest → IsWaiting ways told input input_now before now rest
+waiting ways told input middle input_now before now kept count rest goes consumed is = record {
   read = goes.read;
   consumed = consumed;
   requests = goes.requests;
-  is_open = subst (IsOpen goes.read goes.requests) is (is_open ways told left middle before now kept count goes);
+  is_open = subst (IsOpen goes.read goes.requests) is (is_open ways told input middle before now kept count goes);
   answered = goes.answered;
 }
 
 -- the input ended
-pub served-ended : {C : Type 0} (ways : Ways C) (told : Option ℕ) (left middle left_now : Option (List ℕ)) (before now : Stand C) (kept : Kept) (count : ℕ) (goes : GoesOn ways told left middle before now kept count) (end : End)
-    → count < 4611686018427387904 → Consumes middle left_now [] → IsAtEnd left_now → IsEndAt goes.has_read.rest end → HasServed ways told left left_now before now (Ok end)
-served-ended ways told left middle left_now before now kept count goes end within consumed ended at = by_end end at
+pub served-ended : {C : Type 0} (ways : Ways C) (told : Option ℕ) (input middle input_now : Input) (before now : Stand C) (kept : Kept) (count : ℕ) (goes : GoesOn ways told input middle before now kept count) (end : End)
+    → count < 4611686018427387904 → Takes middle input_now [] → IsEnded input_now → IsEndAt goes.has_read.rest end → HasServed ways told input input_now before now (Ok end)
+served-ended ways told input middle input_now before now kept count goes end within consumed ended at = by_end end at
   where
-    all : Consumes left left_now goes.read
-    all = subst (Consumes left left_now) (append-nil goes.read) (Consumes-trans left middle left_now goes.read [] goes.consumed consumed)
+    all : Takes input input_now goes.read
+    all = subst (Takes input input_now) (append-nil goes.read) (Takes-trans input middle input_now goes.read [] goes.consumed consumed)
 
     fewer : length goes.read < 4611686018427387904
     fewer = omega (arith, goes.counted, within)
 
-    by_end : (e : End) → IsEndAt goes.has_read.rest e → HasServed ways told left left_now before now (Ok e)
-    by_end Ended none = (waiting ways told left middle left_now before now kept count [] goes all none, fewer, ended)
-    by_end Cut some = (goes.has_read.rest, waiting ways told left middle left_now before now kept count goes.has_read.rest goes all refl, fewer, ended, some)
+    by_end : (e : End) → IsEndAt goes.has_read.rest e → HasServed ways told input input_now before now (Ok e)
+    by_end Ended none = (waiting ways told input middle input_now before now kept count [] goes all none, fewer, ended)
+    by_end Cut some = (goes.has_read.rest, waiting ways told input middle input_now before now kept count goes.has_read.rest goes all refl, fewer, ended, some)
     by_end Quit at = absurd at
     by_end LineTooLong at = absurd at
     by_end Worn at = absurd at
 
 -- a read gave no byte
-pub consumes-zero : (left now : Option (List ℕ)) (bytes : List ℕ) (n : ℕ) → n ≡ 0 → Consumes left now (take n bytes) → Consumes left now []
-consumes-zero left now bytes n none consumed = subst (λ (k : ℕ). Consumes left now (take k bytes)) none consumed
+pub consumes-zero : (input now : Input) (bytes : List ℕ) (n : ℕ) → n ≡ 0 → Takes input now (take n bytes) → Takes input now []
+consumes-zero input now bytes n none consumed = subst (λ (k : ℕ). Takes input now (take k bytes)) none consumed
 
 -- as many bytes were read as a connection may have
-pub served-worn : {C : Type 0} (ways : Ways C) (told : Option ℕ) (left left_now : Option (List ℕ)) (before now : Stand C) (kept : Kept) (count : ℕ) → GoesOn ways told left left_now before now kept count → count ≡ 4611686018427387904
-    → HasServed ways told left left_now before now (Ok Worn)
-served-worn ways told left left_now before now kept count goes all =
-    (goes.has_read.rest, waiting ways told left left_now left_now before now kept count goes.has_read.rest goes goes.consumed refl, goes.counted ∙ all)
+pub served-worn : {C : Type 0} (ways : Ways C) (told : Option ℕ) (input input_now : Input) (before now : Stand C) (kept : Kept) (count : ℕ) → GoesOn ways told input input_now before now kept count → count ≡ 4611686018427387904
+    → HasServed ways told input input_now before now (Ok Worn)
+served-worn ways told input input_now before now kept count goes all =
+    (goes.has_read.rest, waiting ways told input input_now input_now before now kept count goes.has_read.rest goes goes.consumed refl, goes.counted ∙ all)
 
 -- a read failed
-pub served-read_fault : {C : Type 0} (ways : Ways C) (told : Option ℕ) (left middle left_now : Option (List ℕ)) (before now : Stand C) (kept : Kept) (count : ℕ) (result : Result End ConnectionFault)
-    → GoesOn ways told left middle before now kept count → Keeps middle left_now → IsErrAnd result (λ e. e ≡ ReadFault) → HasServed ways told left left_now before now result
-served-read_fault ways told left middle left_now before now kept count (Ok _) goes keeps is = absurd is
-served-read_fault ways told left middle left_now before now kept count (Err e) goes keeps is =
-    subst (λ (f : ConnectionFault). HasServed ways told left left_now before now (Err f)) (sym is)
-    (goes.has_read.rest, waiting ways told left middle left_now before now kept count goes.has_read.rest goes (consumes-kept left middle left_now goes.read goes.consumed keeps) refl)
+pub served-read_fault : {C : Type 0} (ways : Ways C) (told : Option ℕ) (input middle input_now : Input) (before now : Stand C) (kept : Kept) (count : ℕ) (result : Result End ConnectionFault)
+    → GoesOn ways told input middle before now kept count → Takes middle input_now [] → IsErrAnd result (λ e. e ≡ ReadFault) → HasServed ways told input input_now before now result
+served-read_fault ways told input middle input_now before now kept count (Ok _) goes keeps is = absurd is
+served-read_fault ways told input middle input_now before now kept count (Err e) goes keeps is =
+    subst (λ (f : ConnectionFault). HasServed ways told input input_now before now (Err f)) (sym is)
+    (goes.has_read.rest, waiting ways told input middle input_now before now kept count goes.has_read.rest goes (subst (Takes input input_now) (append-nil goes.read) (Takes-trans input middle input_now goes.read [] goes.consumed keeps)) refl)
 
 halted-behind : {C : Type 0} (ways : Ways C) (told : Option ℕ) (before now after : Stand C) (fault : ConnectionFault) (earlier given : List Request) (rest : List ℕ)
     → AreAnswered ways told before now earlier [] → AreHalted ways told now after fault [] given rest → AreHalted ways told before after fault earlier (earlier ++ given) rest
@@ -125,52 +115,52 @@ halted-any ways told before after fault first requests rest (inl broken) = inl (
 })
 halted-any ways told before after fault first requests rest (inr closing) = inr closing
 
-come : {C : Type 0} (ways : Ways C) (told : Option ℕ) (left middle left_now : Option (List ℕ)) (before now : Stand C) (kept next : Kept) (count : ℕ) (goes : GoesOn ways told left middle before now kept count) (piece : List ℕ)
-    → length piece ≤ 65536 → Consumes middle left_now piece → (taken : HasTaken next goes.read goes.requests piece) → HasCome left left_now goes.requests (goes.requests ++ taken.given) taken.has_read.rest
-come ways told left middle left_now before now kept next count goes piece short consumed taken = record {
+come : {C : Type 0} (ways : Ways C) (told : Option ℕ) (input middle input_now : Input) (before now : Stand C) (kept next : Kept) (count : ℕ) (goes : GoesOn ways told input middle before now kept count) (piece : List ℕ)
+    → length piece ≤ 65536 → Takes middle input_now piece → (taken : HasTaken next goes.read goes.requests piece) → HasCome input input_now goes.requests (goes.requests ++ taken.given) taken.has_read.rest
+come ways told input middle input_now before now kept next count goes piece short consumed taken = record {
   front = goes.read;
   piece = piece;
-  consumed = Consumes-trans left middle left_now goes.read piece goes.consumed consumed;
+  consumed = Takes-trans input middle input_now goes.read piece goes.consumed consumed;
   short = short;
   left_over = goes.has_read.rest;
-  is_open = is_open ways told left middle before now kept count goes;
+  is_open = is_open ways told input middle before now kept count goes;
   reads = taken.has_read.reads;
 }
 
 -- a piece ended the connection
-pub served-end : {C : Type 0} (ways : Ways C) (told : Option ℕ) (left middle left_now : Option (List ℕ)) (before now after : Stand C) (kept next : Kept) (count : ℕ) (goes : GoesOn ways told left middle before now kept count) (piece : List ℕ) (end : End)
-    → length piece ≤ 65536 → Consumes middle left_now piece → IsServed ways told now after next goes.read goes.requests piece (Ok (Some end)) → HasServed ways told left left_now before after (Ok end)
-served-end ways told left middle left_now before now after kept next count goes piece Quit short consumed (taken, answered, quit) = (
+pub served-end : {C : Type 0} (ways : Ways C) (told : Option ℕ) (input middle input_now : Input) (before now after : Stand C) (kept next : Kept) (count : ℕ) (goes : GoesOn ways told input middle before now kept count) (piece : List ℕ) (end : End)
+    → length piece ≤ 65536 → Takes middle input_now piece → IsServed ways told now after next goes.read goes.requests piece (Ok (Some end)) → HasServed ways told input input_now before after (Ok end)
+served-end ways told input middle input_now before now after kept next count goes piece Quit short consumed (taken, answered, quit) = (
   record {
     first = goes.requests;
     requests = goes.requests ++ taken.given;
     rest = taken.has_read.rest;
-    came = come ways told left middle left_now before now kept next count goes piece short consumed taken;
+    came = come ways told input middle input_now before now kept next count goes piece short consumed taken;
     answered = answered-append ways told before now after goes.requests taken.given [] goes.answered answered;
   },
   quit,
 )
-served-end ways told left middle left_now before now after kept next count goes piece LineTooLong short consumed (taken, answered, no_quit, long) = (
+served-end ways told input middle input_now before now after kept next count goes piece LineTooLong short consumed (taken, answered, no_quit, long) = (
   record {
     first = goes.requests;
     requests = goes.requests ++ taken.given;
     rest = taken.has_read.rest;
-    came = come ways told left middle left_now before now kept next count goes piece short consumed taken;
+    came = come ways told input middle input_now before now kept next count goes piece short consumed taken;
     answered = answered-append ways told before now after goes.requests taken.given _ goes.answered answered;
   },
   no_quit,
   long,
 )
-served-end ways told left middle left_now before now after kept next count goes piece Ended short consumed served = absurd served
-served-end ways told left middle left_now before now after kept next count goes piece Cut short consumed served = absurd served
-served-end ways told left middle left_now before now after kept next count goes piece Worn short consumed served = absurd served
+served-end ways told input middle input_now before now after kept next count goes piece Ended short consumed served = absurd served
+served-end ways told input middle input_now before now after kept next count goes piece Cut short consumed served = absurd served
+served-end ways told input middle input_now before now after kept next count goes piece Worn short consumed served = absurd served
 
 -- a piece was answered, and the connection goes on
-pub goes_on-more : {C : Type 0} (ways : Ways C) (told : Option ℕ) (left middle left_now : Option (List ℕ)) (before now after : Stand C) (kept next : Kept) (count more : ℕ) (goes : GoesOn ways told left middle before now kept count) (piece : List ℕ)
-    → Consumes middle left_now piece → more ≡ count + length piece → IsServed ways told now after next goes.read goes.requests piece (Ok None) → GoesOn ways told left left_now before after next more
-goes_on-more ways told left middle left_now before now after kept next count more goes piece consumed more_is served = record {
+pub goes_on-more : {C : Type 0} (ways : Ways C) (told : Option ℕ) (input middle input_now : Input) (before now after : Stand C) (kept next : Kept) (count more : ℕ) (goes : GoesOn ways told input middle before now kept count) (piece : List ℕ)
+    → Takes middle input_now piece → more ≡ count + length piece → IsServed ways told now after next goes.read goes.requests piece (Ok None) → GoesOn ways told input input_now before after next more
+goes_on-more ways told input middle input_now before now after kept next count more goes piece consumed more_is served = record {
   read = goes.read ++ piece;
-  consumed = Consumes-trans left middle left_now goes.read piece goes.consumed consumed;
+  consumed = Takes-trans input middle input_now goes.read piece goes.consumed consumed;
   requests = goes.requests ++ served.0.given;
   has_read = served.0.has_read;
   no_quit = served.2;
@@ -180,21 +170,21 @@ goes_on-more ways told left middle left_now before now after kept next count mor
 }
 
 -- a fault came while a piece was answered
-pub served-fault : {C : Type 0} (ways : Ways C) (told : Option ℕ) (left middle left_now : Option (List ℕ)) (before now after : Stand C) (kept next : Kept) (count : ℕ) (goes : GoesOn ways told left middle before now kept count) (piece : List ℕ) (fault : ConnectionFault)
-    (result : Result End ConnectionFault) → length piece ≤ 65536 → Consumes middle left_now piece → IsServed ways told now after next goes.read goes.requests piece (Err fault) → IsErrAnd result (λ e. e ≡ fault) → HasServed ways told left left_now before after result
-served-fault {C} ways told left middle left_now before now after kept next count goes piece fault (Ok _) short consumed served is = absurd is
-served-fault {C} ways told left middle left_now before now after kept next count goes piece fault (Err e) short consumed served is = subst (λ (f : ConnectionFault). HasServed ways told left left_now before after (Err f)) (sym is) (by_fault fault served)
+pub served-fault : {C : Type 0} (ways : Ways C) (told : Option ℕ) (input middle input_now : Input) (before now after : Stand C) (kept next : Kept) (count : ℕ) (goes : GoesOn ways told input middle before now kept count) (piece : List ℕ) (fault : ConnectionFault)
+    (result : Result End ConnectionFault) → length piece ≤ 65536 → Takes middle input_now piece → IsServed ways told now after next goes.read goes.requests piece (Err fault) → IsErrAnd result (λ e. e ≡ fault) → HasServed ways told input input_now before after result
+served-fault {C} ways told input middle input_now before now after kept next count goes piece fault (Ok _) short consumed served is = absurd is
+served-fault {C} ways told input middle input_now before now after kept next count goes piece fault (Err e) short consumed served is = subst (λ (f : ConnectionFault). HasServed ways told input input_now before after (Err f)) (sym is) (by_fault fault served)
   where
-    all : Consumes left left_now (goes.read ++ piece)
-    all = Consumes-trans left middle left_now goes.read piece goes.consumed consumed
+    all : Takes input input_now (goes.read ++ piece)
+    all = Takes-trans input middle input_now goes.read piece goes.consumed consumed
 
-    by_fault : (f : ConnectionFault) → IsServed ways told now after next goes.read goes.requests piece (Err f) → HasServed ways told left left_now before after (Err f)
+    by_fault : (f : ConnectionFault) → IsServed ways told now after next goes.read goes.requests piece (Err f) → HasServed ways told input input_now before after (Err f)
     by_fault ReadFault served = absurd served
     by_fault WriteFault served = record {
       first = goes.requests;
       requests = goes.requests ++ served.0.given;
       rest = served.0.has_read.rest;
-      came = come ways told left middle left_now before now kept next count goes piece short consumed served.0;
+      came = come ways told input middle input_now before now kept next count goes piece short consumed served.0;
       halted = halted-behind ways told before now after WriteFault goes.requests served.0.given served.0.has_read.rest goes.answered served.1;
     }
     by_fault Want (inl same) = record {
@@ -209,7 +199,7 @@ served-fault {C} ways told left middle left_now before now after kept next count
     by_fault Want (inr served) = record {
       read = goes.read ++ piece;
       unread = [];
-      consumed = subst (Consumes left left_now) (sym (append-nil (goes.read ++ piece))) all;
+      consumed = subst (Takes input input_now) (sym (append-nil (goes.read ++ piece))) all;
       requests = goes.requests ++ served.0.given;
       rest = served.0.has_read.rest;
       reads = served.0.has_read.reads;
@@ -218,12 +208,12 @@ served-fault {C} ways told left middle left_now before now after kept next count
     }
 
 -- there was no memory for the first read
-pub served-early : {C : Type 0} (ways : Ways C) (told : Option ℕ) (left : Option (List ℕ)) (at : Stand C) (kept : Kept) (result : Result End ConnectionFault) → HasRead kept [] [] → IsErrAnd result (λ e. e ≡ Want) → HasServed ways told left left at at result
-served-early ways told left at kept (Ok _) has_read is = absurd is
-served-early ways told left at kept (Err e) has_read is = subst (λ (f : ConnectionFault). HasServed ways told left left at at (Err f)) (sym is) (record {
+pub served-early : {C : Type 0} (ways : Ways C) (told : Option ℕ) (input : Input) (at : Stand C) (kept : Kept) (result : Result End ConnectionFault) → HasRead kept [] [] → IsErrAnd result (λ e. e ≡ Want) → HasServed ways told input input at at result
+served-early ways told input at kept (Ok _) has_read is = absurd is
+served-early ways told input at kept (Err e) has_read is = subst (λ (f : ConnectionFault). HasServed ways told input input at at (Err f)) (sym is) (record {
   read = [];
   unread = [];
-  consumed = consumes-none left;
+  consumed = Takes-none input;
   requests = [];
   rest = has_read.rest;
   reads = has_read.reads;
@@ -236,22 +226,22 @@ not_at_start true P iff is holds = cc
 not_at_start false P iff is holds = let e : false ≡ true = iff.1 holds in cc
 
 -- what a piece came to, by what was answered
-pub served-some : {C : Type 0} (ways : Ways C) (told : Option ℕ) (left middle left_now : Option (List ℕ)) (before now after : Stand C) (kept next : Kept) (count : ℕ) (goes : GoesOn ways told left middle before now kept count) (piece : List ℕ)
+pub served-some : {C : Type 0} (ways : Ways C) (told : Option ℕ) (input middle input_now : Input) (before now after : Stand C) (kept next : Kept) (count : ℕ) (goes : GoesOn ways told input middle before now kept count) (piece : List ℕ)
     (found : Result (Option End) ConnectionFault) (answer : Option End) (end : End)
-    → length piece ≤ 65536 → Consumes middle left_now piece → IsServed ways told now after next goes.read goes.requests piece found → found ≡ Ok answer → answer ≡ Some end → HasServed ways told left left_now before after (Ok end)
-served-some ways told left middle left_now before now after kept next count goes piece found answer end short consumed served found_is answer_is =
-    served-end ways told left middle left_now before now after kept next count goes piece end short consumed
+    → length piece ≤ 65536 → Takes middle input_now piece → IsServed ways told now after next goes.read goes.requests piece found → found ≡ Ok answer → answer ≡ Some end → HasServed ways told input input_now before after (Ok end)
+served-some ways told input middle input_now before now after kept next count goes piece found answer end short consumed served found_is answer_is =
+    served-end ways told input middle input_now before now after kept next count goes piece end short consumed
     (subst (IsServed ways told now after next goes.read goes.requests piece) (found_is ∙ ap (λ (a : Option End). Ok a) answer_is) served)
 
-pub goes_on-none_yet : {C : Type 0} (ways : Ways C) (told : Option ℕ) (left middle left_now : Option (List ℕ)) (before now after : Stand C) (kept next : Kept) (count more : ℕ) (goes : GoesOn ways told left middle before now kept count) (piece : List ℕ)
+pub goes_on-none_yet : {C : Type 0} (ways : Ways C) (told : Option ℕ) (input middle input_now : Input) (before now after : Stand C) (kept next : Kept) (count more : ℕ) (goes : GoesOn ways told input middle before now kept count) (piece : List ℕ)
     (found : Result (Option End) ConnectionFault) (answer : Option End)
-    → Consumes middle left_now piece → more ≡ count + length piece → IsServed ways told now after next goes.read goes.requests piece found → found ≡ Ok answer → answer ≡ None → GoesOn ways told left left_now before after next more
-goes_on-none_yet ways told left middle left_now before now after kept next count more goes piece found answer consumed more_is served found_is answer_is =
-    goes_on-more ways told left middle left_now before now after kept next count more goes piece consumed more_is
+    → Takes middle input_now piece → more ≡ count + length piece → IsServed ways told now after next goes.read goes.requests piece found → found ≡ Ok answer → answer ≡ None → GoesOn ways told input input_now before after next more
+goes_on-none_yet ways told input middle input_now before now after kept next count more goes piece found answer consumed more_is served found_is answer_is =
+    goes_on-more ways told input middle input_now before now after kept next count more goes piece consumed more_is
     (subst (IsServed ways told now after next goes.read goes.requests piece) (found_is ∙ ap (λ (a : Option End). Ok a) answer_is) served)
 
-pub served-err : {C : Type 0} (ways : Ways C) (told : Option ℕ) (left middle left_now : Option (List ℕ)) (before now after : Stand C) (kept next : Kept) (count : ℕ) (goes : GoesOn ways told left middle before now kept count) (piece : List ℕ)
+pub served-err : {C : Type 0} (ways : Ways C) (told : Option ℕ) (input middle input_now : Input) (before now after : Stand C) (kept next : Kept) (count : ℕ) (goes : GoesOn ways told input middle before now kept count) (piece : List ℕ)
     (found : Result (Option End) ConnectionFault) (fault : ConnectionFault) (result : Result End ConnectionFault)
-    → length piece ≤ 65536 → Consumes middle left_now piece → IsServed ways told now after next goes.read goes.requests piece found → found ≡ Err fault → IsErrAnd result (λ e. e ≡ fault) → HasServed ways told left left_now before after result
-served-err ways told left middle left_now before now after kept next count goes piece found fault result short consumed served found_is is =
-    served-fault ways told left middle left_now before now after kept next count goes piece fault result short consumed (subst (IsServed ways told now after next goes.read goes.requests piece) found_is served) is
+    → length piece ≤ 65536 → Takes middle input_now piece → IsServed ways told now after next goes.read goes.requests piece found → found ≡ Err fault → IsErrAnd result (λ e. e ≡ fault) → HasServed ways told input input_now before after result
+served-err ways told input middle input_now before now after kept next count goes piece found fault result short consumed served found_is is =
+    served-fault ways told input middle input_now before now after kept next count goes piece fault result short consumed (subst (IsServed ways told now after next goes.read goes.requests piece) found_is served) is

@@ -1,6 +1,6 @@
 use Rattle.std.proofs.Common.{◌≡◌, ℕ, List, [], ◌∷◌, ◌++◌, Option, append-nil, append_assoc, refl, sym, ap, ◌∙◌, subst}
-use Rattle.std.proofs.KnownBytes.{Appends-nil, Appends-trans}
-use Rattle.std.specs.Io.KnownBytes.{Appends}
+use Rattle.edge_io.proofs.Moving.{Appends-nil, Appends-trans}
+use Rattle.edge_io.specs.Moving.{Appends}
 use Rattle.memc_proto.specs.declared.request.Request.{Request}
 use Rattle.front_end.specs.Answers.{Stand, IsAnswered, IsBroken, AreAnswered, AreBroken}
 use Rattle.front_end.specs.Calls.{Call, Ways, Leads}

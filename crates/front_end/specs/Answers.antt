@@ -1,6 +1,6 @@
 -- Requests that are answered: their calls lead the caller on, and their text is written.
 use Rattle.std.specs.Prelude.{ℕ, ◌≡◌, ◌⊎◌, Bool, true, false, List, [], ◌∷◌, ◌++◌, take, Option}
-use Rattle.std.specs.Io.KnownBytes.{Appends}
+use Rattle.edge_io.specs.Moving.{Appends}
 use Rattle.memc_table.specs.Asked.{Asked}
 use Rattle.memc_table.specs.declared.act.Act.{Act}
 use Rattle.memc_table.specs.declared.act.Act.TheVariants.{Get}
@@ -14,12 +14,12 @@ use Rattle.front_end.specs.Turns.{Turn, Acts, IsMoment, IsCallOf, AreCallsOf, Ar
 use Rattle.front_end.specs.Turns.{is_replied, key_text, answer_text, calls_in, text_in, requests_in}
 use Rattle.front_end.specs.declared.end.ConnectionFault.{ConnectionFault}
 
--- where a connection stands: its caller, and the bytes that its sink took, if they are told
+-- where a connection stands: its caller, and the bytes that its sink took
 pub record Stand (C : Type 0) : Type 0 where
   pub caller : C
-  pub held : Option (List ℕ)
+  pub held : List ℕ
 
-abbrev pub stand : {C : Type 0} → C → Option (List ℕ) → Stand C
+abbrev pub stand : {C : Type 0} → C → List ℕ → Stand C
 stand caller held = record { caller = caller; held = held }
 
 -- a call of this act was made, and ended so

@@ -1,7 +1,7 @@
 -- What comes of a connection.
 use Rattle.std.specs.Prelude.{ℕ, ◌≡◌, ◌≢◌, ◌<◌, ◌≤◌, ◌^◌, true, false, List, [], ◌++◌, length, Option, Result, Ok, Err}
-use Rattle.std.specs.Io.KnownBytes.{Consumes, IsAtEnd}
 use Rattle.std.specs.List.{list_any}
+use Rattle.edge_io.specs.Moving.{Input, IsEnded, Takes}
 use Rattle.memc_proto.specs.Reader.{IsTooLong}
 use Rattle.memc_proto.specs.Reads.{Reads, is_quit}
 use Rattle.memc_proto.specs.Text.{too_long_text}
@@ -20,44 +20,44 @@ pub record IsOpen (read : List ℕ) (requests : List Request) (rest : List ℕ) 
   pub short : ¬ (IsTooLong rest)
 
 -- all requests read are answered, and the connection waits for more bytes
-pub record IsWaiting {C : Type 0} (ways : Ways C) (told : Option ℕ) (left left_now : Option (List ℕ)) (before after : Stand C) (rest : List ℕ) : Type 0 where
+pub record IsWaiting {C : Type 0} (ways : Ways C) (told : Option ℕ) (input input_now : Input) (before after : Stand C) (rest : List ℕ) : Type 0 where
   pub read : List ℕ
-  pub consumed : Consumes left left_now read
+  pub consumed : Takes input input_now read
   pub requests : List Request
   pub is_open : IsOpen read requests rest
   pub answered : AreAnswered ways told before after requests []
 
 -- a piece came to a connection that was open: before it the first requests were read, with it these requests and this rest
-pub record HasCome (left left_now : Option (List ℕ)) (first requests : List Request) (rest : List ℕ) : Type 0 where
+pub record HasCome (input input_now : Input) (first requests : List Request) (rest : List ℕ) : Type 0 where
   pub front : List ℕ
   pub piece : List ℕ
-  pub consumed : Consumes left left_now (front ++ piece)
+  pub consumed : Takes input input_now (front ++ piece)
   pub short : length piece ≤ 65536
   pub left_over : List ℕ
   pub is_open : IsOpen front first left_over
   pub reads : Reads (front ++ piece) requests rest
 
 -- the piece that came last was answered as a whole, and behind the answers this was written
-pub record HasStopped {C : Type 0} (ways : Ways C) (told : Option ℕ) (left left_now : Option (List ℕ)) (before after : Stand C) (more : List ℕ) : Type 0 where
+pub record HasStopped {C : Type 0} (ways : Ways C) (told : Option ℕ) (input input_now : Input) (before after : Stand C) (more : List ℕ) : Type 0 where
   pub first : List Request
   pub requests : List Request
   pub rest : List ℕ
-  pub came : HasCome left left_now first requests rest
+  pub came : HasCome input input_now first requests rest
   pub answered : AreAnswered ways told before after requests more
 
 -- a write failed while the piece that came last was answered: all requests before it are answered
-pub record HasHalted {C : Type 0} (ways : Ways C) (told : Option ℕ) (left left_now : Option (List ℕ)) (before after : Stand C) : Type 0 where
+pub record HasHalted {C : Type 0} (ways : Ways C) (told : Option ℕ) (input input_now : Input) (before after : Stand C) : Type 0 where
   pub first : List Request
   pub requests : List Request
   pub rest : List ℕ
-  pub came : HasCome left left_now first requests rest
+  pub came : HasCome input input_now first requests rest
   pub halted : AreHalted ways told before after WriteFault first requests rest
 
 -- there was no memory: for reading what was taken from the source, or for answering what was read
-pub record HasWanted {C : Type 0} (ways : Ways C) (told : Option ℕ) (left left_now : Option (List ℕ)) (before after : Stand C) : Type 0 where
+pub record HasWanted {C : Type 0} (ways : Ways C) (told : Option ℕ) (input input_now : Input) (before after : Stand C) : Type 0 where
   pub read : List ℕ
   pub unread : List ℕ
-  pub consumed : Consumes left left_now (read ++ unread)
+  pub consumed : Takes input input_now (read ++ unread)
   pub requests : List Request
   pub rest : List ℕ
   pub reads : Reads read requests rest
@@ -76,18 +76,18 @@ abbrev pub longest_input : ℕ
 longest_input = 2 ^ 62
 
 -- what stands at each end of a connection, and at each fault
-abbrev pub HasServed : {C : Type 0} → Ways C → Option ℕ → Option (List ℕ) → Option (List ℕ) → Stand C → Stand C → Result End ConnectionFault → Type 0
-HasServed ways told left left_now before after (Ok Quit) =
-    (stopped : HasStopped ways told left left_now before after []) × (list_any is_quit stopped.requests ≡ true)
-HasServed ways told left left_now before after (Ok LineTooLong) =
-    (stopped : HasStopped ways told left left_now before after too_long_text) × (list_any is_quit stopped.requests ≡ false) × IsTooLong stopped.rest
-HasServed ways told left left_now before after (Ok Ended) =
-    (waiting : IsWaiting ways told left left_now before after []) × (length waiting.read < longest_input) × IsAtEnd left_now
-HasServed ways told left left_now before after (Ok Cut) =
-    (rest : List ℕ) × (waiting : IsWaiting ways told left left_now before after rest) × (length waiting.read < longest_input) × IsAtEnd left_now × (rest ≢ [])
-HasServed ways told left left_now before after (Ok Worn) =
-    (rest : List ℕ) × (waiting : IsWaiting ways told left left_now before after rest) × (length waiting.read ≡ longest_input)
-HasServed ways told left left_now before after (Err ReadFault) =
-    (rest : List ℕ) × IsWaiting ways told left left_now before after rest
-HasServed ways told left left_now before after (Err WriteFault) = HasHalted ways told left left_now before after
-HasServed ways told left left_now before after (Err Want) = HasWanted ways told left left_now before after
+abbrev pub HasServed : {C : Type 0} → Ways C → Option ℕ → Input → Input → Stand C → Stand C → Result End ConnectionFault → Type 0
+HasServed ways told input input_now before after (Ok Quit) =
+    (stopped : HasStopped ways told input input_now before after []) × (list_any is_quit stopped.requests ≡ true)
+HasServed ways told input input_now before after (Ok LineTooLong) =
+    (stopped : HasStopped ways told input input_now before after too_long_text) × (list_any is_quit stopped.requests ≡ false) × IsTooLong stopped.rest
+HasServed ways told input input_now before after (Ok Ended) =
+    (waiting : IsWaiting ways told input input_now before after []) × (length waiting.read < longest_input) × IsEnded input_now
+HasServed ways told input input_now before after (Ok Cut) =
+    (rest : List ℕ) × (waiting : IsWaiting ways told input input_now before after rest) × (length waiting.read < longest_input) × IsEnded input_now × (rest ≢ [])
+HasServed ways told input input_now before after (Ok Worn) =
+    (rest : List ℕ) × (waiting : IsWaiting ways told input input_now before after rest) × (length waiting.read ≡ longest_input)
+HasServed ways told input input_now before after (Err ReadFault) =
+    (rest : List ℕ) × IsWaiting ways told input input_now before after rest
+HasServed ways told input input_now before after (Err WriteFault) = HasHalted ways told input input_now before after
+HasServed ways told input input_now before after (Err Want) = HasWanted ways told input input_now before after

@@ -1,5 +1,5 @@
 ghost use Rattle.std.specs.Prelude.{◌≡◌, ℕ, List, ◌∷◌, MatchResult, IfOk, OnOk, OnErr};
-ghost use Rattle.std.specs.Io.KnownBytes.{Appends};
+ghost use Rattle.edge_io.specs.Moving.{Appends};
 ghost use Rattle.edge_io.specs.Writing.{HasWritten};
 ghost use Rattle.memc_proto.specs.Text.{end_text};
 ghost use Rattle.front_end.specs.Answers.{stand, IsMade, IsKeyAnswered, IsAnswered, IsBroken};

@@ -1,6 +1,5 @@
-use Rattle.std.proofs.Common.{◌≡◌, ◌≢◌, ℕ, ◌⊎◌, inl, inr, [], List, Option, Some, None, IfSome, refl, sym, ◌∙◌, subst}
+use Rattle.std.proofs.Common.{◌≡◌, ◌≢◌, ℕ, ◌⊎◌, inl, inr, [], List, refl, sym, ◌∙◌, subst}
 use Rattle.scenario_play.specs.Outside.{EndsWith, Outside, TellsFront}
-use Rattle.scenario_run.specs.Promises.{KeepsPromises}
 use Rattle.scenario_play.specs.Played.{IsPlayed}
 use Rattle.scenario_play.specs.Status.{last_line}
 use Rattle.scenario_play.specs.declared.status.Status.{Status}
@@ -8,7 +7,7 @@ use Rattle.scenario_play.specs.declared.status.Status.TheVariants.{BadWords, Don
 use Rattle.scenario_session.specs.declared.end.SessionEnd.{SessionEnd}
 use Rattle.scenario_session.specs.declared.end.SessionEnd.TheVariants as end
 use Rattle.scenario_play.proofs.Ending.{came_from}
-use Rattle.group_program.specs.Program.{HasStopped}
+use Rattle.group_program.specs.Program.{HasPlayedWhole, HasStopped}
 use Rattle.group_program.specs.Session.{HasTold, status_of}
 
 -- what is told by the call that writes the last line
@@ -58,11 +57,16 @@ pub was_write : (e : SessionEnd) (status : Status) → (status ≡ status_of e) 
 was_write e status is now = of_write e (came_from (status_of e) status WriteFault is now (λ w. cc w))
 
 -- no memory to read the words
-pub stopped : (before now : Option (List ℕ)) (status : Status) → (status ≡ Want) ⊎ (status ≡ Want) → TellsFront before now status → HasStopped before now status
+pub stopped : (before now : List ℕ) (status : Status) → (status ≡ Want) ⊎ (status ≡ Want) → TellsFront before now status → HasStopped before now status
 stopped before now status (inl want) front = record { want = want; told = subst (TellsFront before now) want front }
 stopped before now status (inr want) front = record { want = want; told = subst (TellsFront before now) want front }
 
--- a script that was played to its end keeps its promises
-pub promises_of : (left : Option (List ℕ)) (before now : Outside) (status : Status) → IfSome left (λ all. IsPlayed all before now status) → status ≡ Done → IfSome left KeepsPromises
-promises_of None before now status played done = tt
-promises_of (Some all) before now status played done = played.promises done
+-- a script that was played to its end was taken whole, and keeps its promises
+pub played_whole : (before now : Outside) (status : Status) → IsPlayed before now status → status ≡ Done → HasPlayedWhole before.input now.input before.held now.held
+played_whole before now status played done = record {
+  script = played.script;
+  taken = played.taken;
+  ended = played.done_ended done;
+  written = played.done_bytes done;
+  promises = played.promises done;
+}

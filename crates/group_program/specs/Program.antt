@@ -1,8 +1,11 @@
 -- What comes of the command that the words say.
-use Rattle.std.specs.Prelude.{◌≡◌, ℕ, List, Option, Some, None, IfSome}
+use Rattle.std.specs.Prelude.{◌≡◌, ℕ, List, Option, Some, None}
 use Rattle.command_line.specs.declared.command.Command.{Command}
 use Rattle.command_line.specs.declared.command.Command.TheVariants.{Play, Make, Session, Trial}
+use Rattle.edge_io.specs.Moving.{Appends, Input, IsEnded, Takes}
 use Rattle.scenario_make.specs.Script.{script_text}
+use Rattle.scenario_run.specs.Promises.{KeepsPromises}
+use Rattle.scenario_run.specs.Script.{transcript}
 use Rattle.scenario_play.specs.Outside.{Outside, TellsFront}
 use Rattle.scenario_play.specs.Played.{IsPlayed, IsWritten}
 use Rattle.scenario_play.specs.Status.{told}
@@ -14,12 +17,21 @@ use Rattle.group_program.specs.Session.{HasTold, IsSession}
 -- what comes of a command, which is none where the words say none
 abbrev pub HasRun : Option Command → Option ℕ → Outside → Outside → Status → Type 0
 HasRun None moment before now status = HasTold BadWords before now status
-HasRun (Some Play) moment before now status = IfSome before.left (λ all. IsPlayed all before now status)
+HasRun (Some Play) moment before now status = IsPlayed before now status
 HasRun (Some (Make n)) moment before now status = IsWritten Done (script_text n) before.held now.held before.writes now.writes status
 HasRun (Some (Trial n)) moment before now status = IsWritten (told (script_text n)) (trial_text n) before.held now.held before.writes now.writes status
 HasRun (Some (Session k m blocks block)) moment before now status = IsSession (record { k = k; m = m; blocks = blocks; block = block }) moment before now status
 
+-- the bytes taken up to the end of input are a script that was played to its end: its transcript was written, and its group
+-- keeps the promises of the headline
+pub record HasPlayedWhole (before now : Input) (held held_now : List ℕ) : Type 0 where
+  pub script : List ℕ
+  pub taken : Takes before now script
+  pub ended : IsEnded now
+  pub written : Appends held held_now (transcript script)
+  pub promises : KeepsPromises script
+
 -- there was no memory to read the words
-pub record HasStopped (before now : Option (List ℕ)) (status : Status) : Type 0 where
+pub record HasStopped (before now : List ℕ) (status : Status) : Type 0 where
   pub want : status ≡ Want
   pub told : TellsFront before now Want

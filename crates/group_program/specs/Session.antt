@@ -31,8 +31,8 @@ pub record HasTold (wanted : Status) (before now : Outside) (status : Status) : 
 pub record HasServed (s : Dimensions) (moment : Option ℕ) (before now : Outside) (status : Status) : Type 0 where
   pub end : SessionEnd
   pub middle : Outside
-  pub ended : HasEnded s moment before.left middle.left before.held middle.held end
-  pub kept : now.left ≡ middle.left
+  pub ended : HasEnded s moment before.input middle.input before.held middle.held end
+  pub kept : now.input ≡ middle.input
   pub later : before.writes ≤ middle.writes
   pub told : HasTold (status_of end) middle now status
 

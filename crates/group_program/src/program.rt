@@ -1,12 +1,11 @@
-ghost use Rattle.std.specs.Prelude.{◌≡◌, ◌⊎◌, map, Some, None, IfSome};
+ghost use Rattle.std.specs.Prelude.{◌≡◌, ◌⊎◌, map, Some, None};
 ghost use Rattle.std.specs.String.{string_bytes};
 ghost use Rattle.command_line.specs.Words.{command_of};
 ghost use Rattle.edge_io.specs.Faults.{Rose};
 ghost use Rattle.group_types.specs.Dimensions.{Dimensions};
 ghost use Rattle.group_types.specs.Shape.{IsShape};
-ghost use Rattle.scenario_run.specs.Promises.{KeepsPromises};
 ghost use Rattle.scenario_play.specs.Outside.{outside};
-ghost use Rattle.group_program.specs.Program.{HasRun, HasStopped};
+ghost use Rattle.group_program.specs.Program.{HasPlayedWhole, HasRun, HasStopped};
 ghost use Rattle.group_program.specs.Words.{ReadsNothing};
 
 use crate::serving::serve_session;
@@ -32,10 +31,11 @@ pub fn run_program<R: Threads + Wait + Sync, S: Source, K: Sink, L: Listener, T:
     clock: &T,
 ) -> Status
     ensures ran { HasRun (command_of (map string_bytes words.now)) (T.moment clock.now)
-        (outside (S.left source.old) (S.faults source.old) (K.held sink.old) (K.faults sink.old))
-        (outside (S.left source.new) (S.faults source.new) (K.held sink.new) (K.faults sink.new)) result
+        (outside (S.input source.old) (S.faults source.old) (K.held sink.old) (K.faults sink.old))
+        (outside (S.input source.new) (S.faults source.new) (K.held sink.new) (K.faults sink.new)) result
         ⊎ (HasStopped (K.held sink.old) (K.held sink.new) result × (source.new ≡ source.old)) }
-    ensures promises { command_of (map string_bytes words.now) ≡ Some Command.Play → result ≡ Status.Done → IfSome (S.left source.old) KeepsPromises }
+    ensures promises { command_of (map string_bytes words.now) ≡ Some Command.Play → result ≡ Status.Done
+        → HasPlayedWhole (S.input source.old) (S.input source.new) (K.held sink.old) (K.held sink.new) }
     ensures bad_words { result ≡ Status.BadWords → command_of (map string_bytes words.now) ≡ None }
     ensures read { result ≡ Status.ReadFault → Rose (S.faults source.old) (S.faults source.new) }
     ensures write { result ≡ Status.WriteFault → Rose (K.faults sink.old) (K.faults sink.new) }

@@ -1,19 +1,19 @@
 -- How a script ends, from how it was read and how it was played.
 use Rattle.std.proofs.Common.{◌≡◌, ℕ, ◌<◌, ◌≤◌, ◌⊎◌, inl, inr, Bool, true, false, if◌then◌else◌, nat_lt, List, [], length, take, drop, Option, Some, None, Result, Ok, Err, IfSome, refl, sym, ap, ◌∙◌, subst, arith}
-use Rattle.std.proofs.KnownBytes.{Appends-nil, Appends-trans}
 use Rattle.std.proofs.Math.Seq.{take-length}
 use Rattle.std.proofs.lemmas.Bool.Decides.{nat_tests}
-use Rattle.std.specs.Io.KnownBytes.{Appends}
 use Rattle.edge_io.specs.Faults.{Rose}
+use Rattle.edge_io.specs.Moving.{Appends, Input, IsEnded, Takes}
 use Rattle.edge_io.specs.Writing.{HasWritten}
+use Rattle.edge_io.proofs.Moving.{Appends-nil, Appends-trans}
 use Rattle.scenario_run.specs.Script.{Fault, first_fault, transcript}
 use Rattle.scenario_run.proofs.Promises.{scripts_keep_promises}
 use Rattle.scenario_text.specs.declared.line.LineFault.{LineFault}
 use Rattle.scenario_text.specs.declared.line.LineFault.TheVariants as line
-use Rattle.scenario_play.specs.Ends.{HasEnded, HasPlayed, HasRead}
-use Rattle.scenario_play.specs.Outside.{EndsWith, Outside, TellsFront}
+use Rattle.scenario_play.specs.Ends.{HasEnded, HasPlayed, HasRead, HasTreated}
+use Rattle.scenario_play.specs.Outside.{EndsWith, Outside, StopsWithin, TellsFront}
 use Rattle.scenario_play.specs.Played.{IsPlayed, IsWritten}
-use Rattle.scenario_play.specs.Status.{HasFaultOf, IsRefusal, IsTold, IsUnread, TellsOfScript, last_line, longest_script, told, told_at, told_of}
+use Rattle.scenario_play.specs.Status.{HasFaultOf, IsEarly, IsRefusal, IsTold, IsUnread, TellsOfScript, last_line, longest_script, told, told_at, told_of}
 use Rattle.scenario_play.specs.declared.status.Status.{Status}
 use Rattle.scenario_play.specs.declared.status.Status.TheVariants.{Done, BadWords, BadLine, BadShape, TooLong, ReadFault, WriteFault, Want, Cut, LineTooLong, Worn}
 
@@ -29,37 +29,33 @@ told-short text within = rw (short (length text) within) refl
 pub told-long : (text : List ℕ) → longest_script < length text → told text ≡ TooLong
 told-long text above = rw (long (length text) above) refl
 
--- fronts of a text
-pub nothing-written : (before now : Option (List ℕ)) (text : List ℕ) → now ≡ before → HasWritten before now text
-nothing-written before now text same = record { count = 0; bytes = subst (λ (o : Option (List ℕ)). Appends before o []) (sym same) (Appends-nil before) }
+-- a text of one byte more than a script may have
+long-told : (text : List ℕ) → length text ≡ 16777217 → told text ≡ TooLong
+long-told text all = told-long text (omega (arith, all))
 
-pub all-written : (before now : Option (List ℕ)) (text : List ℕ) → Appends before now text → HasWritten before now text
+-- fronts of a text
+pub nothing-written : (before now : List ℕ) (text : List ℕ) → now ≡ before → HasWritten before now text
+nothing-written before now text same = record { count = 0; bytes = subst (λ (o : List ℕ). Appends before o []) (sym same) (Appends-nil before) }
+
+pub all-written : (before now : List ℕ) (text : List ℕ) → Appends before now text → HasWritten before now text
 all-written before now text bytes = record { count = length text; bytes = subst (Appends before now) (sym (take-length text)) bytes }
 
-pub nothing-told : (held : Option (List ℕ)) (status : Status) → TellsFront held held status
+pub nothing-told : (held : List ℕ) (status : Status) → TellsFront held held status
 nothing-told held status = record { said = status; whose = inl refl; written = nothing-written held held (last_line status) refl }
 
--- a script of these bytes was read to its end
-abbrev WasRead : Outside → Outside → List ℕ → Type 0
-WasRead a b text = IfSome a.left (λ all. (text ≡ all) × (b.left ≡ Some []))
+-- what was read to its end and then played
+module _ (a b : Outside) (text : List ℕ) (within : length text ≤ longest_script) (taken : Takes a.input b.input text) (met : IsEnded b.input) where
+  treated : (result : Result (Unit {0}) Status) → HasEnded text a b result → HasTreated a b result
+  treated result ends = record { script = text; taken = taken; few = omega (arith, within); ends = ends }
 
--- what was read and then played
-module _ (a b : Outside) (text : List ℕ) (within : length text ≤ longest_script) where
-  abbrev Holds : Result (Unit {0}) Status → List ℕ → Type 0
-  Holds result all = HasEnded all a b result
-
-  by-text : (result : Result (Unit {0}) Status) → ((b.left ≡ Some []) → HasEnded text a b result) → (left : Option (List ℕ)) → IfSome left (λ all. (text ≡ all) × (b.left ≡ Some [])) → IfSome left (Holds result)
-  by-text result holds None read = tt
-  by-text result holds (Some all) read = subst (Holds result) read.0 (holds read.1)
-
-  pub ended-done : (logged : ℕ) → WasRead a b text → HasPlayed a.held b.held a.writes b.writes text (Ok logged) → IfSome a.left (Holds (Ok tt))
-  ended-done logged read played = by-text (Ok tt) (λ left. (told-short text within ∙ ap told_of played.0, left, played.1)) a.left read
+  pub treated-done : (logged : ℕ) → HasPlayed a.held b.held a.writes b.writes text (Ok logged) → HasTreated a b (Ok tt)
+  treated-done logged played = treated (Ok tt) (told-short text within ∙ ap told_of played.0, met, played.1)
 
   fault : (status : Status) → HasPlayed a.held b.held a.writes b.writes text (Err status) → HasEnded text a b (Err status)
-  fault (BadLine n) played = (played.0, told-short text within ∙ played.1, played.2)
-  fault (BadShape f) played = (played.0, told-short text within ∙ played.1, played.2)
-  fault WriteFault played = played
-  fault Want played = played
+  fault (BadLine n) played = (played.0, told-short text within ∙ played.1, met, played.2)
+  fault (BadShape f) played = (played.0, told-short text within ∙ played.1, met, played.2)
+  fault WriteFault played = (played.0, within, met, played.1)
+  fault Want played = inr (met, played)
   fault Done played = absurd played.0
   fault BadWords played = absurd played.0
   fault Cut played = absurd played.0
@@ -68,43 +64,39 @@ module _ (a b : Outside) (text : List ℕ) (within : length text ≤ longest_scr
   fault TooLong played = absurd played.0
   fault ReadFault played = absurd played.0
 
-  pub ended-fault : (status : Status) → WasRead a b text → HasPlayed a.held b.held a.writes b.writes text (Err status) → IfSome a.left (Holds (Err status))
-  ended-fault status read played = by-text (Err status) (λ left. fault status played) a.left read
+  pub treated-fault : (status : Status) → HasPlayed a.held b.held a.writes b.writes text (Err status) → HasTreated a b (Err status)
+  treated-fault status played = treated (Err status) (fault status played)
 
--- what was not read
+-- what was not read to its end
 module _ (a b : Outside) (same : b.held ≡ a.held) where
-  unread : (status : Status) (left : Option (List ℕ)) → HasRead left b.left a.reads b.reads (Err status) → IfSome left (λ all. HasEnded all a b (Err status))
-  unread status None read = tt
-  unread TooLong (Some all) read = (same, told-long all read.0, read.1)
-  unread ReadFault (Some all) read = (same, read)
-  unread Want (Some all) read = nothing-written a.held b.held (transcript all) same
-  unread Done (Some all) read = absurd read
-  unread BadWords (Some all) read = absurd read
-  unread Cut (Some all) read = absurd read
-  unread LineTooLong (Some all) read = absurd read
-  unread Worn (Some all) read = absurd read
-  unread (BadLine n) (Some all) read = absurd read
-  unread (BadShape f) (Some all) read = absurd read
-  unread WriteFault (Some all) read = absurd read
-
-  pub ended-unread : (status : Status) → HasRead a.left b.left a.reads b.reads (Err status) → IfSome a.left (λ all. HasEnded all a b (Err status))
-  ended-unread status read = unread status a.left read
+  pub treated-unread : (status : Status) → HasRead a.input b.input a.reads b.reads (Err status) → HasTreated a b (Err status)
+  treated-unread TooLong read = record { script = read.0; taken = read.1; few = omega (arith, read.2); ends = (same, read.2) }
+  treated-unread ReadFault read = record { script = read.1.bytes; taken = read.1.taken; few = let few = read.1.few in omega (arith, few); ends = (same, read.0, read.1.few) }
+  treated-unread Want read = record { script = read.bytes; taken = read.taken; few = read.few; ends = inl same }
+  treated-unread Done read = absurd read
+  treated-unread BadWords read = absurd read
+  treated-unread Cut read = absurd read
+  treated-unread LineTooLong read = absurd read
+  treated-unread Worn read = absurd read
+  treated-unread (BadLine n) read = absurd read
+  treated-unread (BadShape f) read = absurd read
+  treated-unread WriteFault read = absurd read
 
 -- who counted a fault
-pub read-fault : (left left_now : Option (List ℕ)) (read_before read_now writes : ℕ) (status : Status) → HasRead left left_now read_before read_now (Err status) → HasFaultOf read_before read_now writes writes status
-read-fault left left_now read_before read_now writes ReadFault read = read
-read-fault left left_now read_before read_now writes WriteFault read = absurd read
-read-fault left left_now read_before read_now writes BadWords read = absurd read
-read-fault left left_now read_before read_now writes Done read = tt
-read-fault left left_now read_before read_now writes (BadLine n) read = tt
-read-fault left left_now read_before read_now writes (BadShape f) read = tt
-read-fault left left_now read_before read_now writes TooLong read = tt
-read-fault left left_now read_before read_now writes Want read = tt
-read-fault left left_now read_before read_now writes Cut read = tt
-read-fault left left_now read_before read_now writes LineTooLong read = tt
-read-fault left left_now read_before read_now writes Worn read = tt
+pub read-fault : (input now : Input) (read_before read_now writes : ℕ) (status : Status) → HasRead input now read_before read_now (Err status) → HasFaultOf read_before read_now writes writes status
+read-fault input now read_before read_now writes ReadFault read = read.0
+read-fault input now read_before read_now writes WriteFault read = absurd read
+read-fault input now read_before read_now writes BadWords read = absurd read
+read-fault input now read_before read_now writes Done read = tt
+read-fault input now read_before read_now writes (BadLine n) read = tt
+read-fault input now read_before read_now writes (BadShape f) read = tt
+read-fault input now read_before read_now writes TooLong read = tt
+read-fault input now read_before read_now writes Want read = tt
+read-fault input now read_before read_now writes Cut read = tt
+read-fault input now read_before read_now writes LineTooLong read = tt
+read-fault input now read_before read_now writes Worn read = tt
 
-pub play-fault : (held held_now : Option (List ℕ)) (read_before read_now written_before written_now : ℕ) (text : List ℕ) (status : Status)
+pub play-fault : (held held_now : List ℕ) (read_before read_now written_before written_now : ℕ) (text : List ℕ) (status : Status)
     → HasPlayed held held_now written_before written_now text (Err status) → HasFaultOf read_before read_now written_before written_now status
 play-fault held held_now read_before read_now written_before written_now text WriteFault played = played.0
 play-fault held held_now read_before read_now written_before written_now text ReadFault played = absurd played.0
@@ -138,23 +130,24 @@ whole text is = by (nat_lt longest_script (length text)) (first_fault text) refl
     told_not n (line.BadShape field) is = cc is
     told_not n line.Want is = cc is
 
-pub played-done : (a b : Outside) (done : Unit {0}) → IfSome a.left (λ all. HasEnded all a b (Ok done)) → IfSome a.left (λ all. IsPlayed all a b Done)
-played-done a b done end = by a.left end where
-  by : (left : Option (List ℕ)) → IfSome left (λ all. HasEnded all a b (Ok done)) → IfSome left (λ all. IsPlayed all a b Done)
-  by None end = tt
-  by (Some all) end = record {
-    told = inl (sym end.0);
-    done_left = λ is. end.1;
-    done_bytes = λ is. end.2;
-    promises = λ is. scripts_keep_promises all (whole all end.0);
-    refused_bytes = λ refusal. absurd refusal;
-    too_long_left = λ is. absurd (cc is);
-    unread_bytes = λ unread. absurd unread;
-    bytes = record { middle = b.held; written = all-written a.held b.held (transcript all) end.2; told = nothing-told b.held Done };
-  }
+pub played-done : (a b : Outside) (done : Unit {0}) → HasTreated a b (Ok done) → IsPlayed a b Done
+played-done a b done end = record {
+  script = end.script;
+  taken = end.taken;
+  told = inl (sym end.ends.0);
+  most = end.few;
+  too_long = λ is. absurd (cc is);
+  long = λ all. absurd (cc (sym end.ends.0 ∙ long-told end.script all));
+  done_ended = λ is. end.ends.1;
+  done_bytes = λ is. end.ends.2;
+  promises = λ is. scripts_keep_promises end.script (whole end.script end.ends.0);
+  refused_bytes = λ refusal. absurd refusal;
+  unread_bytes = λ unread. absurd unread;
+  bytes = inl (end.ends.1, record { middle = b.held; written = all-written a.held b.held (transcript end.script) end.ends.2; told = nothing-told b.held Done });
+}
 
 -- a last line was written behind a text
-behind : (before middle now : Option (List ℕ)) (faults_before faults_middle faults_now : ℕ) (text line : List ℕ) → Appends before middle text → faults_before ≤ faults_middle
+behind : (before middle now : List ℕ) (faults_before faults_middle faults_now : ℕ) (text line : List ℕ) → Appends before middle text → faults_before ≤ faults_middle
     → EndsWith middle now faults_middle faults_now [] line → EndsWith before now faults_before faults_now text line
 behind before middle now faults_before faults_middle faults_now text line wrote later ends = record {
   count = ends.count;
@@ -167,11 +160,11 @@ behind before middle now faults_before faults_middle faults_now text line wrote 
     rose_more (inr rose) = inr (omega (arith, rose))
 
 -- after the last line was told
-module _ (all : List ℕ) (a b c : Outside) (kept : c.left ≡ b.left) (reads : c.reads ≡ b.reads) (later : a.writes ≤ b.writes) (more : b.writes ≤ c.writes) where
-  is-told : (s : Status) → HasEnded all a b (Err s) → IsTold (told all) a.reads c.reads a.writes c.writes s
+module _ (script : List ℕ) (a b c : Outside) (kept : c.input ≡ b.input) (reads : c.reads ≡ b.reads) (later : a.writes ≤ b.writes) (more : b.writes ≤ c.writes) where
+  is-told : (s : Status) → HasEnded script a b (Err s) → IsTold (told script) a.reads c.reads a.writes c.writes s
   is-told (BadLine n) end = inl (sym end.1)
   is-told (BadShape f) end = inl (sym end.1)
-  is-told TooLong end = inl (sym end.1)
+  is-told TooLong end = inl (sym (told-long script (let all = end.1 in omega (arith, all))))
   is-told Want end = inr (inl refl)
   is-told ReadFault end = let rose : Rose a.reads b.reads = end.1 in inr (inr (inl (refl, omega (arith, rose, reads))))
   is-told WriteFault end = let rose : Rose a.writes b.writes = end.0 in inr (inr (inr (refl, omega (arith, rose, more))))
@@ -181,25 +174,50 @@ module _ (all : List ℕ) (a b c : Outside) (kept : c.left ≡ b.left) (reads : 
   is-told LineTooLong end = absurd end.0
   is-told Worn end = absurd end.0
 
-  written : (s : Status) → HasEnded all a b (Err s) → HasWritten a.held b.held (transcript all)
-  written (BadLine n) end = all-written a.held b.held (transcript all) end.2
-  written (BadShape f) end = all-written a.held b.held (transcript all) end.2
-  written TooLong end = nothing-written a.held b.held (transcript all) end.0
-  written ReadFault end = nothing-written a.held b.held (transcript all) end.0
-  written WriteFault end = end.1
-  written Want end = end
-  written Done end = absurd end.0
-  written BadWords end = absurd end.0
-  written Cut end = absurd end.0
-  written LineTooLong end = absurd end.0
-  written Worn end = absurd end.0
+  -- one byte more than a script may have was taken
+  is-long : (s : Status) → HasEnded script a b (Err s) → length script ≡ 16777217 → (s ≡ TooLong) ⊎ (s ≡ Want)
+  is-long TooLong end all = inl refl
+  is-long Want end all = inr refl
+  is-long (BadLine n) end all = absurd (cc (sym end.1 ∙ long-told script all))
+  is-long (BadShape f) end all = absurd (cc (sym end.1 ∙ long-told script all))
+  is-long ReadFault end all = let short = end.2 in absurd (omega (arith, short, all))
+  is-long WriteFault end all = let short = end.1 in absurd (omega (arith, short, all))
+  is-long Done end all = absurd end.0
+  is-long BadWords end all = absurd end.0
+  is-long Cut end all = absurd end.0
+  is-long LineTooLong end all = absurd end.0
+  is-long Worn end all = absurd end.0
+
+  -- what stands in the sink: behind the transcript of a script that was read to its end, or of no line
+  abbrev Stops : Status → Type 0
+  Stops status = (IsEnded c.input × StopsWithin a.held c.held (transcript script) status) ⊎ (IsEarly status × TellsFront a.held c.held status)
+
+  within-all : (status : Status) → IsEnded b.input → HasWritten a.held b.held (transcript script) → TellsFront b.held c.held status → Stops status
+  within-all status met written front = inl (subst IsEnded (sym kept) met, record { middle = b.held; written = written; told = front })
+
+  alone-told : (status : Status) → IsEarly status → b.held ≡ a.held → TellsFront b.held c.held status → Stops status
+  alone-told status early same front = inr (early, subst (λ (h : List ℕ). TellsFront h c.held status) same front)
+
+  stops : (s status : Status) → (IsEarly s → IsEarly status) → HasEnded script a b (Err s) → TellsFront b.held c.held status → Stops status
+  stops (BadLine n) status early end front = within-all status end.2 (all-written a.held b.held (transcript script) end.3) front
+  stops (BadShape f) status early end front = within-all status end.2 (all-written a.held b.held (transcript script) end.3) front
+  stops WriteFault status early end front = within-all status end.2 end.3 front
+  stops Want status early (inl same) front = alone-told status (early tt) same front
+  stops Want status early (inr wrote) front = within-all status wrote.0 wrote.1 front
+  stops TooLong status early end front = alone-told status (early tt) end.0 front
+  stops ReadFault status early end front = alone-told status (early tt) end.0 front
+  stops Done status early end front = absurd end.0
+  stops BadWords status early end front = absurd end.0
+  stops Cut status early end front = absurd end.0
+  stops LineTooLong status early end front = absurd end.0
+  stops Worn status early end front = absurd end.0
 
   abbrev Tells : Status → Type 0
   Tells s = EndsWith b.held c.held b.writes c.writes [] (last_line s)
 
-  refused : (s : Status) → HasEnded all a b (Err s) → IsRefusal s → Tells s → EndsWith a.held c.held a.writes c.writes (transcript all) (last_line s)
-  refused (BadLine n) end refusal tells = behind a.held b.held c.held a.writes b.writes c.writes (transcript all) (last_line (BadLine n)) end.2 later tells
-  refused (BadShape f) end refusal tells = behind a.held b.held c.held a.writes b.writes c.writes (transcript all) (last_line (BadShape f)) end.2 later tells
+  refused : (s : Status) → HasEnded script a b (Err s) → IsRefusal s → Tells s → EndsWith a.held c.held a.writes c.writes (transcript script) (last_line s)
+  refused (BadLine n) end refusal tells = behind a.held b.held c.held a.writes b.writes c.writes (transcript script) (last_line (BadLine n)) end.3 later tells
+  refused (BadShape f) end refusal tells = behind a.held b.held c.held a.writes b.writes c.writes (transcript script) (last_line (BadShape f)) end.3 later tells
   refused Done end refusal tells = absurd refusal
   refused BadWords end refusal tells = absurd refusal
   refused Cut end refusal tells = absurd refusal
@@ -211,9 +229,9 @@ module _ (all : List ℕ) (a b c : Outside) (kept : c.left ≡ b.left) (reads : 
   refused Want end refusal tells = absurd refusal
 
   alone : (s : Status) → b.held ≡ a.held → Tells s → EndsWith a.held c.held a.writes c.writes [] (last_line s)
-  alone s same tells = behind a.held b.held c.held a.writes b.writes c.writes [] (last_line s) (subst (λ (o : Option (List ℕ)). Appends a.held o []) (sym same) (Appends-nil a.held)) later tells
+  alone s same tells = behind a.held b.held c.held a.writes b.writes c.writes [] (last_line s) (subst (λ (o : List ℕ). Appends a.held o []) (sym same) (Appends-nil a.held)) later tells
 
-  unread-told : (s : Status) → HasEnded all a b (Err s) → IsUnread s → Tells s → EndsWith a.held c.held a.writes c.writes [] (last_line s)
+  unread-told : (s : Status) → HasEnded script a b (Err s) → IsUnread s → Tells s → EndsWith a.held c.held a.writes c.writes [] (last_line s)
   unread-told TooLong end unread tells = alone TooLong end.0 tells
   unread-told ReadFault end unread tells = alone ReadFault end.0 tells
   unread-told Done end unread tells = absurd unread
@@ -226,26 +244,27 @@ module _ (all : List ℕ) (a b c : Outside) (kept : c.left ≡ b.left) (reads : 
   unread-told LineTooLong end unread tells = absurd unread
   unread-told Worn end unread tells = absurd unread
 
-  not-done : (s : Status) → HasEnded all a b (Err s) → s ≡ Done → ⊥
-  not-done s end is = (subst (λ (x : Status). HasEnded all a b (Err x)) is end).0
+  not-done : (s : Status) → HasEnded script a b (Err s) → s ≡ Done → ⊥
+  not-done s end is = (subst (λ (x : Status). HasEnded script a b (Err x)) is end).0
 
-  too-long : (s : Status) → HasEnded all a b (Err s) → s ≡ TooLong → c.left ≡ Some (drop 16777217 all)
-  too-long s end is = kept ∙ (subst (λ (x : Status). HasEnded all a b (Err x)) is end).2
-
-  wanted : (s : Status) → IsTold (told all) a.reads c.reads a.writes c.writes Want
-  wanted s = inr (inl refl)
+  too-long : (s : Status) → HasEnded script a b (Err s) → s ≡ TooLong → length script ≡ 16777217
+  too-long s end is = (subst (λ (x : Status). HasEnded script a b (Err x)) is end).1
 
   -- the status was told as it is
-  same-told : (s : Status) → HasEnded all a b (Err s) → (s ≡ Want) ⊎ Tells s → TellsFront b.held c.held s → IsPlayed all a c s
-  same-told s end tells front = record {
+  same-told : (s : Status) → Takes a.input b.input script → length script ≤ 16777217 → HasEnded script a b (Err s) → (s ≡ Want) ⊎ Tells s → TellsFront b.held c.held s → IsPlayed a c s
+  same-told s taken few end tells front = record {
+    script = script;
+    taken = subst (λ (i : Input). Takes a.input i script) (sym kept) taken;
     told = is-told s end;
-    done_left = λ is. absurd (not-done s end is);
+    most = few;
+    too_long = too-long s end;
+    long = is-long s end;
+    done_ended = λ is. absurd (not-done s end is);
     done_bytes = λ is. absurd (not-done s end is);
     promises = λ is. absurd (not-done s end is);
     refused_bytes = λ refusal. refused s end refusal (surely s tells (λ is. subst IsRefusal is refusal));
-    too_long_left = too-long s end;
     unread_bytes = λ unread. unread-told s end unread (surely s tells (λ is. subst IsUnread is unread));
-    bytes = record { middle = b.held; written = written s end; told = front };
+    bytes = stops s s (λ early. early) end front;
   }
     where
       surely : (x : Status) → (x ≡ Want) ⊎ Tells x → (x ≡ Want → ⊥) → Tells x
@@ -253,32 +272,34 @@ module _ (all : List ℕ) (a b c : Outside) (kept : c.left ≡ b.left) (reads : 
       surely x (inr tells) never = tells
 
   -- there was no memory to tell it
-  want-told : (s : Status) → HasEnded all a b (Err s) → TellsFront b.held c.held Want → IsPlayed all a c Want
-  want-told s end front = record {
+  want-told : (s : Status) → Takes a.input b.input script → length script ≤ 16777217 → HasEnded script a b (Err s) → TellsFront b.held c.held Want → IsPlayed a c Want
+  want-told s taken few end front = record {
+    script = script;
+    taken = subst (λ (i : Input). Takes a.input i script) (sym kept) taken;
     told = inr (inl refl);
-    done_left = λ is. absurd (cc is);
+    most = few;
+    too_long = λ is. absurd (cc is);
+    long = λ all. inr refl;
+    done_ended = λ is. absurd (cc is);
     done_bytes = λ is. absurd (cc is);
     promises = λ is. absurd (cc is);
     refused_bytes = λ refusal. absurd refusal;
-    too_long_left = λ is. absurd (cc is);
     unread_bytes = λ unread. absurd unread;
-    bytes = record { middle = b.held; written = written s end; told = front };
+    bytes = stops s Want (λ early. tt) end front;
   }
 
-  pub played-told : (s status : Status) → HasEnded all a b (Err s) → (status ≡ s) ⊎ (status ≡ Want) → (status ≡ s → (status ≡ Want) ⊎ Tells s) → TellsFront b.held c.held status → IsPlayed all a c status
-  played-told s status end (inl is) tells front = subst (IsPlayed all a c) (sym is)
-      (same-told s end (subst (λ (x : Status). (x ≡ Want) ⊎ Tells s) is (tells is)) (subst (TellsFront b.held c.held) is front))
-  played-told s status end (inr want) tells front = subst (IsPlayed all a c) (sym want) (want-told s end (subst (TellsFront b.held c.held) want front))
+  pub played-told : (s status : Status) → Takes a.input b.input script → length script ≤ 16777217 → HasEnded script a b (Err s) → (status ≡ s) ⊎ (status ≡ Want) → (status ≡ s → (status ≡ Want) ⊎ Tells s)
+      → TellsFront b.held c.held status → IsPlayed a c status
+  played-told s status taken few end (inl is) tells front = subst (IsPlayed a c) (sym is)
+      (same-told s taken few end (subst (λ (x : Status). (x ≡ Want) ⊎ Tells s) is (tells is)) (subst (TellsFront b.held c.held) is front))
+  played-told s status taken few end (inr want) tells front = subst (IsPlayed a c) (sym want) (want-told s taken few end (subst (TellsFront b.held c.held) want front))
 
-pub told-ended : (a b c : Outside) → c.left ≡ b.left → c.reads ≡ b.reads → a.writes ≤ b.writes → b.writes ≤ c.writes → (s status : Status) → IfSome a.left (λ all. HasEnded all a b (Err s))
-    → (status ≡ s) ⊎ (status ≡ Want) → (status ≡ s → (status ≡ Want) ⊎ EndsWith b.held c.held b.writes c.writes [] (last_line s)) → TellsFront b.held c.held status → IfSome a.left (λ all. IsPlayed all a c status)
-told-ended a b c kept reads later more s status end is tells front = by a.left end where
-  by : (left : Option (List ℕ)) → IfSome left (λ all. HasEnded all a b (Err s)) → IfSome left (λ all. IsPlayed all a c status)
-  by None end = tt
-  by (Some all) end = played-told all a b c kept reads later more s status end is tells front
+pub told-ended : (a b c : Outside) → c.input ≡ b.input → c.reads ≡ b.reads → a.writes ≤ b.writes → b.writes ≤ c.writes → (s status : Status) → HasTreated a b (Err s)
+    → (status ≡ s) ⊎ (status ≡ Want) → (status ≡ s → (status ≡ Want) ⊎ EndsWith b.held c.held b.writes c.writes [] (last_line s)) → TellsFront b.held c.held status → IsPlayed a c status
+told-ended a b c kept reads later more s status end is tells front = played-told end.script a b c kept reads later more s status end.taken end.few end.ends is tells front
 
 -- a text that was written in whole or in part
-pub written-whole : (wanted : Status) (text : List ℕ) (before now : Option (List ℕ)) (faults_before faults_now : ℕ) → wanted ≡ Done → Appends before now text → IsWritten wanted text before now faults_before faults_now Done
+pub written-whole : (wanted : Status) (text : List ℕ) (before now : List ℕ) (faults_before faults_now : ℕ) → wanted ≡ Done → Appends before now text → IsWritten wanted text before now faults_before faults_now Done
 written-whole wanted text before now faults_before faults_now is bytes = record {
   told = inl (sym is);
   done_bytes = λ _. bytes;
@@ -289,7 +310,7 @@ written-whole wanted text before now faults_before faults_now is bytes = record 
 abbrev pub IsFault : Status → ℕ → ℕ → Status → Type 0
 IsFault wanted before now s = ((s ≡ WriteFault) × Rose before now) ⊎ (s ≡ Want) ⊎ (TellsOfScript s × (s ≡ wanted))
 
-pub written-part : (wanted : Status) (text : List ℕ) (before middle now : Option (List ℕ)) (faults_before faults_middle faults_now : ℕ) (s status : Status) → IsFault wanted faults_before faults_middle s
+pub written-part : (wanted : Status) (text : List ℕ) (before middle now : List ℕ) (faults_before faults_middle faults_now : ℕ) (s status : Status) → IsFault wanted faults_before faults_middle s
     → HasWritten before middle text → (status ≡ s) ⊎ (status ≡ Want) → TellsFront middle now status → faults_middle ≤ faults_now → IsWritten wanted text before now faults_before faults_now status
 written-part wanted text before middle now faults_before faults_middle faults_now s status fault written is front more = record {
   told = which fault is;

@@ -2,4 +2,4 @@ pub mod Cutting
 pub mod Delivering
 pub mod Ending
 pub mod Lines
-pub mod Reading
+pub mod Whole

@@ -1,8 +1,8 @@
 -- What a script's lines write, where its first fault is, and what they log, line by line.
 use Rattle.std.proofs.Common.{◌≡◌, ℕ, ◌+◌, ◌*◌, ◌≤◌, ◌⊎◌, inl, inr, List, [], ◌∷◌, ◌++◌, length, Option, Some, None, Result, Ok, Err, IsErrAnd, refl, sym, ap, ◌∙◌, subst, append_assoc, append-nil, length-append, take, drop, take-append-drop, arith}
-use Rattle.std.proofs.KnownBytes.{Appends-trans, Appends-nil}
+use Rattle.edge_io.proofs.Moving.{Appends-trans, Appends-nil}
 use Rattle.std.proofs.Math.Seq.{take-append_seam}
-use Rattle.std.specs.Io.KnownBytes.{Appends}
+use Rattle.edge_io.specs.Moving.{Appends}
 use Rattle.edge_io.specs.Faults.{Rose}
 use Rattle.edge_io.specs.Writing.{HasWritten}
 use Rattle.group_types.specs.Dimensions.{Dimensions}
@@ -24,35 +24,35 @@ use Rattle.scenario_play.specs.declared.status.Status.{Status}
 use Rattle.scenario_play.specs.declared.status.Status.TheVariants.{WriteFault, Want}
 
 -- some of a text was written, and this is the rest
-pub record Written (before now : Option (List ℕ)) (rest all : List ℕ) : Type 0 where
+pub record Written (before now : List ℕ) (rest all : List ℕ) : Type 0 where
   pub front : List ℕ
   pub bytes : Appends before now front
   pub whole : front ++ rest ≡ all
 
-pub Written-none : (held : Option (List ℕ)) (all : List ℕ) → Written held held all all
+pub Written-none : (held : List ℕ) (all : List ℕ) → Written held held all all
 Written-none held all = record { front = []; bytes = Appends-nil held; whole = refl }
 
-pub Written-more : (before now next : Option (List ℕ)) (text rest all : List ℕ) → Written before now (text ++ rest) all → Appends now next text → Written before next rest all
+pub Written-more : (before now next : List ℕ) (text rest all : List ℕ) → Written before now (text ++ rest) all → Appends now next text → Written before next rest all
 Written-more before now next text rest all written more = record {
   front = written.front ++ text;
   bytes = Appends-trans before now next written.front text written.bytes more;
   whole = append_assoc written.front text rest ∙ written.whole;
 }
 
-pub Written-all : (before now : Option (List ℕ)) (all : List ℕ) → Written before now [] all → Appends before now all
+pub Written-all : (before now : List ℕ) (all : List ℕ) → Written before now [] all → Appends before now all
 Written-all before now all written = subst (Appends before now) (sym (append-nil written.front) ∙ written.whole) written.bytes
 
 -- what was written so far is a front of all
 front_of : (front rest all : List ℕ) → front ++ rest ≡ all → take (length front) all ≡ front
 front_of front rest all whole = ap (take (length front)) (sym whole) ∙ take-append_seam front rest
 
-pub Written-front : (before now : Option (List ℕ)) (rest all : List ℕ) → Written before now rest all → HasWritten before now all
+pub Written-front : (before now : List ℕ) (rest all : List ℕ) → Written before now rest all → HasWritten before now all
 Written-front before now rest all written = record {
   count = length written.front;
   bytes = subst (Appends before now) (sym (front_of written.front rest all written.whole)) written.bytes;
 }
 
-pub Written-part : (before now next : Option (List ℕ)) (text rest all : List ℕ) → Written before now (text ++ rest) all → HasWritten now next text → HasWritten before next all
+pub Written-part : (before now next : List ℕ) (text rest all : List ℕ) → Written before now (text ++ rest) all → HasWritten now next text → HasWritten before next all
 Written-part before now next text rest all written part =
     let more : Appends before next (written.front ++ take part.count text) = Appends-trans before now next written.front (take part.count text) written.bytes part.bytes in
     let split = append_assoc written.front (take part.count text) (drop part.count text ++ rest) in
@@ -142,7 +142,7 @@ pub stopped : (n : ℕ) (play : Option Play) (bytes : List ℕ) (lines : List (L
 stopped n play bytes lines is = record { fault = fault-line n play bytes lines Ends is; text = text-line play bytes lines Ends is; turns = turns-line play bytes lines Ends is }
 
 -- a line was refused, or there was no memory for it
-module _ (held held_now : Option (List ℕ)) (writes writes_now : ℕ) (all : List ℕ) where
+module _ (held held_now : List ℕ) (writes writes_now : ℕ) (all : List ℕ) where
   by-cause : (n : ℕ) (cause : LineFault) → HasWritten held held_now (transcript all) → (cause ≡ line.Want) ⊎ ((first_fault all ≡ Some (record { number = n; cause = cause })) × Appends held held_now (transcript all))
       → HasPlayed held held_now writes writes_now all (Err (told_at n cause))
   by-cause n line.Want part either = part
@@ -165,7 +165,7 @@ module _ (held held_now : Option (List ℕ)) (writes writes_now : ℕ) (all : Li
       )
 
 -- the text of a line was written in part
-pub part-played : (held held_now : Option (List ℕ)) (before middle now : ℕ) (text : List ℕ) (result : Result ℕ Status) (fault : Status) → ((fault ≡ WriteFault) × Rose middle now) ⊎ (fault ≡ Want) → before ≤ middle
+pub part-played : (held held_now : List ℕ) (before middle now : ℕ) (text : List ℕ) (result : Result ℕ Status) (fault : Status) → ((fault ≡ WriteFault) × Rose middle now) ⊎ (fault ≡ Want) → before ≤ middle
     → HasWritten held held_now (transcript text) → IsErrAnd result (λ e. e ≡ fault) → HasPlayed held held_now before now text result
 part-played held held_now before middle now text (Ok n) fault cause later part is = absurd is
 part-played held held_now before middle now text (Err e) fault (inl failed) later part is =

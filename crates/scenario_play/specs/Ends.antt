@@ -1,6 +1,6 @@
-use Rattle.std.specs.Prelude.{◌≡◌, ℕ, ◌+◌, ◌<◌, ◌≤◌, List, [], length, drop, Option, Some, None, Result, Ok, Err, ⊤, IfSome, Vec}
-use Rattle.std.specs.Io.KnownBytes.{Appends}
+use Rattle.std.specs.Prelude.{◌≡◌, ℕ, ◌+◌, ◌≤◌, List, [], length, Option, Some, None, Result, Ok, Err, ◌⊎◌, ⊤, Vec}
 use Rattle.edge_io.specs.Faults.{Rose}
+use Rattle.edge_io.specs.Moving.{Appends, Input, IsEnded, Takes}
 use Rattle.edge_io.specs.Writing.{HasWritten}
 use Rattle.group_calls.specs.Turns.{log_of}
 use Rattle.group_run.specs.Progress.{load_of}
@@ -22,12 +22,18 @@ abbrev pub log_len : Option Play → ℕ
 log_len None = 0
 log_len (Some p) = length p.world.log
 
--- the script was read to its end, or it has more bytes than the limit, or a read failed
-abbrev pub HasRead : Option (List ℕ) → Option (List ℕ) → ℕ → ℕ → Result (List ℕ) Status → Type 0
-HasRead before now faults_before faults_now (Ok text) = IfSome before (λ all. (text ≡ all) × (now ≡ Some []))
-HasRead before now faults_before faults_now (Err TooLong) = IfSome before (λ all. (longest_script < length all) × (now ≡ Some (drop (longest_script + 1) all)))
-HasRead before now faults_before faults_now (Err ReadFault) = Rose faults_before faults_now
-HasRead before now faults_before faults_now (Err Want) = ⊤
+-- at most so many bytes were taken
+pub record TakesAtMost (most : ℕ) (before now : Input) : Type 0 where
+  pub bytes : List ℕ
+  pub taken : Takes before now bytes
+  pub few : length bytes ≤ most
+
+-- the script was read to its end, or it has more bytes than the limit, or a read failed, or there was no memory
+abbrev pub HasRead : Input → Input → ℕ → ℕ → Result (List ℕ) Status → Type 0
+HasRead before now faults_before faults_now (Ok text) = Takes before now text × IsEnded now
+HasRead before now faults_before faults_now (Err TooLong) = (text : List ℕ) × Takes before now text × (length text ≡ longest_script + 1)
+HasRead before now faults_before faults_now (Err ReadFault) = Rose faults_before faults_now × TakesAtMost longest_script before now
+HasRead before now faults_before faults_now (Err Want) = TakesAtMost (longest_script + 1) before now
 HasRead before now faults_before faults_now (Err _) = ⊥
 
 -- the group line, or a line before it, was treated
@@ -46,7 +52,7 @@ HasDone before (Refused fault) now (Err cause) = cause ≡ fault
 HasDone before next now _ = ⊥
 
 -- the lines were treated to the end or to the first fault, and their transcript written, or a front of it
-abbrev pub HasPlayed : Option (List ℕ) → Option (List ℕ) → ℕ → ℕ → List ℕ → Result ℕ Status → Type 0
+abbrev pub HasPlayed : List ℕ → List ℕ → ℕ → ℕ → List ℕ → Result ℕ Status → Type 0
 HasPlayed before now faults_before faults_now text (Ok logged) = (first_fault text ≡ None) × Appends before now (transcript text) × (logged ≡ length (log_of (turns_of text)))
 HasPlayed before now faults_before faults_now text (Err WriteFault) = Rose faults_before faults_now × HasWritten before now (transcript text)
 HasPlayed before now faults_before faults_now text (Err Want) = HasWritten before now (transcript text)
@@ -55,12 +61,21 @@ HasPlayed before now faults_before faults_now text (Err status) = IsRefusal stat
 -- a script of these bytes was read and played: to its end, up to a line that is refused, or until it was known to be
 -- too long, a read or a write failed, or there was no memory
 abbrev pub HasEnded : List ℕ → Outside → Outside → Result (Unit {0}) Status → Type 0
-HasEnded all before now (Ok _) = (told all ≡ Done) × (now.left ≡ Some []) × Appends before.held now.held (transcript all)
-HasEnded all before now (Err TooLong) = (now.held ≡ before.held) × (told all ≡ TooLong) × (now.left ≡ Some (drop (longest_script + 1) all))
-HasEnded all before now (Err ReadFault) = (now.held ≡ before.held) × Rose before.reads now.reads
-HasEnded all before now (Err WriteFault) = Rose before.writes now.writes × HasWritten before.held now.held (transcript all)
-HasEnded all before now (Err Want) = HasWritten before.held now.held (transcript all)
-HasEnded all before now (Err status) = IsRefusal status × (told all ≡ status) × Appends before.held now.held (transcript all)
+HasEnded script before now (Ok _) = (told script ≡ Done) × IsEnded now.input × Appends before.held now.held (transcript script)
+HasEnded script before now (Err TooLong) = (now.held ≡ before.held) × (length script ≡ longest_script + 1)
+HasEnded script before now (Err ReadFault) = (now.held ≡ before.held) × Rose before.reads now.reads × (length script ≤ longest_script)
+HasEnded script before now (Err WriteFault) =
+    Rose before.writes now.writes × (length script ≤ longest_script) × IsEnded now.input × HasWritten before.held now.held (transcript script)
+HasEnded script before now (Err Want) = (now.held ≡ before.held) ⊎ (IsEnded now.input × HasWritten before.held now.held (transcript script))
+HasEnded script before now (Err status) =
+    IsRefusal status × (told script ≡ status) × IsEnded now.input × Appends before.held now.held (transcript script)
+
+-- the bytes that were taken are a script, which was read and played
+pub record HasTreated (before now : Outside) (result : Result (Unit {0}) Status) : Type 0 where
+  pub script : List ℕ
+  pub taken : Takes before.input now.input script
+  pub few : length script ≤ longest_script + 1
+  pub ends : HasEnded script before now result
 
 -- the bytes in an answer
 abbrev pub text_in : {E Z : Type 0} → Result (Option (Vec ℕ Z)) E → Result (Option (List ℕ)) E

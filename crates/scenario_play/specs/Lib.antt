@@ -3,3 +3,4 @@ pub mod Outside
 pub mod Played
 pub mod Status
 pub mod Trial
+pub mod Whole

@@ -94,6 +94,13 @@ IsUnread TooLong = ⊤
 IsUnread ReadFault = ⊤
 IsUnread _ = ⊥
 
+-- a status that may come before a script was read to its end
+abbrev pub IsEarly : Status → Type 0
+IsEarly TooLong = ⊤
+IsEarly ReadFault = ⊤
+IsEarly Want = ⊤
+IsEarly _ = ⊥
+
 -- where a status tells of a fault of the source or the sink, that one counted it; and it is none of other commands
 abbrev pub HasFaultOf : ℕ → ℕ → ℕ → ℕ → Status → Type 0
 HasFaultOf read_before read_now written_before written_now ReadFault = Rose read_before read_now

@@ -7,6 +7,7 @@
 mod cut;
 mod deliveries;
 mod entries;
+pub mod laws;
 pub mod make;
 mod next;
 mod page;

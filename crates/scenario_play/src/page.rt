@@ -27,9 +27,7 @@ impl Page {
 }
 
 impl Sink for Page {
-    ghost use Rattle.std.specs.Prelude.{Some};
-
-    ghost held = { λ page. Some page.text.items };
+    ghost held = { λ page. page.text.items };
 
     ghost faults = { λ _. 0 };
 

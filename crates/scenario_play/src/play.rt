@@ -1,8 +1,8 @@
-ghost use Rattle.std.specs.Prelude.{◌≡◌, ◌≢◌, ◌⊎◌, ◌≤◌, length, IfSome, IfErr, OnOk};
-ghost use Rattle.std.specs.Io.KnownBytes.{Appends};
+ghost use Rattle.std.specs.Prelude.{◌≡◌, ◌≢◌, ◌⊎◌, ◌≤◌, length, IfErr, OnOk};
+ghost use Rattle.edge_io.specs.Moving.{Appends};
 ghost use Rattle.edge_io.specs.Faults.{Rose};
 ghost use Rattle.edge_io.specs.Writing.{HasWritten};
-ghost use Rattle.scenario_play.specs.Ends.{HasEnded, HasPlayed, log_len};
+ghost use Rattle.scenario_play.specs.Ends.{HasPlayed, HasTreated, log_len};
 ghost use Rattle.scenario_play.specs.Outside.{outside};
 ghost use Rattle.scenario_play.specs.Played.{IsPlayed};
 ghost use Rattle.scenario_play.specs.Status.{HasFaultOf, told_at};
@@ -20,9 +20,8 @@ use std::alloc::Global;
 /// Reads a script from the source to its end, treats its lines in order, and writes their
 /// transcript, and then the last line of the status.
 pub fn play<S: Source, K: Sink>(alloc: Global, source: &mut S, sink: &mut K) -> Status
-    ensures played { IfSome (S.left source.old) (λ all. IsPlayed all
-        (outside (S.left source.old) (S.faults source.old) (K.held sink.old) (K.faults sink.old))
-        (outside (S.left source.new) (S.faults source.new) (K.held sink.new) (K.faults sink.new)) result) }
+    ensures played { IsPlayed (outside (S.input source.old) (S.faults source.old) (K.held sink.old) (K.faults sink.old))
+        (outside (S.input source.new) (S.faults source.new) (K.held sink.new) (K.faults sink.new)) result }
     ensures named { result ≢ Status.BadWords }
     ensures read { result ≡ Status.ReadFault → Rose (S.faults source.old) (S.faults source.new) }
     ensures write { result ≡ Status.WriteFault → Rose (K.faults sink.old) (K.faults sink.new) }
@@ -38,9 +37,8 @@ fn play_script<S: Source, K: Sink>(
     source: &mut S,
     sink: &mut K,
 ) -> Result<(), Status>
-    ensures end { IfSome (S.left source.old) (λ all. HasEnded all
-        (outside (S.left source.old) (S.faults source.old) (K.held sink.old) (K.faults sink.old))
-        (outside (S.left source.new) (S.faults source.new) (K.held sink.new) (K.faults sink.new)) result) }
+    ensures end { HasTreated (outside (S.input source.old) (S.faults source.old) (K.held sink.old) (K.faults sink.old))
+        (outside (S.input source.new) (S.faults source.new) (K.held sink.new) (K.faults sink.new)) result }
     ensures fault { IfErr result (λ status. HasFaultOf (S.faults source.old) (S.faults source.new) (K.faults sink.old) (K.faults sink.new) status) }
     ensures later { K.faults sink.old ≤ K.faults sink.new }
 {

@@ -13,7 +13,7 @@ const PIECE: usize = 65_536;
 
 /// Reads the source to its end, or to the first byte above the limit.
 pub(crate) fn read_script<S: Source>(alloc: Global, source: &mut S) -> Result<Vec<u8>, Status>
-    ensures end { HasRead (S.left source.old) (S.left source.new) (S.faults source.old) (S.faults source.new) (bytes_in result) }
+    ensures end { HasRead (S.input source.old) (S.input source.new) (S.faults source.old) (S.faults source.new) (bytes_in result) }
     ensures limit { IfOk result (λ text. length text.items ≤ LONGEST_SCRIPT) }
 {
     let mut piece = piece(alloc)?;

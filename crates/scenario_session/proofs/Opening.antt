@@ -1,7 +1,9 @@
 use Rattle.std.proofs.Common.{◌≡◌, ◌≢◌, ℕ, true, List, [], Option, Result, refl, ap, ◌∙◌, subst, arith}
 use Rattle.std.proofs.lemmas.List.Elements.{All-nil}
 use Rattle.std.specs.Result.{IsErrAnd}
+use Rattle.edge_io.specs.Moving.{Input}
 use Rattle.group_types.specs.Dimensions.{Dimensions}
+use Rattle.group_types.specs.Shape.{IsShape}
 use Rattle.memc_proto.proofs.Texts.{partial-plain}
 use Rattle.memc_proto.specs.Reader.{Kept, HasRead}
 use Rattle.memc_proto.specs.Request.{IsPlain}
@@ -14,7 +16,9 @@ use Rattle.front_end.specs.declared.end.ConnectionFault.{ConnectionFault}
 use Rattle.front_end.specs.declared.end.ConnectionFault.TheVariants.{Want}
 use Rattle.front_end.specs.declared.end.End.{End}
 use Rattle.world_caller.specs.Callers.{GroupCaller}
-use Rattle.scenario_session.specs.Session.{group_ways, fresh, IsServed}
+use Rattle.caller_table.proofs.Chain.{one_table_always}
+use Rattle.caller_table.specs.Tables.{fresh, group_ways}
+use Rattle.scenario_session.specs.Session.{IsServed}
 
 -- a reader that was fed nothing
 abbrev idle : Kept
@@ -27,11 +31,12 @@ has_read-nothing = record { rest = []; reads = (refl, partial-plain [] none); st
     none = All-nil (λ b. b ≢ 10)
 
 -- there was no memory for the group: nothing was read, and nothing written
-pub served-nothing : (s : Dimensions) (told : Option ℕ) (left held : Option (List ℕ)) (connection : Result End ConnectionFault)
-    → IsErrAnd connection (λ e. e ≡ Want) → IsServed s told left left held held connection
-served-nothing s told left held connection want = record {
+pub served-nothing : (s : Dimensions) (told : Option ℕ) (input : Input) (held : List ℕ) (connection : Result End ConnectionFault)
+    → IsShape s → IsErrAnd connection (λ e. e ≡ Want) → IsServed s told input input held held connection
+served-nothing s told input held connection shape want = record {
   after = fresh s;
-  served = served-early group_ways told left (stand (fresh s) held) idle connection has_read-nothing want;
+  served = served-early group_ways told input (stand (fresh s) held) idle connection has_read-nothing want;
+  one_table = one_table_always s shape;
 }
 
 -- the first caller of a group, with orders taken
@@ -39,10 +44,11 @@ abbrev first_of : World → GroupCaller
 first_of w = record { world = w; caller = 0; control = true }
 
 -- the group was made, and its first caller served the connection
-pub served-by : (s : Dimensions) (told : Option ℕ) (left left_now held held_now : Option (List ℕ)) (world : World) (before after : GroupCaller) (connection : Result End ConnectionFault)
-    → world ≡ opening s → before ≡ record { world = world; caller = 0; control = true }
-    → HasServed group_ways told left left_now (stand before held) (stand after held_now) connection → IsServed s told left left_now held held_now connection
-served-by s told left left_now held held_now world before after connection fresh_world made served = record {
+pub served-by : (s : Dimensions) (told : Option ℕ) (input input_now : Input) (held held_now : List ℕ) (world : World) (before after : GroupCaller) (connection : Result End ConnectionFault)
+    → IsShape s → world ≡ opening s → before ≡ record { world = world; caller = 0; control = true }
+    → HasServed group_ways told input input_now (stand before held) (stand after held_now) connection → IsServed s told input input_now held held_now connection
+served-by s told input input_now held held_now world before after connection shape fresh_world made served = record {
   after = after;
-  served = subst (λ (c : GroupCaller). HasServed group_ways told left left_now (stand c held) (stand after held_now) connection) (made ∙ ap first_of fresh_world) served;
+  served = subst (λ (c : GroupCaller). HasServed group_ways told input input_now (stand c held) (stand after held_now) connection) (made ∙ ap first_of fresh_world) served;
+  one_table = one_table_always s shape;
 }

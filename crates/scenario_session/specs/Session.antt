@@ -1,25 +1,17 @@
 -- What comes of a connection that a fresh group serves.
-use Rattle.std.specs.Prelude.{ℕ, ◌≡◌, true, List, Option, Result, Ok, Err}
+use Rattle.std.specs.Prelude.{ℕ, ◌≡◌, List, Option, Result, Ok, Err}
+use Rattle.edge_io.specs.Moving.{Input}
 use Rattle.group_types.specs.Dimensions.{Dimensions}
-use Rattle.group_run.specs.World.{opening}
 use Rattle.front_end.specs.Answers.{stand}
-use Rattle.front_end.specs.Calls.{Ways, ways_of}
 use Rattle.front_end.specs.Connection.{HasServed}
 use Rattle.front_end.specs.declared.end.ConnectionFault.{ConnectionFault}
 use Rattle.front_end.specs.declared.end.ConnectionFault.TheVariants as fault
 use Rattle.front_end.specs.declared.end.End.{End}
 use Rattle.front_end.specs.declared.end.End.TheVariants as end
-use Rattle.world_caller.specs.Callers.{GroupCaller, HasCalled, HasGone, IsOrdered}
+use Rattle.world_caller.specs.Callers.{GroupCaller}
+use Rattle.caller_table.specs.Tables.{IsOneTable, fresh, group_ways}
 use Rattle.scenario_session.specs.declared.end.SessionEnd.{SessionEnd}
 use Rattle.scenario_session.specs.declared.end.SessionEnd.TheVariants.{Done, Cut, LineTooLong, Worn, ReadFault, WriteFault, Want}
-
--- what calls make of a group
-abbrev pub group_ways : Ways GroupCaller
-group_ways = ways_of HasCalled IsOrdered HasGone
-
--- the first caller of a group at its start, with orders taken that a process fail
-abbrev pub fresh : Dimensions → GroupCaller
-fresh s = record { world = opening s; caller = 0; control = true }
 
 -- how a session ends whose connection ended so
 abbrev pub end_of : Result End ConnectionFault → SessionEnd
@@ -32,13 +24,15 @@ end_of (Err fault.ReadFault) = ReadFault
 end_of (Err fault.WriteFault) = WriteFault
 end_of (Err fault.Want) = Want
 
--- a connection was served over a fresh group of this shape, and ended so
-pub record IsServed (s : Dimensions) (told : Option ℕ) (left left_now held held_now : Option (List ℕ)) (connection : Result End ConnectionFault) : Type 0 where
+-- a connection was served over a fresh group of this shape, and ended so; whatever calls lead from that group on, their
+-- ends are those of one table
+pub record IsServed (s : Dimensions) (told : Option ℕ) (input input_now : Input) (held held_now : List ℕ) (connection : Result End ConnectionFault) : Type 0 where
   pub after : GroupCaller
-  pub served : HasServed group_ways told left left_now (stand (fresh s) held) (stand after held_now) connection
+  pub served : HasServed group_ways told input input_now (stand (fresh s) held) (stand after held_now) connection
+  pub one_table : IsOneTable s
 
 -- and the session ends by how the connection ended
-pub record HasEnded (s : Dimensions) (told : Option ℕ) (left left_now held held_now : Option (List ℕ)) (end : SessionEnd) : Type 0 where
+pub record HasEnded (s : Dimensions) (told : Option ℕ) (input input_now : Input) (held held_now : List ℕ) (end : SessionEnd) : Type 0 where
   pub connection : Result End ConnectionFault
-  pub served : IsServed s told left left_now held held_now connection
+  pub served : IsServed s told input input_now held held_now connection
   pub ends : end ≡ end_of connection

@@ -1,8 +1,8 @@
 use Rattle.std.proofs.Common.{ℕ, List, length, take, drop, sym, subst, ap, arith}
-use Rattle.std.proofs.KnownBytes.{Appends-trans}
 use Rattle.std.proofs.Math.Seq.{take-add}
 use Rattle.std.proofs.lemmas.List.{length-drop, take_rest}
-use Rattle.std.specs.Io.KnownBytes.{Appends}
+use Rattle.edge_io.specs.Moving.{Appends}
+use Rattle.edge_io.proofs.Moving.{Appends-trans}
 use Rattle.edge_io.proofs.writing.write_all.Goals as goal
 
 pub pieces-preserved : goal.pieces-preserved

@@ -1,5 +1,5 @@
 use Rattle.std.proofs.Common.{◌-◌, ◌≤◌, length, take}
-use Rattle.std.specs.Io.KnownBytes.{Appends}
+use Rattle.edge_io.specs.Moving.{Appends}
 use Rattle.edge_io.proofs.writing.write_all.Given as goal
 
 abbrev pub invariant-pieces : goal.invariant-pieces

@@ -6,7 +6,7 @@ use Rattle.front_end.proofs.serve.serve_pieces.Given as goal
 
 abbrev pub invariant-pieces : goal.invariant-pieces
 invariant-pieces g l = record {
-  goes : GoesOn (ways_of g.C.Caller.made g.C.Caller.failed g.C.Caller.kept) (g.T.Clock.moment l.clock) (g.S.Source.left l.initial.source) (g.S.Source.left l.source) (stand l.initial.caller (g.K.Sink.held l.initial.sink)) (stand l.caller (g.K.Sink.held l.sink)) l.reader l.count;
+  goes : GoesOn (ways_of g.C.Caller.made g.C.Caller.failed g.C.Caller.kept) (g.T.Clock.moment l.clock) (g.S.Source.input l.initial.source) (g.S.Source.input l.source) (stand l.initial.caller (g.K.Sink.held l.initial.sink)) (stand l.caller (g.K.Sink.held l.sink)) l.reader l.count;
   within : l.count ≤ 4611686018427387904;
   read_later : g.S.Source.faults l.initial.source ≤ g.S.Source.faults l.source;
   written_later : g.K.Sink.faults l.initial.sink ≤ g.K.Sink.faults l.sink;

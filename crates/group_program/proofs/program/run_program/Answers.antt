@@ -6,27 +6,27 @@ use Rattle.command_line.specs.declared.command.Command.TheVariants.{Make, Play, 
 use Rattle.scenario_play.specs.Outside.{Outside, outside}
 use Rattle.scenario_play.specs.declared.status.Status.TheVariants.{BadWords}
 use Rattle.group_program.specs.Program.{HasRun}
-use Rattle.group_program.proofs.Telling.{has_told, promises_of, stopped}
+use Rattle.group_program.proofs.Telling.{has_told, played_whole, stopped}
 use Rattle.group_program.proofs.program.run_program.Goals as goal
 
 pub returns-in-Ok-Play-clause-ran : goal.returns-in-Ok-Play-clause-ran
 returns-in-Ok-Play-clause-ran g c =
     let source = c.args.source.now in
     let sink = c.args.sink.now in
-    let before : Outside = outside (g.S.Source.left source) (g.S.Source.faults source) (g.K.Sink.held sink) (g.K.Sink.faults sink) in
-    let now : Outside = outside (g.S.Source.left c.play.new.source) (g.S.Source.faults c.play.new.source) (g.K.Sink.held c.play.new.sink) (g.K.Sink.faults c.play.new.sink) in
+    let before : Outside = outside (g.S.Source.input source) (g.S.Source.faults source) (g.K.Sink.held sink) (g.K.Sink.faults sink) in
+    let now : Outside = outside (g.S.Source.input c.play.new.source) (g.S.Source.faults c.play.new.source) (g.K.Sink.held c.play.new.sink) (g.K.Sink.faults c.play.new.sink) in
     let said : command_of (map (string_bytes {Z = Global}) c.args.words.now) ≡ Some Play = search rules in
     inl (subst (λ (o : Option Command). HasRun o (g.T.Clock.moment c.args.clock.now) before now c.play.result) (sym said) c.play.ensures.played)
 
 pub returns-in-Ok-Play-clause-promises : goal.returns-in-Ok-Play-clause-promises
-returns-in-Ok-Play-clause-promises g c _ done = promises_of (g.S.Source.left c.args.source.now) _ _ c.play.result c.play.ensures.played done
+returns-in-Ok-Play-clause-promises g c _ done = played_whole _ _ c.play.result c.play.ensures.played done
 
 pub returns-in-Ok-Make-clause-ran : goal.returns-in-Ok-Make-clause-ran
 returns-in-Ok-Make-clause-ran g c =
     let source = c.args.source.now in
     let sink = c.args.sink.now in
-    let before : Outside = outside (g.S.Source.left source) (g.S.Source.faults source) (g.K.Sink.held sink) (g.K.Sink.faults sink) in
-    let now : Outside = outside (g.S.Source.left source) (g.S.Source.faults source) (g.K.Sink.held c.make.new.sink) (g.K.Sink.faults c.make.new.sink) in
+    let before : Outside = outside (g.S.Source.input source) (g.S.Source.faults source) (g.K.Sink.held sink) (g.K.Sink.faults sink) in
+    let now : Outside = outside (g.S.Source.input source) (g.S.Source.faults source) (g.K.Sink.held c.make.new.sink) (g.K.Sink.faults c.make.new.sink) in
     let said : command_of (map (string_bytes {Z = Global}) c.args.words.now) ≡ Some (Make c.in-Ok-Make.number) = search rules in
     inl (subst (λ (o : Option Command). HasRun o (g.T.Clock.moment c.args.clock.now) before now c.make.result) (sym said) c.make.ensures)
 
@@ -34,8 +34,8 @@ pub returns-in-Ok-Trial-clause-ran : goal.returns-in-Ok-Trial-clause-ran
 returns-in-Ok-Trial-clause-ran g c =
     let source = c.args.source.now in
     let sink = c.args.sink.now in
-    let before : Outside = outside (g.S.Source.left source) (g.S.Source.faults source) (g.K.Sink.held sink) (g.K.Sink.faults sink) in
-    let now : Outside = outside (g.S.Source.left source) (g.S.Source.faults source) (g.K.Sink.held c.trial.new.sink) (g.K.Sink.faults c.trial.new.sink) in
+    let before : Outside = outside (g.S.Source.input source) (g.S.Source.faults source) (g.K.Sink.held sink) (g.K.Sink.faults sink) in
+    let now : Outside = outside (g.S.Source.input source) (g.S.Source.faults source) (g.K.Sink.held c.trial.new.sink) (g.K.Sink.faults c.trial.new.sink) in
     let said : command_of (map (string_bytes {Z = Global}) c.args.words.now) ≡ Some (Trial c.in-Ok-Trial.number) = search rules in
     inl (subst (λ (o : Option Command). HasRun o (g.T.Clock.moment c.args.clock.now) before now c.trial.result) (sym said) c.trial.ensures)
 
@@ -43,8 +43,8 @@ pub returns-in-Ok-Session-clause-ran : goal.returns-in-Ok-Session-clause-ran
 returns-in-Ok-Session-clause-ran g c =
     let source = c.args.source.now in
     let sink = c.args.sink.now in
-    let before : Outside = outside (g.S.Source.left source) (g.S.Source.faults source) (g.K.Sink.held sink) (g.K.Sink.faults sink) in
-    let now : Outside = outside (g.S.Source.left c.serve_session.new.source) (g.S.Source.faults c.serve_session.new.source) (g.K.Sink.held c.serve_session.new.sink) (g.K.Sink.faults c.serve_session.new.sink) in
+    let before : Outside = outside (g.S.Source.input source) (g.S.Source.faults source) (g.K.Sink.held sink) (g.K.Sink.faults sink) in
+    let now : Outside = outside (g.S.Source.input c.serve_session.new.source) (g.S.Source.faults c.serve_session.new.source) (g.K.Sink.held c.serve_session.new.sink) (g.K.Sink.faults c.serve_session.new.sink) in
     let said : command_of (map (string_bytes {Z = Global}) c.args.words.now) ≡ Some (Session c.in-Ok-Session.k c.in-Ok-Session.m c.in-Ok-Session.blocks c.in-Ok-Session.block) = search rules in
     inl (subst (λ (o : Option Command). HasRun o (g.T.Clock.moment c.args.clock.now) before now c.serve_session.result) (sym said) c.serve_session.ensures.session)
 
@@ -52,8 +52,8 @@ pub returns-in-Err-BadWords-clause-ran : goal.returns-in-Err-BadWords-clause-ran
 returns-in-Err-BadWords-clause-ran g c =
     let source = c.args.source.now in
     let sink = c.args.sink.now in
-    let before : Outside = outside (g.S.Source.left source) (g.S.Source.faults source) (g.K.Sink.held sink) (g.K.Sink.faults sink) in
-    let now : Outside = outside (g.S.Source.left source) (g.S.Source.faults source) (g.K.Sink.held c.tell.new.sink) (g.K.Sink.faults c.tell.new.sink) in
+    let before : Outside = outside (g.S.Source.input source) (g.S.Source.faults source) (g.K.Sink.held sink) (g.K.Sink.faults sink) in
+    let now : Outside = outside (g.S.Source.input source) (g.S.Source.faults source) (g.K.Sink.held c.tell.new.sink) (g.K.Sink.faults c.tell.new.sink) in
     let said : command_of (map (string_bytes {Z = Global}) c.args.words.now) ≡ None = search rules in
     inl (subst (λ (o : Option Command). HasRun o (g.T.Clock.moment c.args.clock.now) before now c.tell.result) (sym said)
     (has_told BadWords BadWords before now c.tell.result refl c.tell.ensures.status c.tell.ensures.line c.tell.ensures.front))

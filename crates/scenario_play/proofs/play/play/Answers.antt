@@ -5,16 +5,16 @@ use Rattle.scenario_play.proofs.play.play.Goals as goal
 
 pub returns-in-Ok-clause-played : goal.returns-in-Ok-clause-played
 returns-in-Ok-clause-played g c =
-    let a : Outside = outside (g.S.Source.left c.args.source.now) (g.S.Source.faults c.args.source.now) (g.K.Sink.held c.args.sink.now) (g.K.Sink.faults c.args.sink.now) in
+    let a : Outside = outside (g.S.Source.input c.args.source.now) (g.S.Source.faults c.args.source.now) (g.K.Sink.held c.args.sink.now) (g.K.Sink.faults c.args.sink.now) in
     let after = c.play_script.new in
-    let b : Outside = outside (g.S.Source.left after.source) (g.S.Source.faults after.source) (g.K.Sink.held after.sink) (g.K.Sink.faults after.sink) in
+    let b : Outside = outside (g.S.Source.input after.source) (g.S.Source.faults after.source) (g.K.Sink.held after.sink) (g.K.Sink.faults after.sink) in
     played-done a b c.in-Ok.field-0 c.in-Ok.ensures.end
 
 pub returns-in-Err-clause-played : goal.returns-in-Err-clause-played
 returns-in-Err-clause-played g c =
-    let a : Outside = outside (g.S.Source.left c.args.source.now) (g.S.Source.faults c.args.source.now) (g.K.Sink.held c.args.sink.now) (g.K.Sink.faults c.args.sink.now) in
+    let a : Outside = outside (g.S.Source.input c.args.source.now) (g.S.Source.faults c.args.source.now) (g.K.Sink.held c.args.sink.now) (g.K.Sink.faults c.args.sink.now) in
     let after = c.play_script.new in
-    let left = g.S.Source.left after.source in
+    let left = g.S.Source.input after.source in
     let reads = g.S.Source.faults after.source in
     let b : Outside = outside left reads (g.K.Sink.held after.sink) (g.K.Sink.faults after.sink) in
     let told : Outside = outside left reads (g.K.Sink.held c.tell.new.sink) (g.K.Sink.faults c.tell.new.sink) in

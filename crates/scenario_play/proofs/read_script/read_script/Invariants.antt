@@ -1,10 +1,10 @@
 use Rattle.std.proofs.Common.{◌≡◌, ◌-◌, ◌≤◌, vec_len}
-use Rattle.std.specs.Io.KnownBytes.{Consumes}
+use Rattle.edge_io.specs.Moving.{Takes}
 use Rattle.scenario_play.proofs.read_script.read_script.Given as goal
 
 abbrev pub invariant-pieces : goal.invariant-pieces
 invariant-pieces g l = record {
-  consumed : Consumes (g.S.Source.left l.initial.source) (g.S.Source.left l.source) l.text.items;
+  taken : Takes (g.S.Source.input l.initial.source) (g.S.Source.input l.source) l.text.items;
   room : vec_len l.piece ≡ 65536;
   within : vec_len l.text ≤ 16777217;
   later : g.S.Source.faults l.initial.source ≤ g.S.Source.faults l.source;

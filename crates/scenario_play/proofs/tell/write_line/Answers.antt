@@ -1,6 +1,6 @@
 use Rattle.std.proofs.Common.{length, inl, inr, refl, sym, subst, ◌∙◌, arith}
 use Rattle.std.proofs.Math.Seq.{take-length}
-use Rattle.std.specs.Io.KnownBytes.{Appends}
+use Rattle.edge_io.specs.Moving.{Appends}
 use Rattle.edge_io.specs.Writing.{HasWritten}
 use Rattle.scenario_play.specs.Status.{last_line}
 use Rattle.scenario_play.proofs.tell.write_line.Goals as goal

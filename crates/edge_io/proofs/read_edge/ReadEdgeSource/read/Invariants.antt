@@ -6,4 +6,6 @@ abbrev pub invariant-tries : goal.invariant-tries
 invariant-tries g l = record {
   kept : Keeps (g.R.Read.remaining l.initial.self.inner) (g.R.Read.remaining l.self.inner);
   faults : l.self.faults ≡ l.initial.self.faults;
+  ended : l.self.ended ≡ l.initial.self.ended;
+  past : l.self.past.bytes ≡ l.initial.self.past.bytes;
 }

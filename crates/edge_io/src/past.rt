@@ -1,0 +1,31 @@
+ghost use Rattle.std.specs.Prelude.{◌≡◌, ℕ, List, [], ◌++◌};
+ghost use Rattle.std.specs.Borrow.{ftrue};
+
+use std::marker::Model;
+
+/// The bytes that an edge moved so far, which clauses alone read: it takes no memory, and its calls do nothing.
+#[derive(Drop)]
+pub struct Past {
+    pub ghost bytes: { List ℕ },
+}
+
+impl Model for Past {
+    ghost also_owns = { λ _. ftrue };
+}
+
+// It owns nothing.
+unsafe impl Send for Past {}
+
+impl Past {
+    /// Nothing was moved.
+    pub(crate) fn new() -> Past
+        ensures { result.bytes ≡ [] }
+    {
+        Past {}
+    }
+
+    /// The piece was moved.
+    pub(crate) fn add(&mut self, _piece: &[u8])
+        ensures { self.new.bytes ≡ self.old.bytes ++ _piece.now }
+    {}
+}
