@@ -131,8 +131,8 @@ collected-after s es run caller call p may reply answered = (since.op, there) wh
   there : Contains (step (after s es) (Collect caller call p)).world.log (entry_of (record { caller = caller; call = call }) since.op reply)
   there = subst (λ (log : List Entry). Contains log (entry_of (record { caller = caller; call = call }) since.op reply)) (sym (kept s es run (Collect caller call p) may))
       (get-contained (log_of turns) since.place (entry_of (record { caller = caller; call = call }) since.op reply) (ap (λ (ts : List Turn). slice_get (log_of ts) since.place) (sym whole) ∙ since.entry)) where
-    whole : take (length (turns_of s es) + 1) turns ≡ turns
-    whole = take_all (length (turns_of s es) + 1) turns (let all = length-append (turns_of s es) ((step (after s es) (Collect caller call p)).turn ∷ []) in omega (arith, all))
+        whole : take (length (turns_of s es) + 1) turns ≡ turns
+        whole = take_all (length (turns_of s es) + 1) turns (let all = length-append (turns_of s es) ((step (after s es) (Collect caller call p)).turn ∷ []) in omega (arith, all))
 
 pub collected : (s : Dimensions) (w : World) → IsLed s w → (caller call : ℕ) (p : ProcessId) → MayCome w (Collect caller call p) → (reply : Reply) → (step w (Collect caller call p)).turn.answer ≡ says.Reply reply
     → (op : Asked) × Contains (step w (Collect caller call p)).world.log (entry_of (record { caller = caller; call = call }) op reply)

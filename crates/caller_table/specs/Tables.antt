@@ -13,6 +13,10 @@ use Rattle.group_run.specs.World.{World, opening}
 use Rattle.front_end.specs.Calls.{Call, Made, Failed, Ways, Leads, ways_of}
 use Rattle.world_caller.specs.Callers.{GroupCaller, HasCalled, HasGone, IsOrdered}
 
+-- the caller of a connection: its group, whose calls it makes, and whether it takes orders that a process fail
+abbrev pub Caller : Type 0
+Caller = GroupCaller
+
 -- what calls make of a group
 abbrev pub group_ways : Ways GroupCaller
 group_ways = ways_of HasCalled IsOrdered HasGone

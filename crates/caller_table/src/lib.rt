@@ -5,6 +5,8 @@
 
 ghost use Rattle.caller_table.specs.Tables.{OneTableAlways};
 
+pub use world_caller::{World, WorldCaller};
+
 /// The ends of a connection's calls are those of one table that begins empty: a reply is the table's, and the log has
 /// exactly its entry behind those before; where there was no space or the group is down, log and places are as they were.
 pub fn answers_are_the_tables()

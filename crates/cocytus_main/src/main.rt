@@ -5,12 +5,10 @@
 #![tactic(auto)]
 
 ghost use Rattle.std.specs.Prelude.{◌≡◌, drop, IfOk};
-ghost use Rattle.std.specs.Process.{exit_status};
 ghost use Rattle.std.specs.Vec.Iter.{into_iter_items};
-ghost use Rattle.scenario_play.specs.Status.{number_of_status};
 
 use edge_io::{MemoryListener, ReadEdge, SystemClock, WriteEdge, write_all};
-use group_program::{Status, help_at, run_program, tell};
+use group_program::{Status, exit_of, help_at, run_program, tell};
 use std::alloc::{AllocError, Global};
 use std::env::Args;
 use std::process::ExitCode;
@@ -50,11 +48,4 @@ fn behind_name(alloc: Global, all: Args) -> Result<Vec<String>, AllocError>
     let mut words = all;
     words.next();
     words.collect(alloc)
-}
-
-/// The exit status of a program that ended so.
-fn exit_of(status: Status) -> ExitCode
-    ensures { exit_status result ≡ number_of_status status }
-{
-    ExitCode::from(status.number())
 }

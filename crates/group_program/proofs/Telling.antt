@@ -1,13 +1,13 @@
 use Rattle.std.proofs.Common.{◌≡◌, ◌≢◌, ℕ, ◌⊎◌, inl, inr, [], List, refl, sym, ◌∙◌, subst}
 use Rattle.scenario_play.specs.Outside.{EndsWith, Outside, TellsFront}
-use Rattle.scenario_play.specs.Played.{IsPlayed}
+use Rattle.scenario_play.specs.Played.{HasPlayedWhole, IsPlayed}
 use Rattle.scenario_play.specs.Status.{last_line}
 use Rattle.scenario_play.specs.declared.status.Status.{Status}
 use Rattle.scenario_play.specs.declared.status.Status.TheVariants.{BadWords, Done, ReadFault, WriteFault, Want}
 use Rattle.scenario_session.specs.declared.end.SessionEnd.{SessionEnd}
 use Rattle.scenario_session.specs.declared.end.SessionEnd.TheVariants as end
 use Rattle.scenario_play.proofs.Ending.{came_from}
-use Rattle.group_program.specs.Program.{HasPlayedWhole, HasStopped}
+use Rattle.group_program.specs.Program.{HasStopped}
 use Rattle.group_program.specs.Session.{HasTold, status_of}
 
 -- what is told by the call that writes the last line

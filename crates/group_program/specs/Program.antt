@@ -2,10 +2,7 @@
 use Rattle.std.specs.Prelude.{◌≡◌, ℕ, List, Option, Some, None}
 use Rattle.command_line.specs.declared.command.Command.{Command}
 use Rattle.command_line.specs.declared.command.Command.TheVariants.{Play, Make, Session, Trial}
-use Rattle.edge_io.specs.Moving.{Appends, Input, IsEnded, Takes}
 use Rattle.scenario_make.specs.Script.{script_text}
-use Rattle.scenario_run.specs.Promises.{KeepsPromises}
-use Rattle.scenario_run.specs.Script.{transcript}
 use Rattle.scenario_play.specs.Outside.{Outside, TellsFront}
 use Rattle.scenario_play.specs.Played.{IsPlayed, IsWritten}
 use Rattle.scenario_play.specs.Status.{told}
@@ -21,15 +18,6 @@ HasRun (Some Play) moment before now status = IsPlayed before now status
 HasRun (Some (Make n)) moment before now status = IsWritten Done (script_text n) before.held now.held before.writes now.writes status
 HasRun (Some (Trial n)) moment before now status = IsWritten (told (script_text n)) (trial_text n) before.held now.held before.writes now.writes status
 HasRun (Some (Session k m blocks block)) moment before now status = IsSession (record { k = k; m = m; blocks = blocks; block = block }) moment before now status
-
--- the bytes taken up to the end of input are a script that was played to its end: its transcript was written, and its group
--- keeps the promises of the headline
-pub record HasPlayedWhole (before now : Input) (held held_now : List ℕ) : Type 0 where
-  pub script : List ℕ
-  pub taken : Takes before now script
-  pub ended : IsEnded now
-  pub written : Appends held held_now (transcript script)
-  pub promises : KeepsPromises script
 
 -- there was no memory to read the words
 pub record HasStopped (before now : List ℕ) (status : Status) : Type 0 where

@@ -3,10 +3,12 @@
 //! when each status comes. Which streams are meant is left to the program that calls it.
 #![tactic(auto)]
 
+mod ending;
 mod help;
 mod program;
 mod serving;
 
+pub use ending::exit_of;
 pub use help::help_at;
 pub use program::run_program;
 pub use scenario_play::Status;

@@ -5,7 +5,8 @@ ghost use Rattle.edge_io.specs.Faults.{Rose};
 ghost use Rattle.group_types.specs.Dimensions.{Dimensions};
 ghost use Rattle.group_types.specs.Shape.{IsShape};
 ghost use Rattle.scenario_play.specs.Outside.{outside};
-ghost use Rattle.group_program.specs.Program.{HasPlayedWhole, HasRun, HasStopped};
+ghost use Rattle.scenario_play.specs.Played.{HasPlayedWhole};
+ghost use Rattle.group_program.specs.Program.{HasRun, HasStopped};
 ghost use Rattle.group_program.specs.Words.{ReadsNothing};
 
 use crate::serving::serve_session;

@@ -1,7 +1,7 @@
 // A script that is cut after each of its bytes.
 use crate::runs::play;
+use group_program::Status;
 use group_types::Field;
-use scenario_play::Status;
 use std::alloc::{AllocError, Global};
 use std::test::Fail;
 

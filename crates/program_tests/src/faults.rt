@@ -1,6 +1,6 @@
 // A connection whose reads and writes fail in turn.
 use crate::runs::{owned, run};
-use scenario_play::Status;
+use group_program::Status;
 use std::alloc::{AllocError, Global};
 use std::fmt::Write;
 use std::test::Fail;

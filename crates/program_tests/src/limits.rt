@@ -1,6 +1,6 @@
 // The longest values.
 use crate::runs::{owned, run};
-use scenario_play::Status;
+use group_program::Status;
 use std::alloc::{AllocError, Global};
 use std::test::Fail;
 

@@ -2,8 +2,7 @@
 ghost use Rattle.std.specs.Prelude.{◌≤◌};
 
 use edge_io::{Clock, FixedClock, MemoryListener, MemorySink, MemorySource};
-use group_program::run_program;
-use scenario_play::Status;
+use group_program::{Status, run_program};
 use std::alloc::{AllocError, Global};
 use std::sync::Wait;
 use std::test::Fail;

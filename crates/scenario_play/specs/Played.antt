@@ -1,7 +1,7 @@
 -- What comes of a script, and of a command that reads nothing.
 use Rattle.std.specs.Prelude.{◌≡◌, ℕ, ◌≤◌, List, [], length, ◌⊎◌}
 use Rattle.edge_io.specs.Faults.{Rose}
-use Rattle.edge_io.specs.Moving.{Appends, IsEnded, Takes}
+use Rattle.edge_io.specs.Moving.{Appends, Input, IsEnded, Takes}
 use Rattle.scenario_run.specs.Promises.{KeepsPromises}
 use Rattle.scenario_run.specs.Script.{transcript}
 use Rattle.scenario_play.specs.Outside.{EndsWith, Outside, StopsWithin, TellsFront}
@@ -30,3 +30,12 @@ pub record IsWritten (wanted : Status) (text before now : List ℕ) (faults_befo
   pub told : (status ≡ wanted) ⊎ (status ≡ Want) ⊎ ((status ≡ WriteFault) × Rose faults_before faults_now)
   pub done_bytes : status ≡ Done → Appends before now text
   pub bytes : StopsWithin before now text status
+
+-- the bytes taken up to the end of input are a script that was played to its end: its transcript was written, and its group
+-- keeps the promises of the headline
+pub record HasPlayedWhole (before now : Input) (held held_now : List ℕ) : Type 0 where
+  pub script : List ℕ
+  pub taken : Takes before now script
+  pub ended : IsEnded now
+  pub written : Appends held held_now (transcript script)
+  pub promises : KeepsPromises script

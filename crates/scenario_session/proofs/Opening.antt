@@ -15,9 +15,8 @@ use Rattle.front_end.specs.Connection.{HasServed}
 use Rattle.front_end.specs.declared.end.ConnectionFault.{ConnectionFault}
 use Rattle.front_end.specs.declared.end.ConnectionFault.TheVariants.{Want}
 use Rattle.front_end.specs.declared.end.End.{End}
-use Rattle.world_caller.specs.Callers.{GroupCaller}
 use Rattle.caller_table.proofs.Chain.{one_table_always}
-use Rattle.caller_table.specs.Tables.{fresh, group_ways}
+use Rattle.caller_table.specs.Tables.{Caller, fresh, group_ways}
 use Rattle.scenario_session.specs.Session.{IsServed}
 
 -- a reader that was fed nothing
@@ -40,15 +39,15 @@ served-nothing s told input held connection shape want = record {
 }
 
 -- the first caller of a group, with orders taken
-abbrev first_of : World → GroupCaller
+abbrev first_of : World → Caller
 first_of w = record { world = w; caller = 0; control = true }
 
 -- the group was made, and its first caller served the connection
-pub served-by : (s : Dimensions) (told : Option ℕ) (input input_now : Input) (held held_now : List ℕ) (world : World) (before after : GroupCaller) (connection : Result End ConnectionFault)
+pub served-by : (s : Dimensions) (told : Option ℕ) (input input_now : Input) (held held_now : List ℕ) (world : World) (before after : Caller) (connection : Result End ConnectionFault)
     → IsShape s → world ≡ opening s → before ≡ record { world = world; caller = 0; control = true }
     → HasServed group_ways told input input_now (stand before held) (stand after held_now) connection → IsServed s told input input_now held held_now connection
 served-by s told input input_now held held_now world before after connection shape fresh_world made served = record {
   after = after;
-  served = subst (λ (c : GroupCaller). HasServed group_ways told input input_now (stand c held) (stand after held_now) connection) (made ∙ ap first_of fresh_world) served;
+  served = subst (λ (c : Caller). HasServed group_ways told input input_now (stand c held) (stand after held_now) connection) (made ∙ ap first_of fresh_world) served;
   one_table = one_table_always s shape;
 }

@@ -8,8 +8,7 @@ use Rattle.front_end.specs.declared.end.ConnectionFault.{ConnectionFault}
 use Rattle.front_end.specs.declared.end.ConnectionFault.TheVariants as fault
 use Rattle.front_end.specs.declared.end.End.{End}
 use Rattle.front_end.specs.declared.end.End.TheVariants as end
-use Rattle.world_caller.specs.Callers.{GroupCaller}
-use Rattle.caller_table.specs.Tables.{IsOneTable, fresh, group_ways}
+use Rattle.caller_table.specs.Tables.{Caller, IsOneTable, fresh, group_ways}
 use Rattle.scenario_session.specs.declared.end.SessionEnd.{SessionEnd}
 use Rattle.scenario_session.specs.declared.end.SessionEnd.TheVariants.{Done, Cut, LineTooLong, Worn, ReadFault, WriteFault, Want}
 
@@ -27,7 +26,7 @@ end_of (Err fault.Want) = Want
 -- a connection was served over a fresh group of this shape, and ended so; whatever calls lead from that group on, their
 -- ends are those of one table
 pub record IsServed (s : Dimensions) (told : Option ℕ) (input input_now : Input) (held held_now : List ℕ) (connection : Result End ConnectionFault) : Type 0 where
-  pub after : GroupCaller
+  pub after : Caller
   pub served : HasServed group_ways told input input_now (stand (fresh s) held) (stand after held_now) connection
   pub one_table : IsOneTable s
 

@@ -3,11 +3,11 @@ ghost use Rattle.edge_io.specs.Faults.{HasCauseOf, Rose};
 ghost use Rattle.scenario_session.specs.Session.{HasEnded, IsServed};
 
 use crate::end::{SessionEnd, end_of};
+use caller_table::{World, WorldCaller};
 use edge_io::{Clock, Sink, Source};
 use front_end::{ConnectionFault, End, serve_connection};
 use group_types::Shape;
 use std::alloc::Global;
-use world_caller::{World, WorldCaller};
 
 /// Makes a group, and serves one connection over it.
 pub fn session<S: Source, K: Sink, T: Clock>(
