@@ -1,0 +1,30 @@
+// What a person is told on standard error of each end.
+use group_program::{Status, help_at};
+use group_types::Field;
+use std::test::Fail;
+
+#[test]
+fn each_end_but_done_is_explained(rt: HostRuntime) -> Result<(), Fail> {
+    for (status, begin) in [
+        (Status::BadWords, "usage: cocytus_main play < SCRIPT\n"),
+        (
+            Status::BadLine(7),
+            "line 7 of the script is none of these, ",
+        ),
+        (Status::TooLong, "a script has at most 16777216 bytes\n"),
+        (Status::ReadFault, "standard input could not be read\n"),
+        (Status::WriteFault, "standard output could not be written\n"),
+        (Status::Want, "there is not enough memory\n"),
+        (Status::Cut, "the input ended inside a request\n"),
+        (
+            Status::LineTooLong,
+            "a line of a request has at most 32768 bytes\n",
+        ),
+        (Status::Worn, "a connection has at most 2^62 bytes\n"),
+    ] {
+        assert!(rt; help_at(rt.alloc(), status)?.starts_with(begin), "{begin}");
+    }
+    assert!(rt; help_at(rt.alloc(), Status::Done)?.is_empty());
+    assert!(rt; !help_at(rt.alloc(), Status::BadShape(Field::Block))?.is_empty());
+    Ok(())
+}
