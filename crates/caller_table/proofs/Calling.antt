@@ -22,7 +22,7 @@ use Rattle.group_run.specs.Meaning.{IsDown}
 use Rattle.group_run.specs.World.{Ticket, World, after, call_of, group_step, is_issued, logged_at_once, next_name, step, world_after}
 use Rattle.group_run.specs.Shown.{is_down}
 use Rattle.group_types.specs.Each.{Each, EachTwo}
-use Rattle.law_updates.proofs.Eaches.{each-append}
+use Rattle.group_types.proofs.Eaches.{each-append}
 use Rattle.law_log.proofs.Ties.{NamesDiffer}
 use Rattle.law_progress.specs.Ends.{IsDelivery}
 use Rattle.law_progress.proofs.Whole.{next-comes}

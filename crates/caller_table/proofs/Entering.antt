@@ -17,7 +17,7 @@ use Rattle.group_types.specs.declared.process.ProcessId.{ProcessId}
 use Rattle.law_log.proofs.Ties.{is_logged}
 use Rattle.law_moves.proofs.Reading.{grown-is}
 use Rattle.group_types.specs.Each.{Each}
-use Rattle.law_updates.proofs.Eaches.{each-append}
+use Rattle.group_types.proofs.Eaches.{each-append}
 use Rattle.law_log.proofs.Entries.{call-eq, call-refl}
 use Rattle.group_types.specs.Lists.{at}
 

@@ -30,7 +30,7 @@ use Rattle.law_log.proofs.Logs.{EntriesAsked}
 use Rattle.law_log.proofs.Ones.{log_is_tied}
 use Rattle.law_log.proofs.Turnings.{asks_counted, get-contained, get-last}
 use Rattle.group_types.specs.Each.{Each, EachTwo}
-use Rattle.law_updates.proofs.Eaches.{each-append, each-weaker}
+use Rattle.group_types.proofs.Eaches.{each-append, each-weaker}
 use Rattle.caller_table.proofs.Entering.{IsOf}
 use Rattle.caller_table.proofs.Placing.{after-append}
 
