@@ -41,6 +41,13 @@ impl Stamp {
         })
     }
 
+    /// The numbers, in the order of the partitions.
+    pub fn numbers(&self) -> &[u64]
+        ensures { result.now ≡ self.now }
+    {
+        &self.numbers
+    }
+
     /// The number of partition `p`.
     pub fn at(&self, p: u32) -> u64
         requires { p < length self.now }
@@ -83,6 +90,14 @@ impl Stamp {
             }
         }
         least
+    }
+}
+
+impl From<Vec<u64>> for Stamp {
+    ghost from_gives = { λ numbers stamp. stamp ≡ numbers.items };
+
+    fn from(numbers: Vec<u64>) -> Stamp {
+        Stamp { numbers }
     }
 }
 
