@@ -45,7 +45,8 @@ pub(crate) fn first_frame(alloc: Global, front: &[u8], piece: &[u8]) -> Result<C
 
 /// The length that the first four bytes say, if they are there.
 fn announced_len(front: &[u8], piece: &[u8]) -> Option<u32>
-    ensures some { IfSome result (λ len. (4 ≤ length front.now + length piece.now) × (len ≡ announced (front.now ++ piece.now))) }
+    ensures some { IfSome result (λ len. (4 ≤ length front.now + length piece.now)
+        × (len ≡ announced (front.now ++ piece.now))) }
     ensures none { IfNone result (length front.now + length piece.now < 4) }
 {
     if front.len() + piece.len() < 4 {

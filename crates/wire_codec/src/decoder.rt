@@ -60,7 +60,8 @@ impl Decoder {
     pub fn feed(&mut self, piece: &[u8]) -> Result<MessageList, DecodeFault>
         requires { IsTaken self.old (length piece.now) }
         ensures messages { IfOk result (λ given. Feeds self.old self.new piece.now given) }
-        ensures bad_frame { (at : ℕ) → result ≡ Err (BadFrame at) → (self.new.bad ≡ true) × (self.new.begun ≡ at) × Feeds self.old self.new piece.now [] }
+        ensures bad_frame { (at : ℕ) → result ≡ Err (BadFrame at)
+            → (self.new.bad ≡ true) × (self.new.begun ≡ at) × Feeds self.old self.new piece.now [] }
         ensures due { self.new.bad ≡ true → IfOk result (λ given. given ≢ []) }
         ensures again { self.old.bad ≡ true → (result ≡ Err (BadFrame self.old.begun)) × (self.new ≡ self.old) }
         ensures want { result ≡ Err Want → self.new ≡ self.old }

@@ -158,7 +158,8 @@ fn put_mark(
     requires session { FitsSession session }
     requires rank { rank.0 < 256 }
     requires partition { mark.0.0 < 256 }
-    ensures { OnOk result (out.new.items ≡ out.old.items ++ (7 ∷ spec.session session ++ one rank.0 ++ four block ++ one mark.0.0 ++ eight mark.1)) }
+    ensures { OnOk result (out.new.items ≡ out.old.items ++ (7 ∷ spec.session session ++ one rank.0
+        ++ four block ++ one mark.0.0 ++ eight mark.1)) }
 {
     put_session(out, 7, session)?;
     put_one(out, rank.0)?;

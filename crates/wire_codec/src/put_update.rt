@@ -50,7 +50,8 @@ fn put_put(
     len: usize,
 ) -> Result<(), AllocError>
     requires { len < 2 ^ 32 }
-    ensures { OnOk result (out.new.items ≡ out.old.items ++ (0 ∷ four flags ++ maybe eight until ++ spec.run run ++ four len)) }
+    ensures { OnOk result (out.new.items ≡ out.old.items ++ (0 ∷ four flags ++ maybe eight until
+        ++ spec.run run ++ four len)) }
 {
     put_one(out, 0)?;
     put_four(out, flags)?;

@@ -35,7 +35,8 @@ pub struct Around {
 /// The frame of a message without its value, so that a sender writes the value from where it lies.
 pub fn encode_around(alloc: Global, message: &Message) -> Result<Around, AllocError>
     requires { HasFrame message.now }
-    ensures { IfOk result (λ around. around.before ++ parts.value_of message.now ++ around.behind ≡ frame_of message.now) }
+    ensures { IfOk result (λ around. around.before ++ parts.value_of message.now ++ around.behind
+        ≡ frame_of message.now) }
 {
     let mut before = Vec::with_capacity(alloc, 64)?;
     put_before(&mut before, spelled_length(message), message)?;
@@ -69,7 +70,8 @@ pub fn value_of(message: &Message) -> &[u8]
 fn put_before(out: &mut Vec<u8>, len: u32, message: &Message) -> Result<(), AllocError>
     requires frame { HasFrame message.now }
     requires len { len ≡ length (text_of message.now) }
-    ensures { OnOk result (out.new.items ≡ out.old.items ++ (four (length (text_of message.now)) ++ text_before message.now)) }
+    ensures { OnOk result (out.new.items ≡ out.old.items ++ (four (length (text_of message.now))
+        ++ text_before message.now)) }
 {
     put_four(out, len)?;
     put_text_before(out, message)?;
