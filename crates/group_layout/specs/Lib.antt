@@ -1,0 +1,4 @@
+pub mod Cluster
+pub mod Layout
+pub mod Logged
+pub mod Standing
