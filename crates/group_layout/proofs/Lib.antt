@@ -1,1 +1,4 @@
+pub mod Happening
+pub mod Moves
 pub mod Places
+pub mod Runs

@@ -101,36 +101,42 @@ failures s n node keep (j ∷ js) = failure_of s keep j (process_on n (s.k + s.m
 abbrev pub node_failure : Cluster → ℕ → ℕ → List Move
 node_failure c node keep = failures c.groups.shape (length c.failed) node keep (range_with_len 0 (length c.groups.worlds))
 
+-- an event is made in its group, unless its key has another
+abbrev pub move_unless : Option ℕ → Move → List Move
+move_unless (Some own) move = []
+move_unless None move = move ∷ []
+
+-- the moves of which an event is made: one, or those of the failure of a node that hasn't failed
+abbrev pub moves_of : Cluster → ClusterEvent → List Move
+moves_of c (InGroup j event) = move_unless (other_group c.groups j event) (record { group = j; event = event })
+moves_of c (FailNode node keep) = if at false c.failed node then [] else node_failure c node keep
+
+-- the answer to an event
+abbrev pub inner_unless : Option ℕ → Turn → ClusterAnswer
+inner_unless (Some own) turn = says.WrongGroup own
+inner_unless None turn = says.Inner turn.answer
+
+abbrev pub answer_to : Cluster → ClusterEvent → ClusterAnswer
+answer_to c (InGroup j event) = inner_unless (other_group c.groups j event) (turn_of c.groups (record { group = j; event = event }))
+answer_to c (FailNode node keep) = if at false c.failed node then says.AlreadyDead else says.Done
+
+-- which nodes have failed after an event
+abbrev pub failed_after : List Bool → ClusterEvent → List Bool
+failed_after failed (InGroup j event) = failed
+failed_after failed (FailNode node keep) = put false failed node true
+
 -- what a cluster makes of an event
 pub record ClusterStep : Type 0 where
   pub cluster : Cluster
   pub answer : ClusterAnswer
   pub turns : List GroupTurn
 
-abbrev pub left_as_is : Cluster → ClusterAnswer → ClusterStep
-left_as_is c answer = record { cluster = c; answer = answer; turns = [] }
-
--- an event of a group, unless its key has another
-abbrev pub in_group : Cluster → Move → Option ℕ → ClusterStep
-in_group c move (Some own) = left_as_is c (says.WrongGroup own)
-in_group c move None = record {
-  cluster = record { failed = c.failed; groups = moved c.groups move };
-  answer = says.Inner (turn_of c.groups move).answer;
-  turns = record { group = move.group; turn = turn_of c.groups move } ∷ [];
-}
-
--- a node fails, unless it has failed: its processes do, in ascending groups
-abbrev pub node_fails : Cluster → ℕ → List Move → Bool → ClusterStep
-node_fails c node moves true = left_as_is c says.AlreadyDead
-node_fails c node moves false = record {
-  cluster = record { failed = put false c.failed node true; groups = all_moved c.groups moves };
-  answer = says.Done;
-  turns = turns_made c.groups moves;
-}
-
 abbrev pub cluster_step : Cluster → ClusterEvent → ClusterStep
-cluster_step c (InGroup j event) = in_group c (record { group = j; event = event }) (other_group c.groups j event)
-cluster_step c (FailNode node keep) = node_fails c node (node_failure c node keep) (at false c.failed node)
+cluster_step c e = record {
+  cluster = record { failed = failed_after c.failed e; groups = all_moved c.groups (moves_of c e) };
+  answer = answer_to c e;
+  turns = turns_made c.groups (moves_of c e);
+}
 
 -- what turns logged, in order
 abbrev pub logged_in : List GroupTurn → List ClusterEntry
@@ -154,6 +160,11 @@ IsFailure _ = ⊥
 -- a move that may come: its group is there, and its event may come there
 abbrev pub MayMove : Groups → Move → Type 0
 MayMove g move = (move.group < length g.worlds) × MayCome (world_in g move.group) move.event
+
+-- moves that may come, one after the other
+abbrev pub MayAllMove : Groups → List Move → Type 0
+MayAllMove g [] = Unit {0}
+MayAllMove g (move ∷ moves) = MayMove g move × MayAllMove (moved g move) moves
 
 -- an event that may happen: its group or node is there, and what happens in a group may come there
 abbrev pub MayHappen : Cluster → ClusterEvent → Type 0

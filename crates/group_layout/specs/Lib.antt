@@ -1,4 +1,3 @@
 pub mod Cluster
 pub mod Layout
-pub mod Logged
-pub mod Standing
+pub mod Promise

@@ -1,5 +1,5 @@
 ghost use Rattle.std.specs.Prelude.{◌≡◌, ◌≤◌, ◌<◌, ◌+◌, IfSome};
-ghost use Rattle.group_layout.specs.Layout.{OneANode, group_of, node_of, process_on};
+ghost use Rattle.group_layout.specs.Layout.{group_of, node_of, process_on};
 
 use group_types::Key;
 use group_types::hash::fnv1a_of;
@@ -41,9 +41,3 @@ pub fn process_on(nodes: u32, processes: u32, node: u32, group: u32) -> Option<u
     }
     None
 }
-
-/// No two processes of a group stand on one node.
-#[tactic(auto, using(crate::proofs::Places::one_a_node))]
-pub fn one_a_node()
-    ensures { OneANode }
-{}

@@ -1,15 +1,10 @@
-//! Several groups on nodes, so that the loss of a node costs each group one process at most. The contract of a step
-//! is one equation with the cluster's machine, whose groups are the machines of one group, and the cluster's promise
-//! is that of one group told for each. Scripts over a cluster are left to others.
+//! Several groups on nodes, so that the loss of a node costs each group one process at most. The contracts say where
+//! processes stand and which group a key is of, and of every list of events of a cluster that each group makes a run
+//! of its own, with the whole headline. A cluster as a value, and scripts over it, are left to others.
 #![tactic(auto)]
 
-pub mod cluster;
 pub mod event;
-mod groups;
-mod making;
+pub mod laws;
 pub mod layout;
-mod stepping;
-pub mod stretch;
 
-pub use cluster::Cluster;
 pub use event::{ClusterAnswer, ClusterEvent, ClusterOut};

@@ -1,0 +1,52 @@
+-- What is promised of a cluster: each group makes a run of its own, which has the whole headline, and the cluster's
+-- log is that of its groups.
+use Rattle.std.specs.Prelude.{ℕ, ◌≡◌, ◌<◌, ◌==◌, List, [], ◌∷◌}
+use Rattle.group_types.specs.Dimensions.{Dimensions}
+use Rattle.group_types.specs.Shape.{IsShape}
+use Rattle.group_calls.specs.Log.{IsLegal}
+use Rattle.group_calls.specs.Turns.{Turn}
+use Rattle.group_calls.specs.declared.entry.Entry.{Entry}
+use Rattle.group_calls.specs.declared.event.Event.{Event}
+use Rattle.group_run.specs.Headline.{Headline, IsRun}
+use Rattle.group_run.specs.World.{after, front_if, turns_of}
+use Rattle.group_layout.specs.Cluster.{Cluster, ClusterEntry, GroupTurn, Groups, IsLayout, MayAllHappen, MayAllMove, Move, all_moved, cluster_after, cluster_turns, logged_in, opening_cluster, opening_groups, turns_made, world_in}
+use Rattle.group_layout.specs.declared.event.ClusterEvent.{ClusterEvent}
+
+-- what is one group's among moves, turns and entries
+abbrev pub events_in : ℕ → List Move → List Event
+events_in j [] = []
+events_in j (m ∷ ms) = front_if (m.group == j) m.event (events_in j ms)
+
+abbrev pub turns_in : ℕ → List GroupTurn → List Turn
+turns_in j [] = []
+turns_in j (t ∷ ts) = front_if (t.group == j) t.turn (turns_in j ts)
+
+abbrev pub entries_in : ℕ → List ClusterEntry → List Entry
+entries_in j [] = []
+entries_in j (e ∷ es) = front_if (e.0 == j) e.1 (entries_in j es)
+
+-- a group makes a run of its own: it stands as the run leaves it, its turns and its part of the log are the run's,
+-- its part of the log is legal, and the headline holds
+pub record MakesARun (s : Dimensions) (g : Groups) (made : List GroupTurn) (j : ℕ) : Type 0 where
+  pub events : List Event
+  pub run : IsRun s events
+  pub stands : world_in g j ≡ after s events
+  pub turns : turns_in j made ≡ turns_of s events
+  pub entries : entries_in j g.log ≡ (after s events).log
+  pub legal : IsLegal s.k (entries_in j g.log)
+  pub headline : Headline s events
+
+-- groups whose turns were these: the log is what the turns logged, in order, and each group makes a run of its own
+pub record AreRuns (s : Dimensions) (count : ℕ) (g : Groups) (turns : List GroupTurn) : Type 0 where
+  pub log : g.log ≡ logged_in turns
+  pub each : (j : ℕ) → j < count → MakesARun s g turns j
+
+-- groups, whatever moves they make
+abbrev pub MovesAreRuns : Type 0
+MovesAreRuns = (s : Dimensions) (count : ℕ) (moves : List Move) → IsShape s → MayAllMove (opening_groups s count) moves
+    → AreRuns s count (all_moved (opening_groups s count) moves) (turns_made (opening_groups s count) moves)
+
+-- a cluster, whatever events happen
+abbrev pub ClustersAreRuns : Type 0
+ClustersAreRuns = (s : Dimensions) (n count : ℕ) (es : List ClusterEvent) → IsShape s → IsLayout s n count → MayAllHappen (opening_cluster s n count) es
+    → AreRuns s count (cluster_after (opening_cluster s n count) es).groups (cluster_turns (opening_cluster s n count) es)

@@ -1,0 +1,20 @@
+ghost use Rattle.group_layout.specs.Layout.{OneANode};
+ghost use Rattle.group_layout.specs.Promise.{ClustersAreRuns, MovesAreRuns};
+
+/// No two processes of a group stand on one node.
+#[tactic(auto, using(crate::proofs::Places::one_a_node))]
+pub fn one_a_node()
+    ensures { OneANode }
+{}
+
+/// Groups that make events in turn each make a run of their own, with the whole headline.
+#[tactic(auto, using(crate::proofs::Runs::moves_are_runs))]
+pub fn moves_are_runs()
+    ensures { MovesAreRuns }
+{}
+
+/// So do the groups of a cluster, whatever happens in its groups and whichever nodes fail.
+#[tactic(auto, using(crate::proofs::Happening::clusters_are_runs))]
+pub fn clusters_are_runs()
+    ensures { ClustersAreRuns }
+{}
