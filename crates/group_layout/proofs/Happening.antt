@@ -23,7 +23,7 @@ abbrev pub all_moves : Cluster → List ClusterEvent → List Move
 all_moves c [] = []
 all_moves c (e ∷ es) = moves_of c e ++ all_moves (cluster_step c e).cluster es
 
-moved-append : (g : Groups) (ms ns : List Move) → all_moved g (ms ++ ns) ≡ all_moved (all_moved g ms) ns
+pub moved-append : (g : Groups) (ms ns : List Move) → all_moved g (ms ++ ns) ≡ all_moved (all_moved g ms) ns
 moved-append g [] ns = refl
 moved-append g (m ∷ ms) ns = moved-append (moved g m) ms ns
 
@@ -31,7 +31,7 @@ turns-append : (g : Groups) (ms ns : List Move) → turns_made g (ms ++ ns) ≡ 
 turns-append g [] ns = refl
 turns-append g (m ∷ ms) ns = ap (λ (ts : List GroupTurn). record { group = m.group; turn = turn_of g m } ∷ ts) (turns-append (moved g m) ms ns)
 
-may-append : (g : Groups) (ms ns : List Move) → MayAllMove g ms → MayAllMove (all_moved g ms) ns → MayAllMove g (ms ++ ns)
+pub may-append : (g : Groups) (ms ns : List Move) → MayAllMove g ms → MayAllMove (all_moved g ms) ns → MayAllMove g (ms ++ ns)
 may-append g [] ns first rest = rest
 may-append g (m ∷ ms) ns first rest = (first.0, may-append (moved g m) ms ns first.1 rest)
 
@@ -51,7 +51,7 @@ pub record Even (s : Dimensions) (count : ℕ) (g : Groups) : Type 0 where
   pub worlds : (j : ℕ) → (world_in g j).shape ≡ s
   pub many : length g.worlds ≡ count
 
-even-start : (s : Dimensions) (count : ℕ) → Even s count (opening_groups s count)
+pub even-start : (s : Dimensions) (count : ℕ) → Even s count (opening_groups s count)
 even-start s count = record {
   shape = refl;
   worlds = λ j. ap (λ (w : World). w.shape) (at-replicate (opening s) count j);
@@ -76,7 +76,7 @@ even-moved s count g m even low = record {
         ∙ even.worlds m.group
     by j (inr (word, other)) = ap (λ (w : World). w.shape) (at-put-other (opening g.shape) g.worlds m.group j (step (world_in g m.group) m.event).world other) ∙ even.worlds j
 
-even-after : (s : Dimensions) (count : ℕ) (g : Groups) (ms : List Move) → Even s count g → MayAllMove g ms → Even s count (all_moved g ms)
+pub even-after : (s : Dimensions) (count : ℕ) (g : Groups) (ms : List Move) → Even s count g → MayAllMove g ms → Even s count (all_moved g ms)
 even-after s count g [] even may = even
 even-after s count g (m ∷ ms) even may = even-after s count (moved g m) ms (even-moved s count g m even may.0.0) may.1
 

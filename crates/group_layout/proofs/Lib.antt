@@ -1,3 +1,5 @@
+pub mod Deaths
+pub mod Failing
 pub mod Happening
 pub mod Moves
 pub mod Places

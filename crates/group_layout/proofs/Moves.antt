@@ -24,13 +24,13 @@ is-or-not i j = by (cases_eq i j) where
   by (inr other) = inr (ne_eqb i j other, other)
 
 -- the group that a move is of, and the others
-own-world : (g : Groups) (m : Move) (j : ℕ) → m.group ≡ j → world_in (moved g m) j ≡ (step (world_in g j) m.event).world
+pub own-world : (g : Groups) (m : Move) (j : ℕ) → m.group ≡ j → world_in (moved g m) j ≡ (step (world_in g j) m.event).world
 own-world g m j is =
     ap (world_in (moved g m)) (sym is)
     ∙ at-put (opening g.shape) (opening g.shape) g.worlds m.group (step (world_in g m.group) m.event).world
     ∙ ap (λ (i : ℕ). (step (world_in g i) m.event).world) is
 
-other-world : (g : Groups) (m : Move) (j : ℕ) → m.group ≢ j → world_in (moved g m) j ≡ world_in g j
+pub other-world : (g : Groups) (m : Move) (j : ℕ) → m.group ≢ j → world_in (moved g m) j ≡ world_in g j
 other-world g m j other = at-put-other (opening g.shape) g.worlds m.group j (step (world_in g m.group) m.event).world (λ same. other (sym same))
 
 pub world-moved : (g : Groups) (ms : List Move) (j : ℕ) → world_in (all_moved g ms) j ≡ world_after (world_in g j) (events_in j ms)

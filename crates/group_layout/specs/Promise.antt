@@ -1,13 +1,15 @@
 -- What is promised of a cluster: each group makes a run of its own, which has the whole headline, and the cluster's
 -- log is that of its groups.
-use Rattle.std.specs.Prelude.{ℕ, ◌≡◌, ◌<◌, ◌==◌, List, [], ◌∷◌}
+use Rattle.std.specs.Prelude.{ℕ, ◌≡◌, ◌<◌, ◌≤◌, ◌==◌, List, [], ◌∷◌}
 use Rattle.group_types.specs.Dimensions.{Dimensions}
 use Rattle.group_types.specs.Shape.{IsShape}
+use Rattle.membership.specs.Members.{count_dead}
 use Rattle.group_calls.specs.Log.{IsLegal}
 use Rattle.group_calls.specs.Turns.{Turn}
 use Rattle.group_calls.specs.declared.entry.Entry.{Entry}
 use Rattle.group_calls.specs.declared.event.Event.{Event}
 use Rattle.group_run.specs.Headline.{Headline, IsRun}
+use Rattle.group_run.specs.Meaning.{IsDown}
 use Rattle.group_run.specs.World.{after, front_if, turns_of}
 use Rattle.group_layout.specs.Cluster.{Cluster, ClusterEntry, GroupTurn, Groups, IsLayout, MayAllHappen, MayAllMove, Move, all_moved, cluster_after, cluster_turns, logged_in, opening_cluster, opening_groups, turns_made, world_in}
 use Rattle.group_layout.specs.declared.event.ClusterEvent.{ClusterEvent}
@@ -50,3 +52,9 @@ MovesAreRuns = (s : Dimensions) (count : ℕ) (moves : List Move) → IsShape s 
 abbrev pub ClustersAreRuns : Type 0
 ClustersAreRuns = (s : Dimensions) (n count : ℕ) (es : List ClusterEvent) → IsShape s → IsLayout s n count → MayAllHappen (opening_cluster s n count) es
     → AreRuns s count (cluster_after (opening_cluster s n count) es).groups (cluster_turns (opening_cluster s n count) es)
+
+-- while at most m nodes have failed no group is down
+abbrev pub FewFailuresAreBorne : Type 0
+FewFailuresAreBorne = (s : Dimensions) (n count : ℕ) (es : List ClusterEvent) → IsShape s → IsLayout s n count → MayAllHappen (opening_cluster s n count) es
+    → count_dead (cluster_after (opening_cluster s n count) es).failed ≤ s.m
+    → (j : ℕ) → j < count → ¬ (IsDown (world_in (cluster_after (opening_cluster s n count) es).groups j))

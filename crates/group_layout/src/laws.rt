@@ -1,5 +1,5 @@
 ghost use Rattle.group_layout.specs.Layout.{OneANode};
-ghost use Rattle.group_layout.specs.Promise.{ClustersAreRuns, MovesAreRuns};
+ghost use Rattle.group_layout.specs.Promise.{ClustersAreRuns, FewFailuresAreBorne, MovesAreRuns};
 
 /// No two processes of a group stand on one node.
 #[tactic(auto, using(crate::proofs::Places::one_a_node))]
@@ -17,4 +17,10 @@ pub fn moves_are_runs()
 #[tactic(auto, using(crate::proofs::Happening::clusters_are_runs))]
 pub fn clusters_are_runs()
     ensures { ClustersAreRuns }
+{}
+
+/// While at most m nodes have failed no group is down.
+#[tactic(auto, using(crate::proofs::Failing::few_failures_are_borne))]
+pub fn few_failures_are_borne()
+    ensures { FewFailuresAreBorne }
 {}
