@@ -1,6 +1,10 @@
+pub mod Answering
+pub mod Answers
 pub mod Deaths
 pub mod Failing
 pub mod Happening
 pub mod Moves
+pub mod Owning
+pub mod Picked
 pub mod Places
 pub mod Runs

@@ -11,7 +11,8 @@ use Rattle.group_calls.specs.declared.event.Event.{Event}
 use Rattle.group_run.specs.Headline.{IsRunFrom, MayCome}
 use Rattle.group_run.specs.World.{World, front_if, opening, step, turns_from, world_after}
 use Rattle.group_layout.specs.Cluster.{ClusterEntry, GroupTurn, Groups, MayAllMove, Move, all_moved, logged_in, moved, tagged, turn_of, turns_made, world_in}
-use Rattle.group_layout.specs.Promise.{entries_in, events_in, turns_in}
+use Rattle.group_layout.specs.Promise.{entries_in, events_in}
+use Rattle.group_layout.specs.Within.{turns_in}
 
 -- whether a move is of a group
 abbrev pub IsOrNot : ℕ → ℕ → Type 0

@@ -11,7 +11,8 @@ use Rattle.group_run.specs.Headline.{Headline, IsRun, IsRunFrom}
 use Rattle.group_run.specs.World.{World, after, opening, turns_from, turns_of, world_after}
 use Rattle.law_headline.proofs.Headlines.{headline_always}
 use Rattle.group_layout.specs.Cluster.{ClusterEntry, GroupTurn, Groups, MayAllMove, Move, all_moved, logged_in, opening_groups, turns_made, world_in}
-use Rattle.group_layout.specs.Promise.{AreRuns, MakesARun, MovesAreRuns, entries_in, events_in, turns_in}
+use Rattle.group_layout.specs.Promise.{AreRuns, MakesARun, MovesAreRuns, entries_in, events_in}
+use Rattle.group_layout.specs.Within.{turns_in}
 use Rattle.group_layout.proofs.Moves.{entries-logged, log-moved, run-moved, turns-moved, world-moved}
 
 module _ (s : Dimensions) (count : ℕ) (moves : List Move) (limits : IsShape s) (may : MayAllMove (opening_groups s count) moves) where
@@ -46,7 +47,7 @@ module _ (s : Dimensions) (count : ℕ) (moves : List Move) (limits : IsShape s)
     entries-are : entries_in j g.log ≡ (after s es).log
     entries-are = ap (entries_in j) log-is ∙ entries-logged j (turns_made start moves) ∙ ap log_of turns-are ∙ sym holds.one_log.kept
 
-    makes-a-run : MakesARun s g (turns_made start moves) j
+    pub makes-a-run : MakesARun s g (turns_made start moves) j
     makes-a-run = record {
       events = es;
       run = runs;

@@ -1,3 +1,4 @@
 pub mod Cluster
 pub mod Layout
 pub mod Promise
+pub mod Within

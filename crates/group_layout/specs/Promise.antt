@@ -1,31 +1,27 @@
 -- What is promised of a cluster: each group makes a run of its own, which has the whole headline, and the cluster's
 -- log is that of its groups.
-use Rattle.std.specs.Prelude.{ℕ, ◌≡◌, ◌<◌, ◌≤◌, ◌==◌, List, [], ◌∷◌}
+use Rattle.std.specs.Prelude.{ℕ, ◌≡◌, ◌<◌, ◌≤◌, List, All}
 use Rattle.group_types.specs.Dimensions.{Dimensions}
 use Rattle.group_types.specs.Shape.{IsShape}
+use Rattle.memc_table.specs.Act.{key_of}
 use Rattle.membership.specs.Members.{count_dead}
 use Rattle.group_calls.specs.Log.{IsLegal}
-use Rattle.group_calls.specs.Turns.{Turn}
 use Rattle.group_calls.specs.declared.entry.Entry.{Entry}
 use Rattle.group_calls.specs.declared.event.Event.{Event}
 use Rattle.group_run.specs.Headline.{Headline, IsRun}
 use Rattle.group_run.specs.Meaning.{IsDown}
-use Rattle.group_run.specs.World.{after, front_if, turns_of}
+use Rattle.group_run.specs.World.{after, turns_of}
 use Rattle.group_layout.specs.Cluster.{Cluster, ClusterEntry, GroupTurn, Groups, IsLayout, MayAllHappen, MayAllMove, Move, all_moved, cluster_after, cluster_turns, logged_in, opening_cluster, opening_groups, turns_made, world_in}
+use Rattle.group_layout.specs.Layout.{group_of}
+use Rattle.group_layout.specs.Within.{ClusterAnswersWithin, of_group, turns_in}
 use Rattle.group_layout.specs.declared.event.ClusterEvent.{ClusterEvent}
 
--- what is one group's among moves, turns and entries
+-- a group's events among moves, and its entries
 abbrev pub events_in : ℕ → List Move → List Event
-events_in j [] = []
-events_in j (m ∷ ms) = front_if (m.group == j) m.event (events_in j ms)
-
-abbrev pub turns_in : ℕ → List GroupTurn → List Turn
-turns_in j [] = []
-turns_in j (t ∷ ts) = front_if (t.group == j) t.turn (turns_in j ts)
+events_in j moves = of_group (λ m. m.group) (λ m. m.event) j moves
 
 abbrev pub entries_in : ℕ → List ClusterEntry → List Entry
-entries_in j [] = []
-entries_in j (e ∷ es) = front_if (e.0 == j) e.1 (entries_in j es)
+entries_in j entries = of_group (λ e. e.0) (λ e. e.1) j entries
 
 -- a group makes a run of its own: it stands as the run leaves it, its turns and its part of the log are the run's,
 -- its part of the log is legal, and the headline holds
@@ -58,3 +54,17 @@ abbrev pub FewFailuresAreBorne : Type 0
 FewFailuresAreBorne = (s : Dimensions) (n count : ℕ) (es : List ClusterEvent) → IsShape s → IsLayout s n count → MayAllHappen (opening_cluster s n count) es
     → count_dead (cluster_after (opening_cluster s n count) es).failed ≤ s.m
     → (j : ℕ) → j < count → ¬ (IsDown (world_in (cluster_after (opening_cluster s n count) es).groups j))
+
+-- the answers of a cluster, whatever events happen
+abbrev pub AnswersAreWithin : Type 0
+AnswersAreWithin = (s : Dimensions) (n count : ℕ) (es : List ClusterEvent) → IsShape s → IsLayout s n count → MayAllHappen (opening_cluster s n count) es
+    → ClusterAnswersWithin s.k (cluster_turns (opening_cluster s n count) es)
+
+-- each entry of the log is of its key's group, so the groups' tables have no key in common: they are one table, with a
+-- count for each group and partition
+abbrev pub IsOwn : ℕ → ℕ → ClusterEntry → Type 0
+IsOwn k count entry = group_of (key_of entry.1.op.act) k count ≡ entry.0
+
+abbrev pub EntriesAreOwn : Type 0
+EntriesAreOwn = (s : Dimensions) (n count : ℕ) (es : List ClusterEvent) → IsShape s → IsLayout s n count → MayAllHappen (opening_cluster s n count) es
+    → All (IsOwn s.k count) (cluster_after (opening_cluster s n count) es).groups.log

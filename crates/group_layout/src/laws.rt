@@ -1,5 +1,5 @@
 ghost use Rattle.group_layout.specs.Layout.{OneANode};
-ghost use Rattle.group_layout.specs.Promise.{ClustersAreRuns, FewFailuresAreBorne, MovesAreRuns};
+ghost use Rattle.group_layout.specs.Promise.{AnswersAreWithin, ClustersAreRuns, EntriesAreOwn, FewFailuresAreBorne, MovesAreRuns};
 
 /// No two processes of a group stand on one node.
 #[tactic(auto, using(crate::proofs::Places::one_a_node))]
@@ -23,4 +23,16 @@ pub fn clusters_are_runs()
 #[tactic(auto, using(crate::proofs::Failing::few_failures_are_borne))]
 pub fn few_failures_are_borne()
     ensures { FewFailuresAreBorne }
+{}
+
+/// Each answered call stands in the cluster's log once, between its asking and its answering.
+#[tactic(auto, using(crate::proofs::Answers::answers_are_within))]
+pub fn answers_are_within()
+    ensures { AnswersAreWithin }
+{}
+
+/// Each entry of the cluster's log is of its key's group.
+#[tactic(auto, using(crate::proofs::Owning::entries_are_own))]
+pub fn entries_are_own()
+    ensures { EntriesAreOwn }
 {}
