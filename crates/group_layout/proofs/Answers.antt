@@ -1,7 +1,5 @@
 -- Answers of a cluster along every list of its events.
-use Rattle.std.proofs.Common.{ℕ, ◌≡◌, List, refl, sym, ap, subst, ◌∙◌}
-use Rattle.group_types.specs.Dimensions.{Dimensions}
-use Rattle.group_calls.specs.Turns.{Turn}
+use Rattle.std.proofs.Common.{◌≡◌, List, sym, ap, subst, ◌∙◌}
 use Rattle.group_calls.specs.Within.{AnswersWithin}
 use Rattle.group_run.specs.World.{turns_of}
 use Rattle.group_layout.specs.Cluster.{Cluster, Move, all_moved, cluster_turns, opening_cluster, turns_made}

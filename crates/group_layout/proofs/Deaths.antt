@@ -5,7 +5,6 @@ use Rattle.group_types.specs.Dimensions.{Dimensions}
 use Rattle.group_types.specs.Lists.{at, put}
 use Rattle.group_types.specs.Names.{index_of, process_at}
 use Rattle.group_types.specs.declared.process.ProcessId.{ProcessId}
-use Rattle.membership.specs.Members.{count_dead}
 use Rattle.group_message.specs.declared.message.Message.{Message}
 use Rattle.group_calls.specs.declared.event.Answer.{Answer}
 use Rattle.group_calls.specs.declared.event.Event.{Event}
@@ -14,7 +13,7 @@ use Rattle.group_run.specs.Applying.{head_at}
 use Rattle.group_run.specs.Asking.{CallStep, ask_process, collect_from, fate_of}
 use Rattle.group_run.specs.Process.{Node}
 use Rattle.group_run.specs.Receiving.{receive}
-use Rattle.group_run.specs.World.{DeliveryStep, World, all_change, dead_nodes, deliver_nodes, delivered, flush_process, if_up, next_name, node_after, node_failed, node_in, node_of, nodes_told, opening, opening_node, step, treated, unchanged, with_down, with_node}
+use Rattle.group_run.specs.World.{DeliveryStep, World, all_change, dead_nodes, deliver_nodes, delivered, flush_process, if_up, next_name, node_after, node_failed, node_of, nodes_told, opening, opening_node, step, treated, unchanged, with_down, with_node}
 use Rattle.law_moves.proofs.Events.{emptied-dead}
 use Rattle.group_layout.specs.Cluster.{IsFailure}
 

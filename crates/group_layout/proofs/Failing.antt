@@ -1,17 +1,14 @@
 -- A group has no more dead processes than nodes have failed.
-use Rattle.std.proofs.Common.{ℕ, zero, suc, ◌≡◌, ◌≢◌, ◌<◌, ◌≤◌, ◌+◌, ◌==◌, Bool, true, false, List, [], ◌∷◌, ◌++◌, length, replicate, Option, Some, None, ◌⊎◌, inl, inr, if◌then◌else◌, refl, sym, ap, subst, ◌∙◌, arith}
+use Rattle.std.proofs.Common.{ℕ, zero, suc, ◌≡◌, ◌≢◌, ◌<◌, ◌≤◌, ◌+◌, Bool, true, false, List, [], ◌∷◌, ◌++◌, length, replicate, Option, Some, None, inl, inr, if◌then◌else◌, refl, ap, subst, ◌∙◌, arith}
 use Rattle.std.specs.List.{range_with_len}
 use Rattle.group_types.specs.Dimensions.{Dimensions}
 use Rattle.group_types.specs.Lists.{at, put}
 use Rattle.group_types.specs.Names.{process_at}
-use Rattle.group_types.specs.Shape.{IsShape}
 use Rattle.group_types.proofs.Lists.{at-replicate}
 use Rattle.membership.specs.Members.{count_dead}
-use Rattle.group_calls.specs.declared.event.Event.{Event}
 use Rattle.group_calls.specs.declared.event.Event.TheVariants.{Fail}
-use Rattle.group_run.specs.Meaning.{IsDown}
 use Rattle.group_run.specs.World.{World, dead_nodes, opening, step}
-use Rattle.group_layout.specs.Cluster.{Cluster, Groups, IsFailure, IsLayout, MayAllHappen, MayHappen, Move, all_moved, cluster_after, cluster_step, failed_after, failure_of, failures, move_unless, moved, moves_of, node_failure, opening_cluster, opening_groups, other_group, world_in}
+use Rattle.group_layout.specs.Cluster.{Cluster, Groups, IsFailure, MayAllHappen, MayHappen, Move, all_moved, cluster_after, cluster_step, failure_of, failures, move_unless, moved, moves_of, node_failure, opening_cluster, other_group, world_in}
 use Rattle.group_layout.specs.Layout.{process_on}
 use Rattle.group_layout.specs.Promise.{FewFailuresAreBorne}
 use Rattle.group_layout.specs.declared.event.ClusterEvent.{ClusterEvent}

@@ -1,16 +1,13 @@
 -- Events of a cluster, as moves of its groups.
-use Rattle.std.proofs.Common.{ℕ, zero, suc, ◌≡◌, ◌≢◌, ◌<◌, ◌≤◌, ◌+◌, ◌==◌, Bool, true, false, List, [], ◌∷◌, ◌++◌, length, replicate, Option, Some, None, ◌⊎◌, inl, inr, if◌then◌else◌, refl, sym, ap, subst, ◌∙◌, arith}
+use Rattle.std.proofs.Common.{ℕ, zero, suc, ◌≡◌, ◌<◌, ◌≤◌, ◌+◌, ◌==◌, Bool, true, false, List, [], ◌∷◌, ◌++◌, length, replicate, Option, Some, None, inl, inr, if◌then◌else◌, refl, sym, ap, subst, ◌∙◌, arith}
 use Rattle.std.specs.List.{range_with_len}
 use Rattle.group_types.specs.Dimensions.{Dimensions}
 use Rattle.group_types.specs.Lists.{at}
 use Rattle.group_types.specs.Names.{IsProcess, process_at}
 use Rattle.group_types.proofs.Lists.{at-put, at-put-other, at-replicate, length-put}
 use Rattle.group_types.proofs.Names.{process_at-in}
-use Rattle.group_calls.specs.declared.event.Event.{Event}
-use Rattle.group_calls.specs.declared.event.Event.TheVariants.{Fail}
-use Rattle.group_run.specs.Headline.{MayCome}
 use Rattle.group_run.specs.World.{World, opening, step}
-use Rattle.group_layout.specs.Cluster.{Cluster, GroupTurn, Groups, IsLayout, MayAllHappen, MayAllMove, MayHappen, MayMove, Move, all_moved, cluster_after, cluster_step, cluster_turns, failure_of, failures, move_unless, moved, moves_of, node_failure, opening_cluster, opening_groups, other_group, turn_of, turns_made, world_in}
+use Rattle.group_layout.specs.Cluster.{Cluster, GroupTurn, Groups, MayAllHappen, MayAllMove, MayHappen, MayMove, Move, all_moved, cluster_after, cluster_step, cluster_turns, failure_of, failures, move_unless, moved, moves_of, node_failure, opening_cluster, opening_groups, other_group, turn_of, turns_made, world_in}
 use Rattle.group_layout.specs.Layout.{first_on, node_of, process_on}
 use Rattle.group_layout.specs.Promise.{AreRuns, ClustersAreRuns}
 use Rattle.group_layout.specs.declared.event.ClusterEvent.{ClusterEvent}

@@ -3,8 +3,10 @@ pub mod Answers
 pub mod Deaths
 pub mod Failing
 pub mod Happening
+pub mod Legals
 pub mod Moves
 pub mod Owning
 pub mod Picked
 pub mod Places
 pub mod Runs
+pub mod Tables

@@ -1,13 +1,10 @@
 -- Moves of groups, seen by one group.
-use Rattle.std.proofs.Common.{ℕ, ◌≡◌, ◌≢◌, ◌<◌, ◌==◌, Bool, true, false, List, [], ◌∷◌, ◌++◌, length, map, ◌⊎◌, inl, inr, refl, sym, ap, subst, ◌∙◌}
+use Rattle.std.proofs.Common.{ℕ, ◌≡◌, ◌≢◌, ◌==◌, Bool, true, false, List, [], ◌∷◌, ◌++◌, ◌⊎◌, inl, inr, refl, sym, ap, subst, ◌∙◌}
 use Rattle.std.proofs.lemmas.Bool.{cases_eq, eq-eqb, ne_eqb}
 use Rattle.std.proofs.lemmas.List.{append_assoc, append-nil}
-use Rattle.group_types.specs.Dimensions.{Dimensions}
-use Rattle.group_types.specs.Lists.{at}
 use Rattle.group_types.proofs.Lists.{at-put, at-put-other}
-use Rattle.group_calls.specs.Turns.{Turn, log_of}
+use Rattle.group_calls.specs.Turns.{log_of}
 use Rattle.group_calls.specs.declared.entry.Entry.{Entry}
-use Rattle.group_calls.specs.declared.event.Event.{Event}
 use Rattle.group_run.specs.Headline.{IsRunFrom, MayCome}
 use Rattle.group_run.specs.World.{World, front_if, opening, step, turns_from, world_after}
 use Rattle.group_layout.specs.Cluster.{ClusterEntry, GroupTurn, Groups, MayAllMove, Move, all_moved, logged_in, moved, tagged, turn_of, turns_made, world_in}

@@ -1,5 +1,5 @@
 -- Calls that are asked are of their keys' group, and so are the entries of the log.
-use Rattle.std.proofs.Common.{ℕ, zero, suc, ◌≡◌, ◌≢◌, ◌<◌, ◌+◌, ◌==◌, Bool, true, false, List, [], ◌∷◌, ◌++◌, All, length, Option, Some, None, ◌⊎◌, inl, inr, if◌then◌else◌, refl, sym, ap, subst, ◌∙◌, arith}
+use Rattle.std.proofs.Common.{ℕ, zero, suc, ◌≡◌, ◌+◌, ◌==◌, Bool, true, false, List, [], ◌∷◌, ◌++◌, length, Option, Some, None, ◌⊎◌, inl, inr, if◌then◌else◌, refl, sym, ap, subst, ◌∙◌, arith}
 use Rattle.std.specs.Prelude.{Contains, slice_get, slice_index_or}
 use Rattle.std.specs.List.{range_with_len}
 use Rattle.std.proofs.lemmas.Bool.{eqb-true}
@@ -7,16 +7,14 @@ use Rattle.std.proofs.lemmas.Option.{slice_get-get_or}
 use Rattle.group_types.specs.Dimensions.{Dimensions}
 use Rattle.group_types.specs.Each.{Each}
 use Rattle.group_types.specs.Lists.{at}
-use Rattle.group_types.specs.Names.{process_at}
 use Rattle.memc_table.specs.Act.{key_of}
 use Rattle.memc_table.specs.Asked.{Asked}
-use Rattle.group_calls.specs.Turns.{name_of}
 use Rattle.group_calls.specs.declared.entry.Entry.{Entry}
 use Rattle.group_calls.specs.declared.event.Event.{Event}
 use Rattle.group_calls.specs.declared.event.Event.TheVariants.{Ask, Collect, Deliver, Fail, Flush, Trace}
-use Rattle.group_layout.specs.Cluster.{Cluster, ClusterEntry, GroupTurn, Groups, MayAllHappen, Move, all_moved, cluster_after, cluster_step, cluster_turns, failure_of, failures, logged_in, move_unless, moved, moves_of, node_failure, opening_cluster, other_group, tagged, turn_of, turns_made, unless_own}
+use Rattle.group_layout.specs.Cluster.{Cluster, ClusterEntry, GroupTurn, Groups, MayAllHappen, Move, cluster_after, cluster_step, cluster_turns, failure_of, failures, logged_in, move_unless, moved, moves_of, node_failure, opening_cluster, tagged, turns_made, unless_own}
 use Rattle.group_layout.specs.Layout.{group_of, process_on}
-use Rattle.group_layout.specs.Promise.{AreRuns, ClustersAreRuns, EntriesAreOwn, IsOwn}
+use Rattle.group_layout.specs.Promise.{AreRuns, EntriesAreOwn}
 use Rattle.group_layout.specs.Within.{ClusterAnswersWithin}
 use Rattle.group_layout.specs.declared.event.ClusterEvent.{ClusterEvent}
 use Rattle.group_layout.specs.declared.event.ClusterEvent.TheVariants.{FailNode, InGroup}

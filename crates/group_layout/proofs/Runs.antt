@@ -1,16 +1,15 @@
 -- Each group makes a run of its own.
-use Rattle.std.proofs.Common.{ℕ, ◌≡◌, ◌<◌, List, [], ◌∷◌, length, replicate, refl, sym, ap, subst, ◌∙◌}
+use Rattle.std.proofs.Common.{ℕ, ◌≡◌, List, sym, ap, subst, ◌∙◌}
 use Rattle.group_types.specs.Dimensions.{Dimensions}
 use Rattle.group_types.specs.Shape.{IsShape}
 use Rattle.group_types.proofs.Lists.{at-replicate}
 use Rattle.group_calls.specs.Log.{IsLegal}
-use Rattle.group_calls.specs.Turns.{Turn, log_of}
-use Rattle.group_calls.specs.declared.entry.Entry.{Entry}
+use Rattle.group_calls.specs.Turns.{log_of}
 use Rattle.group_calls.specs.declared.event.Event.{Event}
 use Rattle.group_run.specs.Headline.{Headline, IsRun, IsRunFrom}
 use Rattle.group_run.specs.World.{World, after, opening, turns_from, turns_of, world_after}
 use Rattle.law_headline.proofs.Headlines.{headline_always}
-use Rattle.group_layout.specs.Cluster.{ClusterEntry, GroupTurn, Groups, MayAllMove, Move, all_moved, logged_in, opening_groups, turns_made, world_in}
+use Rattle.group_layout.specs.Cluster.{Groups, MayAllMove, Move, all_moved, logged_in, opening_groups, turns_made, world_in}
 use Rattle.group_layout.specs.Promise.{AreRuns, MakesARun, MovesAreRuns, entries_in, events_in}
 use Rattle.group_layout.specs.Within.{turns_in}
 use Rattle.group_layout.proofs.Moves.{entries-logged, log-moved, run-moved, turns-moved, world-moved}

@@ -11,8 +11,9 @@ use Rattle.group_calls.specs.declared.event.Event.{Event}
 use Rattle.group_run.specs.Headline.{Headline, IsRun}
 use Rattle.group_run.specs.Meaning.{IsDown}
 use Rattle.group_run.specs.World.{after, turns_of}
-use Rattle.group_layout.specs.Cluster.{Cluster, ClusterEntry, GroupTurn, Groups, IsLayout, MayAllHappen, MayAllMove, Move, all_moved, cluster_after, cluster_turns, logged_in, opening_cluster, opening_groups, turns_made, world_in}
+use Rattle.group_layout.specs.Cluster.{ClusterEntry, GroupTurn, Groups, IsLayout, MayAllHappen, MayAllMove, Move, all_moved, cluster_after, cluster_turns, logged_in, opening_cluster, opening_groups, turns_made, world_in}
 use Rattle.group_layout.specs.Layout.{group_of}
+use Rattle.group_layout.specs.Legal.{IsClusterLegal}
 use Rattle.group_layout.specs.Within.{ClusterAnswersWithin, of_group, turns_in}
 use Rattle.group_layout.specs.declared.event.ClusterEvent.{ClusterEvent}
 
@@ -60,11 +61,15 @@ abbrev pub AnswersAreWithin : Type 0
 AnswersAreWithin = (s : Dimensions) (n count : ℕ) (es : List ClusterEvent) → IsShape s → IsLayout s n count → MayAllHappen (opening_cluster s n count) es
     → ClusterAnswersWithin s.k (cluster_turns (opening_cluster s n count) es)
 
--- each entry of the log is of its key's group, so the groups' tables have no key in common: they are one table, with a
--- count for each group and partition
+-- each entry of the log is of its key's group
 abbrev pub IsOwn : ℕ → ℕ → ClusterEntry → Type 0
 IsOwn k count entry = group_of (key_of entry.1.op.act) k count ≡ entry.0
 
 abbrev pub EntriesAreOwn : Type 0
 EntriesAreOwn = (s : Dimensions) (n count : ℕ) (es : List ClusterEvent) → IsShape s → IsLayout s n count → MayAllHappen (opening_cluster s n count) es
     → All (IsOwn s.k count) (cluster_after (opening_cluster s n count) es).groups.log
+
+-- the log is legal: its replies are those of one table over all keys
+abbrev pub LogsAreLegal : Type 0
+LogsAreLegal = (s : Dimensions) (n count : ℕ) (es : List ClusterEvent) → IsShape s → IsLayout s n count → MayAllHappen (opening_cluster s n count) es
+    → IsClusterLegal s.k (cluster_after (opening_cluster s n count) es).groups.log

@@ -1,5 +1,5 @@
 ghost use Rattle.group_layout.specs.Layout.{OneANode};
-ghost use Rattle.group_layout.specs.Promise.{AnswersAreWithin, ClustersAreRuns, EntriesAreOwn, FewFailuresAreBorne, MovesAreRuns};
+ghost use Rattle.group_layout.specs.Promise.{AnswersAreWithin, ClustersAreRuns, EntriesAreOwn, FewFailuresAreBorne, LogsAreLegal, MovesAreRuns};
 
 /// No two processes of a group stand on one node.
 #[tactic(auto, using(crate::proofs::Places::one_a_node))]
@@ -35,4 +35,10 @@ pub fn answers_are_within()
 #[tactic(auto, using(crate::proofs::Owning::entries_are_own))]
 pub fn entries_are_own()
     ensures { EntriesAreOwn }
+{}
+
+/// The cluster's log is legal: its replies are those of one memcached table over all keys.
+#[tactic(auto, using(crate::proofs::Tables::logs_are_legal))]
+pub fn logs_are_legal()
+    ensures { LogsAreLegal }
 {}
