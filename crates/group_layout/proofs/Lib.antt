@@ -1,0 +1,12 @@
+pub mod Answering
+pub mod Answers
+pub mod Deaths
+pub mod Failing
+pub mod Happening
+pub mod Legals
+pub mod Moves
+pub mod Owning
+pub mod Picked
+pub mod Places
+pub mod Runs
+pub mod Tables

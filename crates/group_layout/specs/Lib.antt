@@ -1,0 +1,5 @@
+pub mod Cluster
+pub mod Layout
+pub mod Legal
+pub mod Promise
+pub mod Within
