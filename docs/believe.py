@@ -8,6 +8,7 @@ nothing, and says whether the page is up to date.
 import re
 import sys
 from pathlib import Path
+from textwrap import fill
 
 TOP = Path(__file__).resolve().parent.parent
 ROOTS = [
@@ -165,7 +166,8 @@ def page(all_modules):
             row[1].append(name)
         known |= set(order) | set(types)
         begun = ", ".join(f"`{name}`" for _, _, name in roots)
-        out += ["", f"## {title}", "", f"From {begun}: {count} definitions and types, {lines} lines with their comments.", "", "| file | lines | of it |", "|---|---|---|"]
+        told_of = f"From {begun}: {count} definitions and types, {lines} lines with their comments."
+        out += ["", f"## {title}", "", fill(told_of, 140), "", "| file | lines | of it |", "|---|---|---|"]
         for (_, path), (long, names_there) in sorted(rows.items()):
             out.append(f"| `{path.removeprefix('crates/')}` | {long} | {told(names_there)} |")
     return "\n".join(out) + "\n"
