@@ -4,9 +4,6 @@
 //! what a person reads on standard error.
 #![tactic(auto)]
 
-ghost use Rattle.std.specs.Prelude.{◌≡◌, drop, IfOk};
-ghost use Rattle.std.specs.Vec.Iter.{into_iter_items};
-
 use edge_io::{MemoryListener, ReadEdge, SystemClock, WriteEdge, write_all};
 use group_program::{Status, exit_of, help_at, run_program, tell};
 use std::alloc::{AllocError, Global};
@@ -42,9 +39,7 @@ fn main(rt: HostRuntime) -> ExitCode {
 }
 
 /// The words behind the program's name, which is the first of all.
-fn behind_name(alloc: Global, all: Args) -> Result<Vec<String>, AllocError>
-    ensures { IfOk result (λ words. words.items ≡ drop 1 (into_iter_items all)) }
-{
+fn behind_name(alloc: Global, all: Args) -> Result<Vec<String>, AllocError> {
     let mut words = all;
     words.next();
     words.collect(alloc)

@@ -1,5 +1,6 @@
 use std::alloc::{AllocError, Global};
 use std::rt::Files;
+use std::str::Split;
 use std::{fs, io};
 
 /// A dialogue with the program.
@@ -48,10 +49,7 @@ fn file_of<R: Files + AllocGlobal>(
     fs::read(rt, path.as_str())
 }
 
-fn owned<'a, I: Iterator<Item = &'a str>>(
-    alloc: Global,
-    words: I,
-) -> Result<Vec<String>, AllocError> {
+fn owned(alloc: Global, words: Split<'_, char>) -> Result<Vec<String>, AllocError> {
     let mut all = Vec::new(alloc);
     for word in words {
         all.push(String::from_str(alloc, word)?)?;
