@@ -4,7 +4,7 @@ use group_calls::Event;
 use group_core::World;
 use group_types::{Key, Payload, ProcessId, Shape};
 use memc_table::{Act, Op};
-use std::alloc::{AllocError, Global};
+use std::alloc::Global;
 use std::test::Fail;
 
 const D0: ProcessId = ProcessId::DataNode(0);
@@ -76,7 +76,7 @@ fn logged_over_losses(alloc: Global, before: usize) -> Result<Option<usize>, Fai
     let mut logged = 0usize;
     for at in PROCESSES {
         for keep in KEPT {
-            match logged_after(alloc, before, Event::Fail { at, keep })? {
+            match logged_after(alloc, before, at, keep)? {
                 Some(sets) => logged = logged.saturating_add(sets),
                 None => return Ok(None),
             }
@@ -85,18 +85,28 @@ fn logged_over_losses(alloc: Global, before: usize) -> Result<Option<usize>, Fai
     Ok(Some(logged))
 }
 
-fn logged_after(alloc: Global, before: usize, loss: Event) -> Result<Option<usize>, Fail> {
+fn logged_after(
+    alloc: Global,
+    before: usize,
+    at: ProcessId,
+    keep: u32,
+) -> Result<Option<usize>, Fail> {
     let mut world = World::new(alloc, Shape::new(3, 2, 1, 16)?)?;
-    if !all_happen(alloc, &mut world, before, &loss)? {
+    if !all_happen(alloc, &mut world, before, (at, keep))? {
         return Ok(None);
     }
     sets_read_back(alloc, world)
 }
 
 // Makes the events, with a loss before the one of this number.
-fn all_happen(alloc: Global, world: &mut World, before: usize, loss: &Event) -> Result<bool, Fail> {
+fn all_happen(
+    alloc: Global,
+    world: &mut World,
+    before: usize,
+    loss: (ProcessId, u32),
+) -> Result<bool, Fail> {
     for (number, &(what, at, _)) in RUN.iter().enumerate() {
-        if number == before && !happens(world, loss)? {
+        if number == before && !is_lost(world, loss.0, loss.1)? {
             return Ok(false);
         }
         if !is_made(alloc, world, what, at)? {
@@ -106,12 +116,16 @@ fn all_happen(alloc: Global, world: &mut World, before: usize, loss: &Event) -> 
     Ok(true)
 }
 
-fn is_made(alloc: Global, world: &mut World, what: What, at: ProcessId) -> Result<bool, Fail> {
-    let event = event(alloc, what, at)?;
-    Ok(happens(world, &event)?)
+fn is_lost(world: &mut World, at: ProcessId, keep: u32) -> Result<bool, Fail> {
+    happens(world, &Event::Fail { at, keep })
 }
 
-fn happens(world: &mut World, event: &Event) -> Result<bool, AllocError> {
+fn is_made(alloc: Global, world: &mut World, what: What, at: ProcessId) -> Result<bool, Fail> {
+    let event = event(alloc, what, at)?;
+    happens(world, &event)
+}
+
+fn happens(world: &mut World, event: &Event) -> Result<bool, Fail> {
     if 1 << 62 <= world.events() || !world.may_come(event) {
         return Ok(false);
     }
