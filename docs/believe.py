@@ -63,6 +63,10 @@ class Module:
     def cited(self, name):
         """The places and names that a definition cites, as (crate, module, name)."""
         text = "\n".join(line for line in self.definitions[name] if not line.startswith("--"))
+        for operator in {it for it in [*self.imports, *self.definitions] if "◌" in it and it != name}:
+            # a `do` block binds by >>=
+            if operator.replace("◌", "") in text or operator == "◌>>=◌" and "←" in text:
+                yield *self.imports.get(operator, (self.crate, self.name)), operator
         for word in set(WORD.findall(text)):
             if word in self.imports:
                 yield *self.imports[word], word
