@@ -1,7 +1,7 @@
 #!/bin/sh
-# Refuses each allocation of a command in turn: of each example's script, and of a connection that loses two processes. The status is
-# that of the command or 9, and what was written is then a front of the command's text and the line `fault: memory`. It runs by hand,
-# with a C compiler, over the executable that `rt run` leaves: sh bench/refused.sh [PROGRAM]
+# Refuses each allocation of a command in turn: of each example's script, of a connection that loses two processes, and of a stream of
+# two messages and a bad frame. The status is that of the command or 9, and what was written is then a front of the command's text and
+# the line `fault: memory`. It runs by hand, with a C compiler, over the executable that `rt run` leaves: sh bench/refused.sh [PROGRAM]
 set -eu
 top=$(cd "$(dirname "$0")/.." && pwd)
 program=${1:-$top/crates/cocytus_main/out/cocytus_main}
@@ -10,6 +10,12 @@ trap 'rm -rf "$work"' EXIT
 cc -O2 -shared -fPIC -o "$work/refuse.so" "$top/bench/refused/refuse.c"
 
 printf 'set a 0 0 1\r\nA\r\nset b 0 0 2\r\nBB\r\nappend a 0 0 1\r\nC\r\ncocytus_fail d0 0\r\nget a b\r\nset a 0 0 1\r\nD\r\ncocytus_fail d1 0\r\nget a b\r\nincr a 1\r\ndelete b\r\nquit\r\n' > "$work/connection"
+
+{
+    printf '\000\000\000\073\001\000\001\000\000\000\000\000\000\000\007\002\000\000\000\000\000\000\000\011\003key'
+    printf '\000\000\000\000\005\000\000\000\000\020\000\000\000\007\000\000\000\007\001\002\003\004\005\006\007'
+    printf '\000\000\000\000\000\000\000\000\000\006\000\000\000\003\012\001\000\000\000\000\003\013\001\000'
+} > "$work/stream"
 
 # Runs the words on an input, each allocation refused in turn.
 refuse() {
@@ -36,3 +42,4 @@ refuse() {
 
 for script in "$top"/examples/*.script; do refuse "$script" play; done
 refuse "$work/connection" session 4 2 16 16
+refuse "$work/stream" frames

@@ -7,7 +7,7 @@ use Rattle.clap.specs.Walk.{is_empty}
 use Rattle.clap.specs.Words.{App, Row, Text, fault_of, matches_of, one_of}
 use Rattle.command_line.specs.Parsers.{bare, most_32, most_64, number_app, session_app}
 use Rattle.command_line.specs.declared.command.Command.{Command}
-use Rattle.command_line.specs.declared.command.Command.TheVariants.{Make, Play, Session, Trial}
+use Rattle.command_line.specs.declared.command.Command.TheVariants.{Frames, Make, Play, Session, Trial}
 
 -- the number that a text writes in decimal digits, behind a plus or not
 abbrev pub number_up_to : ℕ → Text → Option ℕ
@@ -21,8 +21,9 @@ number_at most rows id = option_and_then (number_up_to most) (one_of id rows)
 abbrev pub if_taken : {X : Type 0} → App → List Text → Option X → Option X
 if_taken app words said = if is_empty (fault_of app words) then said else None
 
-abbrev pub play_of : List Text → Option Command
-play_of words = if_taken (bare (codes "play")) words (Some Play)
+-- a command that has no argument
+abbrev pub bare_of : Text → Command → List Text → Option Command
+bare_of name command words = if_taken (bare name) words (Some command)
 
 abbrev pub session_with : Option ℕ → Option ℕ → Option ℕ → Option ℕ → Option Command
 session_with (Some k) (Some m) (Some blocks) (Some block) = Some (Session k m blocks block)
@@ -41,10 +42,11 @@ number_of name words = if_taken (number_app name) words (number_at most_64 (matc
 
 abbrev pub command_at : Text → List Text → Option Command
 command_at word words =
-    if bytes_eq word (codes "play") then play_of words
+    if bytes_eq word (codes "play") then bare_of word Play words
     else if bytes_eq word (codes "session") then session_of words
     else if bytes_eq word (codes "make") then option_map Make (number_of word words)
     else if bytes_eq word (codes "trial") then option_map Trial (number_of word words)
+    else if bytes_eq word (codes "frames") then bare_of word Frames words
     else None
 
 abbrev pub command_of : List Text → Option Command

@@ -18,4 +18,6 @@ pub enum Command {
     Trial {
         number: u64,
     },
+    /// Reads a stream of frames, and writes a line for each message.
+    Frames,
 }

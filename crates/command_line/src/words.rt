@@ -2,7 +2,7 @@ ghost use Rattle.std.specs.Prelude.{◌≡◌, ◌≢◌, true, [], Some, None, 
 ghost use Rattle.std.specs.String.{string_bytes};
 ghost use Rattle.clap.specs.Words.{app_of, fault_of, found_of, is_simple_and_free, matches_of, rows_of};
 ghost use Rattle.command_line.specs.Parsers.{most_32, most_64};
-ghost use Rattle.command_line.specs.Words.{command_of, number_at, number_of, play_of, session_of, session_with};
+ghost use Rattle.command_line.specs.Words.{bare_of, command_of, number_at, number_of, session_of, session_with};
 
 use crate::command::Command;
 use crate::fault::WordsFault;
@@ -19,20 +19,27 @@ pub fn read_words(alloc: Global, words: &[String]) -> Result<Command, WordsFault
         return Err(WordsFault::BadWords);
     };
     match word.as_str() {
-        "play" => read_play(alloc, rest),
+        "play" => read_bare(alloc, "play", Command::Play, rest),
         "session" => read_session(alloc, rest),
         "make" => read_make(alloc, rest),
         "trial" => read_trial(alloc, rest),
+        "frames" => read_bare(alloc, "frames", Command::Frames, rest),
         _ => Err(WordsFault::BadWords),
     }
 }
 
-fn read_play(alloc: Global, words: &[String]) -> Result<Command, WordsFault>
-    ensures ok { IfOk result (λ command. play_of (map string_bytes words.now) ≡ Some command) }
-    ensures bad_words { IsErrOf result WordsFault.BadWords → play_of (map string_bytes words.now) ≡ None }
+/// Reads the words of a command that has no argument.
+fn read_bare(
+    alloc: Global,
+    name: &str,
+    command: Command,
+    words: &[String],
+) -> Result<Command, WordsFault>
+    ensures ok { IfOk result (λ said. bare_of name.now command (map string_bytes words.now) ≡ Some said) }
+    ensures bad_words { IsErrOf result WordsFault.BadWords → bare_of name.now command (map string_bytes words.now) ≡ None }
 {
-    parse(parsers::bare(alloc, "play"), words)?;
-    Ok(Command::Play)
+    parse(parsers::bare(alloc, name), words)?;
+    Ok(command)
 }
 
 fn read_session(alloc: Global, words: &[String]) -> Result<Command, WordsFault>

@@ -1,3 +1,4 @@
+pub mod Frames
 pub mod Program
 pub mod Session
 pub mod Words

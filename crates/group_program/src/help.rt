@@ -6,6 +6,7 @@ const COMMANDS: &str = "usage: cocytus_main play < SCRIPT
        cocytus_main session <k> <m> <blocks> <block>
        cocytus_main make <n>
        cocytus_main trial <n>
+       cocytus_main frames < STREAM
 ";
 
 const LINES: &str = "is none of these, with words one space apart, ended by a line feed alone:
@@ -30,6 +31,9 @@ A process is d<n> or p<n>; a value is -, hexadecimal digits, or *<len>*<hh>.
 pub fn help_at(alloc: Global, status: Status) -> Result<String, AllocError> {
     match status {
         Status::BadLine(n) => format!(in alloc; "line {n} of the script {LINES}"),
+        Status::BadFrame(at) => {
+            format!(in alloc; "the frame at byte {at} of the input is none of a message\n")
+        }
         Status::BadShape(field) => format!(in alloc; "{}\n", BadShape { field }),
         other => help_text(other).to_string(alloc),
     }
@@ -42,9 +46,9 @@ fn help_text(status: Status) -> &'static str {
         Status::ReadFault => "standard input could not be read\n",
         Status::WriteFault => "standard output could not be written\n",
         Status::Want => "there is not enough memory\n",
-        Status::Cut => "the input ended inside a request\n",
+        Status::Cut => "the input ended inside a request or a frame\n",
         Status::LineTooLong => "a line of a request has at most 32768 bytes\n",
-        Status::Worn => "a connection has at most 2^62 bytes\n",
+        Status::Worn => "a connection or a stream has at most 2^62 bytes\n",
         _ => "",
     }
 }

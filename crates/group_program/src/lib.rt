@@ -5,6 +5,7 @@
 
 mod ending;
 mod help;
+mod listing;
 mod program;
 mod serving;
 

@@ -9,6 +9,7 @@ ghost use Rattle.scenario_play.specs.Played.{HasPlayedWhole};
 ghost use Rattle.group_program.specs.Program.{HasRun, HasStopped};
 ghost use Rattle.group_program.specs.Words.{ReadsNothing};
 
+use crate::listing::list_frames;
 use crate::serving::serve_session;
 use command_line::{Command, WordsFault, read_words};
 use edge_io::{Clock, Listener, Sink, Source};
@@ -21,7 +22,8 @@ use std::alloc::Global;
 use std::sync::Wait;
 use std::thread::Threads;
 
-/// Runs the command that the words after the program's name ask for: `play`, `session`, `make` or `trial`.
+/// Runs the command that the words after the program's name ask for: `play`, `session`, `make`, `trial` or
+/// `frames`.
 pub fn run_program<R: Threads + Wait + Sync, S: Source, K: Sink, L: Listener, T: Clock>(
     rt: &R,
     alloc: Global,
@@ -48,6 +50,7 @@ pub fn run_program<R: Threads + Wait + Sync, S: Source, K: Sink, L: Listener, T:
         Ok(Command::Play) => play(alloc, source, sink),
         Ok(Command::Make { number }) => make(alloc, number, sink),
         Ok(Command::Trial { number }) => trial(alloc, number, sink),
+        Ok(Command::Frames) => list_frames(alloc, source, sink),
         Ok(
             Command::Session {
                 k,

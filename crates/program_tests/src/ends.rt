@@ -15,12 +15,19 @@ fn each_end_but_done_is_explained(rt: HostRuntime) -> Result<(), Fail> {
         (Status::ReadFault, "standard input could not be read\n"),
         (Status::WriteFault, "standard output could not be written\n"),
         (Status::Want, "there is not enough memory\n"),
-        (Status::Cut, "the input ended inside a request\n"),
+        (Status::Cut, "the input ended inside a request or a frame\n"),
         (
             Status::LineTooLong,
             "a line of a request has at most 32768 bytes\n",
         ),
-        (Status::Worn, "a connection has at most 2^62 bytes\n"),
+        (
+            Status::Worn,
+            "a connection or a stream has at most 2^62 bytes\n",
+        ),
+        (
+            Status::BadFrame(7),
+            "the frame at byte 7 of the input is none of a message\n",
+        ),
     ] {
         assert!(rt; help_at(rt.alloc(), status)?.starts_with(begin), "{begin}");
     }

@@ -12,6 +12,8 @@ mod ends;
 #[cfg(test)]
 mod faults;
 #[cfg(test)]
+mod frames;
+#[cfg(test)]
 mod limits;
 #[cfg(test)]
 mod runs;

@@ -15,7 +15,7 @@ use Rattle.scenario_play.specs.Outside.{EndsWith, Outside, StopsWithin, TellsFro
 use Rattle.scenario_play.specs.Played.{IsPlayed, IsWritten}
 use Rattle.scenario_play.specs.Status.{HasFaultOf, IsEarly, IsRefusal, IsTold, IsUnread, TellsOfScript, last_line, longest_script, told, told_at, told_of}
 use Rattle.scenario_play.specs.declared.status.Status.{Status}
-use Rattle.scenario_play.specs.declared.status.Status.TheVariants.{Done, BadWords, BadLine, BadShape, TooLong, ReadFault, WriteFault, Want, Cut, LineTooLong, Worn}
+use Rattle.scenario_play.specs.declared.status.Status.TheVariants.{Done, BadWords, BadLine, BadShape, TooLong, ReadFault, WriteFault, Want, Cut, LineTooLong, Worn, BadFrame}
 
 short : (n : ℕ) → n ≤ longest_script → nat_lt longest_script n ≡ false
 short n within = grind (arith, nat_tests)
@@ -61,6 +61,7 @@ module _ (a b : Outside) (text : List ℕ) (within : length text ≤ longest_scr
   fault Cut played = absurd played.0
   fault LineTooLong played = absurd played.0
   fault Worn played = absurd played.0
+  fault (BadFrame n) played = absurd played.0
   fault TooLong played = absurd played.0
   fault ReadFault played = absurd played.0
 
@@ -78,6 +79,7 @@ module _ (a b : Outside) (same : b.held ≡ a.held) where
   treated-unread Cut read = absurd read
   treated-unread LineTooLong read = absurd read
   treated-unread Worn read = absurd read
+  treated-unread (BadFrame n) read = absurd read
   treated-unread (BadLine n) read = absurd read
   treated-unread (BadShape f) read = absurd read
   treated-unread WriteFault read = absurd read
@@ -95,6 +97,7 @@ read-fault input now read_before read_now writes Want read = tt
 read-fault input now read_before read_now writes Cut read = tt
 read-fault input now read_before read_now writes LineTooLong read = tt
 read-fault input now read_before read_now writes Worn read = tt
+read-fault input now read_before read_now writes (BadFrame n) read = tt
 
 pub play-fault : (held held_now : List ℕ) (read_before read_now written_before written_now : ℕ) (text : List ℕ) (status : Status)
     → HasPlayed held held_now written_before written_now text (Err status) → HasFaultOf read_before read_now written_before written_now status
@@ -109,6 +112,7 @@ play-fault held held_now read_before read_now written_before written_now text Wa
 play-fault held held_now read_before read_now written_before written_now text Cut played = tt
 play-fault held held_now read_before read_now written_before written_now text LineTooLong played = tt
 play-fault held held_now read_before read_now written_before written_now text Worn played = tt
+play-fault held held_now read_before read_now written_before written_now text (BadFrame n) played = tt
 
 -- a status that was told is the one at the end, unless there was no memory
 pub came_from : (s status other : Status) → (status ≡ s) ⊎ (status ≡ Want) → status ≡ other → (other ≡ Want → ⊥) → s ≡ other
@@ -173,6 +177,7 @@ module _ (script : List ℕ) (a b c : Outside) (kept : c.input ≡ b.input) (rea
   is-told Cut end = absurd end.0
   is-told LineTooLong end = absurd end.0
   is-told Worn end = absurd end.0
+  is-told (BadFrame n) end = absurd end.0
 
   -- one byte more than a script may have was taken
   is-long : (s : Status) → HasEnded script a b (Err s) → length script ≡ 16777217 → (s ≡ TooLong) ⊎ (s ≡ Want)
@@ -187,6 +192,7 @@ module _ (script : List ℕ) (a b c : Outside) (kept : c.input ≡ b.input) (rea
   is-long Cut end all = absurd end.0
   is-long LineTooLong end all = absurd end.0
   is-long Worn end all = absurd end.0
+  is-long (BadFrame n) end all = absurd end.0
 
   -- what stands in the sink: behind the transcript of a script that was read to its end, or of no line
   abbrev Stops : Status → Type 0
@@ -211,6 +217,7 @@ module _ (script : List ℕ) (a b c : Outside) (kept : c.input ≡ b.input) (rea
   stops Cut status early end front = absurd end.0
   stops LineTooLong status early end front = absurd end.0
   stops Worn status early end front = absurd end.0
+  stops (BadFrame n) status early end front = absurd end.0
 
   abbrev Tells : Status → Type 0
   Tells s = EndsWith b.held c.held b.writes c.writes [] (last_line s)
@@ -223,6 +230,7 @@ module _ (script : List ℕ) (a b c : Outside) (kept : c.input ≡ b.input) (rea
   refused Cut end refusal tells = absurd refusal
   refused LineTooLong end refusal tells = absurd refusal
   refused Worn end refusal tells = absurd refusal
+  refused (BadFrame n) end refusal tells = absurd refusal
   refused TooLong end refusal tells = absurd refusal
   refused ReadFault end refusal tells = absurd refusal
   refused WriteFault end refusal tells = absurd refusal
@@ -243,6 +251,7 @@ module _ (script : List ℕ) (a b c : Outside) (kept : c.input ≡ b.input) (rea
   unread-told Cut end unread tells = absurd unread
   unread-told LineTooLong end unread tells = absurd unread
   unread-told Worn end unread tells = absurd unread
+  unread-told (BadFrame n) end unread tells = absurd unread
 
   not-done : (s : Status) → HasEnded script a b (Err s) → s ≡ Done → ⊥
   not-done s end is = (subst (λ (x : Status). HasEnded script a b (Err x)) is end).0

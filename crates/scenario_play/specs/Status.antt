@@ -6,7 +6,7 @@ use Rattle.scenario_text.specs.declared.line.LineFault.{LineFault}
 use Rattle.scenario_text.specs.declared.line.LineFault.TheVariants as line
 use Rattle.scenario_run.specs.Script.{Fault, first_fault}
 use Rattle.scenario_play.specs.declared.status.Status.{Status}
-use Rattle.scenario_play.specs.declared.status.Status.TheVariants.{Done, BadWords, BadLine, BadShape, TooLong, ReadFault, WriteFault, Want, Cut, LineTooLong, Worn}
+use Rattle.scenario_play.specs.declared.status.Status.TheVariants.{Done, BadWords, BadLine, BadShape, TooLong, ReadFault, WriteFault, Want, Cut, LineTooLong, Worn, BadFrame}
 
 -- the number with which the program ends
 abbrev pub number_of_status : Status → ℕ
@@ -21,8 +21,9 @@ number_of_status Want = 9
 number_of_status Cut = 10
 number_of_status LineTooLong = 11
 number_of_status Worn = 12
+number_of_status (BadFrame _) = 13
 
--- the last line, of a bad line what stands before its number
+-- the last line, of a bad line and of a bad frame what stands before its number
 abbrev pub text_of_status : Status → List ℕ
 text_of_status Done = []
 text_of_status BadWords = codes "fault: words\n"
@@ -38,10 +39,12 @@ text_of_status Want = codes "fault: memory\n"
 text_of_status Cut = []
 text_of_status LineTooLong = []
 text_of_status Worn = []
+text_of_status (BadFrame _) = codes "fault: frame "
 
 -- the last line that is written at a status
 abbrev pub last_line : Status → List ℕ
 last_line (BadLine n) = codes "fault: line " ++ decimal n ++ codes "\n"
+last_line (BadFrame at) = codes "fault: frame " ++ decimal at ++ codes "\n"
 last_line Done = text_of_status Done
 last_line BadWords = text_of_status BadWords
 last_line (BadShape field) = text_of_status (BadShape field)

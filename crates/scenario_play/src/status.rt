@@ -28,6 +28,8 @@ pub enum Status {
     LineTooLong,
     /// As many bytes were read as a connection may have.
     Worn,
+    /// The place in the input at which the first frame begins that is no spelling of a message.
+    BadFrame(u64),
 }
 
 impl Status {
@@ -40,8 +42,8 @@ impl Status {
         self.row().0
     }
 
-    /// The last line that is written, with its end: of `BadLine` what stands before the number, and
-    /// nothing where no line is written.
+    /// The last line that is written, with its end: of `BadLine` and `BadFrame` what stands before the
+    /// number, and nothing where no line is written.
     pub(crate) fn text(self) -> &'static str
         ensures { result.now ≡ text_of_status self }
     {
@@ -67,6 +69,7 @@ impl Status {
             Status::Cut => (10, ""),
             Status::LineTooLong => (11, ""),
             Status::Worn => (12, ""),
+            Status::BadFrame(_) => (13, "fault: frame "),
         }
     }
 }

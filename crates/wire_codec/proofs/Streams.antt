@@ -1,6 +1,7 @@
 -- Streams of frames, and what is kept of them.
-use Rattle.std.proofs.Common.{◌≡◌, ℕ, ◌+◌, ◌≤◌, Bool, true, false, List, [], ◌∷◌, ◌++◌, length, take, drop, MatchBool, refl, sym, ap, subst, ◌∙◌, append_assoc, arith}
+use Rattle.std.proofs.Common.{◌≡◌, ℕ, ◌+◌, ◌<◌, ◌≤◌, nat_le, Bool, true, false, List, [], ◌∷◌, ◌++◌, length, take, drop, MatchBool, refl, sym, ap, subst, ◌∙◌, append_assoc, arith}
 use Rattle.std.specs.List.{AllByRecursion}
+use Rattle.std.proofs.lemmas.Bool.Decides.{nat_tests}
 use Rattle.std.proofs.lemmas.Grind.{flat_map-append}
 use Rattle.std.proofs.lemmas.List.Concat.{flat_map-cons}
 use Rattle.std.proofs.lemmas.List.{length-append, length-take, append-nil, take_at, take-append-le, take-append-drop}
@@ -23,6 +24,19 @@ open_stands P Q false is given = given
 stands_none : (b : Bool) (front rest : List ℕ) → MatchBool b (IsBad rest) ((rest ≡ front) × IsPartial rest) → HasNone rest
 stands_none true front rest bad = bad.none
 stands_none false front rest partial = partial-none rest partial.1
+
+few-partial : (rest : List ℕ) → IsPartial rest → length rest < 134217732
+few-partial rest partial = by (nat_le 4 (length rest)) refl where
+  by : (b : Bool) → nat_le 4 (length rest) ≡ b → length rest < 134217732
+  by true is = let p = partial (grind (arith, nat_tests)) in let few = p.0.1 in let less = p.1 in omega (arith, few, less)
+  by false is = grind (arith, nat_tests)
+
+-- what is kept is the end of what was fed, and less than a frame
+pub kept-few : (kept : Kept) (input : List ℕ) (messages : List Message) → HasRead kept input messages → kept.bad ≡ false → (length kept.front ≤ length input) × (length kept.front < 134217732)
+kept-few kept input messages h good =
+    let stood : (h.rest ≡ kept.front) × IsPartial h.rest = open_stands (IsBad h.rest) ((h.rest ≡ kept.front) × IsPartial h.rest) kept.bad good h.stands in
+    let same = ap length stood.0 in
+    (omega (arith, same, ap length h.reads.whole, length-append (stream_of messages) h.rest), (let few = few-partial h.rest stood.1 in omega (arith, same, few)))
 
 -- nothing was read of what is less than a frame, and of what is no spelling
 pub reads-partial : (at : ℕ) (text : List ℕ) → IsPartial text → ReadsFrom at (record { begun = at; bad = false; front = text }) text []

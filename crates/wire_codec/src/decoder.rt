@@ -63,6 +63,7 @@ impl Decoder {
         ensures bad_frame { (at : ℕ) → result ≡ Err (BadFrame at)
             → (self.new.bad ≡ true) × (self.new.begun ≡ at) × Feeds self.old self.new piece.now [] }
         ensures due { self.new.bad ≡ true → IfOk result (λ given. given ≢ []) }
+        ensures emptied { self.old.bad ≡ false → self.new.bad ≡ true → self.new.front ≡ [] }
         ensures again { self.old.bad ≡ true → (result ≡ Err (BadFrame self.old.begun)) × (self.new ≡ self.old) }
         ensures want { result ≡ Err Want → self.new ≡ self.old }
     {
@@ -147,7 +148,8 @@ fn read_behind(
     text: &[u8],
 ) -> Result<(Vec<Message>, Decoder), AllocError>
     requires { at + length text.now ≤ 2 ^ 62 }
-    ensures { IfOk result (λ read. ReadsOn at read.1 text.now (first ∷ []) read.0.items) }
+    ensures read { IfOk result (λ read. ReadsOn at read.1 text.now (first ∷ []) read.0.items) }
+    ensures emptied { IfOk result (λ read. read.1.bad ≡ true → read.1.front ≡ []) }
 {
     let mut messages = Vec::with_capacity(alloc, 8)?;
     messages.push(first)?;
@@ -163,7 +165,8 @@ fn read_on(
     text: &[u8],
 ) -> Result<(Vec<Message>, Decoder), AllocError>
     requires { at + length text.now ≤ 2 ^ 62 }
-    ensures { IfOk result (λ read. ReadsOn at read.1 text.now found.items read.0.items) }
+    ensures read { IfOk result (λ read. ReadsOn at read.1 text.now found.items read.0.items) }
+    ensures emptied { IfOk result (λ read. read.1.bad ≡ true → read.1.front ≡ []) }
 {
     let mut messages = found;
     let mut begun = at;

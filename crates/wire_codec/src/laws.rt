@@ -1,9 +1,9 @@
 //! Laws about frames.
-ghost use Rattle.std.specs.Prelude.{◌≡◌, ℕ, ◌++◌, List};
+ghost use Rattle.std.specs.Prelude.{◌≡◌, ℕ, ◌+◌, ◌<◌, ◌≤◌, ◌++◌, List, length, false};
 ghost use Rattle.std.specs.List.{AllByRecursion};
 ghost use Rattle.group_message.specs.declared.message.Message.{Message};
-ghost use Rattle.wire_codec.specs.Fits.{HasFrame, IsFrame};
-ghost use Rattle.wire_codec.specs.Stream.{stream_of, HasNone, IsPartial, IsBad, Reads};
+ghost use Rattle.wire_codec.specs.Fits.{HasFrame, IsFrame, most};
+ghost use Rattle.wire_codec.specs.Stream.{stream_of, HasNone, HasRead, IsPartial, IsBad, Kept, Reads};
 
 /// No frame is the front of another, and no bytes are the frames of two messages.
 pub fn no_frame_begins_another()
@@ -27,4 +27,10 @@ pub fn cut_stream_gives_front()
     ensures { (sent given : List Message) (input more rest : List ℕ) → AllByRecursion HasFrame sent
         → stream_of sent ≡ input ++ more → Reads input given rest
         → (later : List Message) × (sent ≡ given ++ later) × (stream_of later ≡ rest ++ more) × (¬ (IsBad rest)) }
+{}
+
+/// A decoder that has met no bad frame keeps less than the longest frame, and no more than was fed.
+pub fn little_is_kept()
+    ensures { (kept : Kept) (input : List ℕ) (messages : List Message) → HasRead kept input messages → kept.bad ≡ false
+        → (length kept.front ≤ length input) × (length kept.front < 4 + most) }
 {}

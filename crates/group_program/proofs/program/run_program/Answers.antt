@@ -2,7 +2,7 @@ use Rattle.std.proofs.Common.{rules, ◌≡◌, inl, inr, refl, sym, subst, map,
 use Rattle.std.specs.String.{string_bytes}
 use Rattle.command_line.specs.Words.{command_of}
 use Rattle.command_line.specs.declared.command.Command.{Command}
-use Rattle.command_line.specs.declared.command.Command.TheVariants.{Make, Play, Session, Trial}
+use Rattle.command_line.specs.declared.command.Command.TheVariants.{Frames, Make, Play, Session, Trial}
 use Rattle.scenario_play.specs.Outside.{Outside, outside}
 use Rattle.scenario_play.specs.declared.status.Status.TheVariants.{BadWords}
 use Rattle.group_program.specs.Program.{HasRun}
@@ -38,6 +38,15 @@ returns-in-Ok-Trial-clause-ran g c =
     let now : Outside = outside (g.S.Source.input source) (g.S.Source.faults source) (g.K.Sink.held c.trial.new.sink) (g.K.Sink.faults c.trial.new.sink) in
     let said : command_of (map (string_bytes {Z = Global}) c.args.words.now) ≡ Some (Trial c.in-Ok-Trial.number) = search rules in
     inl (subst (λ (o : Option Command). HasRun o (g.T.Clock.moment c.args.clock.now) before now c.trial.result) (sym said) c.trial.ensures)
+
+pub returns-in-Ok-Frames-clause-ran : goal.returns-in-Ok-Frames-clause-ran
+returns-in-Ok-Frames-clause-ran g c =
+    let source = c.args.source.now in
+    let sink = c.args.sink.now in
+    let before : Outside = outside (g.S.Source.input source) (g.S.Source.faults source) (g.K.Sink.held sink) (g.K.Sink.faults sink) in
+    let now : Outside = outside (g.S.Source.input c.list_frames.new.source) (g.S.Source.faults c.list_frames.new.source) (g.K.Sink.held c.list_frames.new.sink) (g.K.Sink.faults c.list_frames.new.sink) in
+    let said : command_of (map (string_bytes {Z = Global}) c.args.words.now) ≡ Some Frames = search rules in
+    inl (subst (λ (o : Option Command). HasRun o (g.T.Clock.moment c.args.clock.now) before now c.list_frames.result) (sym said) c.list_frames.ensures.listed)
 
 pub returns-in-Ok-Session-clause-ran : goal.returns-in-Ok-Session-clause-ran
 returns-in-Ok-Session-clause-ran g c =

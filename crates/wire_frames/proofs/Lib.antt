@@ -1,0 +1,5 @@
+mod Endings
+mod Going
+mod Lines
+mod Piecing
+mod Stands

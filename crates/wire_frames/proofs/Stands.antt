@@ -1,0 +1,44 @@
+-- What a decoder keeps of a stream.
+use Rattle.std.proofs.Common.{◌≡◌, ℕ, ◌+◌, ◌≤◌, Bool, true, false, List, [], ◌∷◌, ◌++◌, length, MatchBool, refl, ap, subst, append-nil, length-append, arith}
+use Rattle.group_message.specs.declared.message.Message.{Message}
+use Rattle.wire_codec.specs.Stream.{HasRead, IsBad, IsPartial, IsTaken, Kept, stream_of}
+
+pub good_stands : (P Q : Type 0) (b : Bool) → b ≡ false → MatchBool b P Q → Q
+good_stands P Q true is given = cc
+good_stands P Q false is given = given
+
+pub bad_stands : (P Q : Type 0) (b : Bool) → b ≡ true → MatchBool b P Q → P
+bad_stands P Q true is given = given
+bad_stands P Q false is given = cc
+
+pub never-true : (b : Bool) → (b ≡ true → ⊥) → b ≡ false
+never-true true never = absurd (never refl)
+never-true false never = refl
+
+pub no-length : {A : Type 0} (xs : List A) → length xs ≡ 0 → xs ≡ []
+no-length [] none = refl
+no-length (x ∷ xs) none = absurd (omega (arith, none))
+
+-- a decoder that has met no bad frame keeps the rest, which is less than a frame
+pub rest-good : (kept : Kept) (input : List ℕ) (messages : List Message) (h : HasRead kept input messages) → kept.bad ≡ false → (h.rest ≡ kept.front) × IsPartial h.rest
+rest-good kept input messages h good = good_stands (IsBad h.rest) ((h.rest ≡ kept.front) × IsPartial h.rest) kept.bad good h.stands
+
+pub rest-bad : (kept : Kept) (input : List ℕ) (messages : List Message) (h : HasRead kept input messages) → kept.bad ≡ true → IsBad h.rest
+rest-bad kept input messages h bad = bad_stands (IsBad h.rest) ((h.rest ≡ kept.front) × IsPartial h.rest) kept.bad bad h.stands
+
+-- it names the place behind the frames
+pub place-is : (kept : Kept) (input : List ℕ) (messages : List Message) → HasRead kept input messages → kept.begun ≡ length (stream_of messages)
+place-is kept input messages h = let place = h.place in omega (arith, place, ap length h.reads.whole, length-append (stream_of messages) h.rest)
+
+-- a piece may be fed where with it the stream is no longer than it may be
+pub taken-within : (kept : Kept) (input : List ℕ) (messages : List Message) (n : ℕ) → HasRead kept input messages → length input + n ≤ 4611686018427387904 → IsTaken kept n
+taken-within kept input messages n h within good =
+    let place = h.place in
+    let front = (rest-good kept input messages h good).0 in
+    omega (arith, place, ap length front, within)
+
+-- nothing was fed, and nothing given
+pub fed-nothing : (kept : Kept) (input : List ℕ) (messages given : List Message) → given ≡ [] → HasRead kept (input ++ []) (messages ++ given) → HasRead kept input messages
+fed-nothing kept input messages given none h =
+    subst (λ (bytes : List ℕ). HasRead kept bytes messages) (append-nil input)
+    (subst (HasRead kept (input ++ [])) (append-nil messages) (subst (λ (ms : List Message). HasRead kept (input ++ []) (messages ++ ms)) none h))

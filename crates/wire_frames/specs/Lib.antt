@@ -1,0 +1,4 @@
+pub mod Faults
+pub mod Framed
+pub mod Line
+pub mod Pieces
