@@ -1,13 +1,20 @@
-// A library with one function.
+//! The settings of a served group: a TOML text of at most 65,536 bytes, all keys at the top. The contract of
+//! `read_settings` says which settings a text gives, or which key is the first that is wrong, in the order k, m,
+//! block, blocks, address, workers, connections, control, and then any other key. What an address names is left to
+//! the listener.
 #![tactic(auto)]
 
-ghost use Rattle.std.specs.Prelude.{◌≡◌};
-ghost use Rattle.group_config.specs.Echo.{echo_of};
+mod address;
+mod fault;
+mod key;
+mod known;
+mod reading;
+mod settings;
+mod shape;
+mod values;
 
-// The `ensures` clause is the contract: what `echo` returns is `echo_of` of its argument, a definition
-// in `specs/Echo.antt`, which a caller's clause can cite too.
-pub fn echo(x: usize) -> usize
-    ensures { result ≡ echo_of x }
-{
-    x
-}
+pub use address::Address;
+pub use fault::ConfigFault;
+pub use key::ConfigKey;
+pub use reading::read_settings;
+pub use settings::Settings;
