@@ -1,13 +1,15 @@
-// A library with one function.
+//! The workers that serve the connections of a listener, each over a caller that a port lends. The contract of
+//! `serve_all` says how many connections were accepted and why serving ended. What is said on a connection is left
+//! to `serve_connection`, and that workers run beside each other to tests.
 #![tactic(auto)]
 
-ghost use Rattle.std.specs.Prelude.{◌≡◌};
-ghost use Rattle.node_worker.specs.Echo.{echo_of};
+mod fault;
+mod gate;
+mod hall;
+mod port;
+mod workers;
 
-// The `ensures` clause is the contract: what `echo` returns is `echo_of` of its argument, a definition
-// in `specs/Echo.antt`, which a caller's clause can cite too.
-pub fn echo(x: usize) -> usize
-    ensures { result ≡ echo_of x }
-{
-    x
-}
+pub use fault::ServeFault;
+pub use gate::{Gate, OpenGate};
+pub use port::Port;
+pub use workers::serve_all;
