@@ -23,16 +23,7 @@ struct Accepted<'a, L> {
 /// Serves the connections of a listener until `connections` of them were accepted, where that isn't 0, or the
 /// listener says that none comes. While fewer than `workers` are being served a thread of its own serves the next;
 /// else, or where no thread can be made, the accepting thread does. It returns once all are served.
-pub fn serve_all<
-    R: Threads + Wait + Sync,
-    I: Source + Send + Drop,
-    O: Sink + Send + Drop,
-    Q: Caller + Send + Drop,
-    L: Listener<Incoming = I, Outgoing = O>,
-    P: Port<Lent = Q>,
-    G: Gate,
-    T: Clock,
->(
+pub fn serve_all<R: Threads + Wait + Sync, L: Listener, P: Port, G: Gate, T: Clock>(
     rt: &R,
     alloc: Global,
     listener: &mut L,
@@ -42,14 +33,17 @@ pub fn serve_all<
     connections: u64,
     clock: &T,
 ) -> Result<u64, ServeFault>
+where
+    L::Incoming: Drop,
+    L::Outgoing: Drop,
     ensures accepted { IfOk result (λ n. HasAccepted (L.accepted listener.old) (L.accepted listener.new) connections n) }
     ensures done { IfOk result (λ n. IsDone connections n (L.over listener.new)) }
     ensures fault { HasCauseOf (L.faults listener.old) (L.faults listener.new) result ServeFault.AcceptFault }
-    ensures limit { OnErr result ((n : ℕ) × HasAccepted (L.accepted listener.old) (L.accepted listener.new) connections n) }
+    ensures at_fault { OnErr result ((n : ℕ) × HasAccepted (L.accepted listener.old) (L.accepted listener.new) connections n) }
 {
     let hall = Hall::new(alloc, port, gate, clock, workers);
     let Accepted { listener: _, end } =
-        serve_in_scope::<R, I, O, Q, L, P, G, T>(rt, listener, &hall, connections);
+        serve_in_scope::<R, L::Incoming, L::Outgoing, P::Lent, L, P, G, T>(rt, listener, &hall, connections);
     end.map_err(ServeFault::from)
 }
 
@@ -74,7 +68,7 @@ fn serve_in_scope<
     ensures accepted { IfOk result.end (λ n. HasAccepted (L.accepted listener.old) (L.accepted result.listener.now) connections n) }
     ensures done { IfOk result.end (λ n. IsDone connections n (L.over result.listener.now)) }
     ensures fault { HasCause (L.faults listener.old) (L.faults result.listener.now) result.end }
-    ensures limit { OnErr result.end ((n : ℕ) × HasAccepted (L.accepted listener.old) (L.accepted result.listener.now) connections n) }
+    ensures at_fault { OnErr result.end ((n : ℕ) × HasAccepted (L.accepted listener.old) (L.accepted result.listener.now) connections n) }
 {
     thread::scope(thread::scope_env(), rt, move |scope| -> Accepted<'_, L>
         ensures { (result.listener.ghost_name ≡ listener.entry.ghost_name)
@@ -110,7 +104,7 @@ fn accept_all<
     ensures accepted { IfOk result (λ n. HasAccepted (L.accepted listener.old) (L.accepted listener.new) connections n) }
     ensures done { IfOk result (λ n. IsDone connections n (L.over listener.new)) }
     ensures fault { HasCause (L.faults listener.old) (L.faults listener.new) result }
-    ensures limit { OnErr result ((n : ℕ) × HasAccepted (L.accepted listener.old) (L.accepted listener.new) connections n) }
+    ensures at_fault { OnErr result ((n : ℕ) × HasAccepted (L.accepted listener.old) (L.accepted listener.new) connections n) }
 {
     let mut accepted = 0;
     'connections: for _ in rt.forever() {
