@@ -11,10 +11,12 @@ mod known;
 mod reading;
 mod settings;
 mod shape;
+mod text;
 mod values;
 
 pub use address::Address;
-pub use fault::ConfigFault;
+pub use fault::{ConfigFault, TextFault};
 pub use key::ConfigKey;
 pub use reading::read_settings;
 pub use settings::Settings;
+pub use text::read_text;
