@@ -27,7 +27,7 @@ impl From<AllocError> for ConfigFault {
 impl fmt::Display for ConfigFault {
     fn fmt<W: fmt::Write>(&self, f: &mut fmt::Formatter<W>) -> fmt::Result {
         match self {
-            ConfigFault::BadConfig { key } => write!(f, "{key}: {}", key.allowed()),
+            ConfigFault::BadConfig { key } => f.write_str(key.allowed()),
             ConfigFault::Want => f.write_str("no memory for the settings"),
         }
     }

@@ -42,8 +42,16 @@ where
     ensures at_fault { OnErr result ((n : ℕ) × HasAccepted (L.accepted listener.old) (L.accepted listener.new) connections n) }
 {
     let hall = Hall::new(alloc, port, gate, clock, workers);
-    let Accepted { listener: _, end } =
-        serve_in_scope::<R, L::Incoming, L::Outgoing, P::Lent, L, P, G, T>(rt, listener, &hall, connections);
+    let Accepted { listener: _, end } = serve_in_scope::<
+        R,
+        L::Incoming,
+        L::Outgoing,
+        P::Lent,
+        L,
+        P,
+        G,
+        T,
+    >(rt, listener, &hall, connections);
     end.map_err(ServeFault::from)
 }
 
@@ -58,28 +66,33 @@ fn serve_in_scope<
     P: Port<Lent = Q>,
     G: Gate,
     T: Clock,
->(
-    rt: &R,
-    listener: &'a mut L,
-    hall: &Hall<'_, P, G, T>,
-    connections: u64,
-) -> Accepted<'a, L>
+>(rt: &R, listener: &'a mut L, hall: &Hall<'_, P, G, T>, connections: u64) -> Accepted<'a, L>
     ensures same { result.listener.ghost_name ≡ listener.entry.ghost_name }
     ensures accepted { IfOk result.end (λ n. HasAccepted (L.accepted listener.old) (L.accepted result.listener.now) connections n) }
     ensures done { IfOk result.end (λ n. IsDone connections n (L.over result.listener.now)) }
     ensures fault { HasCause (L.faults listener.old) (L.faults result.listener.now) result.end }
     ensures at_fault { OnErr result.end ((n : ℕ) × HasAccepted (L.accepted listener.old) (L.accepted result.listener.now) connections n) }
 {
-    thread::scope(thread::scope_env(), rt, move |scope| -> Accepted<'_, L>
-        ensures { (result.listener.ghost_name ≡ listener.entry.ghost_name)
-            × IfOk result.end (λ n. HasAccepted (L.accepted listener.entry.now) (L.accepted result.listener.now) connections n)
-            × IfOk result.end (λ n. IsDone connections n (L.over result.listener.now))
-            × HasCause (L.faults listener.entry.now) (L.faults result.listener.now) result.end
-            × OnErr result.end ((n : ℕ) × HasAccepted (L.accepted listener.entry.now) (L.accepted result.listener.now) connections n) }
-    {
-        let end = accept_all::<_, R, I, O, Q, L, P, G, T>(rt, scope, listener, hall, connections);
-        Accepted { listener, end }
-    })
+    thread::scope(
+        thread::scope_env(),
+        rt,
+        move |scope| -> Accepted<'_, L>
+            ensures { (result.listener.ghost_name ≡ listener.entry.ghost_name)
+                × IfOk result.end (λ n. HasAccepted (L.accepted listener.entry.now) (L.accepted result.listener.now) connections n)
+                × IfOk result.end (λ n. IsDone connections n (L.over result.listener.now))
+                × HasCause (L.faults listener.entry.now) (L.faults result.listener.now) result.end
+                × OnErr result.end ((n : ℕ) × HasAccepted (L.accepted listener.entry.now) (L.accepted result.listener.now) connections n) }
+        {
+            let end = accept_all::<_, R, I, O, Q, L, P, G, T>(
+                rt,
+                scope,
+                listener,
+                hall,
+                connections,
+            );
+            Accepted { listener, end }
+        },
+    )
 }
 
 /// Accepts connections, and sees that each is served.
@@ -133,14 +146,7 @@ fn start<
     P: Port<Lent = Q>,
     G: Gate,
     T: Clock,
->(
-    rt: &R,
-    scope: &'s Scope<'s, E>,
-    hall: &'s Hall<'s, P, G, T>,
-    number: u64,
-    source: I,
-    sink: O,
-) {
+>(rt: &R, scope: &'s Scope<'s, E>, hall: &'s Hall<'s, P, G, T>, number: u64, source: I, sink: O) {
     let has_worker = hall.has_free_worker();
     let caller = borrow::<R, Q, P, G, T>(rt, hall);
     let job = move || hall.serve(number, source, sink, caller);
@@ -153,7 +159,10 @@ fn start<
 }
 
 /// A caller for the next connection, which is asked for until there is one.
-fn borrow<R: Wait, Q: Caller + Drop, P: Port<Lent = Q>, G: Gate, T: Clock>(rt: &R, hall: &Hall<'_, P, G, T>) -> Q {
+fn borrow<R: Wait, Q: Caller + Drop, P: Port<Lent = Q>, G: Gate, T: Clock>(
+    rt: &R,
+    hall: &Hall<'_, P, G, T>,
+) -> Q {
     for _ in rt.forever() {
         if let Some(caller) = hall.lend() {
             return caller;

@@ -5,7 +5,7 @@ use crate::listening::listen_at;
 use edge_io::{Failed, Listener, ReadEdge, WriteEdge};
 use std::io;
 use std::io::ErrorKind;
-use std::net::{Net, TcpListener, TcpStream};
+use std::net::{Net, SocketAddr, TcpListener, TcpStream};
 
 /// The most connections that a listener hands out.
 const MOST_CONNECTIONS: u64 = 1 << 62;
@@ -47,6 +47,14 @@ impl<N> TcpEdge<N> {
         ensures { option_copied result ≡ self.now.last_error }
     {
         self.last_error.as_ref()
+    }
+
+    /// The port that was bound, for a person to read: an error where there is none.
+    pub fn local_addr(&self) -> io::Result<SocketAddr> {
+        match &self.listener {
+            Some(listener) => listener.local_addr(),
+            None => Err(io::Error::from(ErrorKind::NotConnected)),
+        }
     }
 
     // Counts a fault, and keeps its error.
