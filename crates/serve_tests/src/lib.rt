@@ -7,8 +7,6 @@ mod loopback;
 #[cfg(test)]
 mod memory;
 #[cfg(test)]
-mod rows;
-#[cfg(test)]
 mod settings;
 #[cfg(test)]
 mod shop;

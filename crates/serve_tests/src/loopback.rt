@@ -5,8 +5,10 @@ use memc_table::Table;
 use node_worker::{OpenGate, ServeFault, serve_all};
 use std::io::{ErrorKind, Read, Write};
 use std::net::{Net, SocketAddr, TcpStream};
-use std::sync::Mutex;
+use std::sync::{Mutex, Wait};
 use std::test::Fail;
+use std::alloc::{AllocError, Global};
+use std::thread::Threads;
 use std::{io, thread};
 use tcp_edge::TcpEdge;
 
@@ -15,19 +17,31 @@ const SAID: &[u8] = b"set a 0 0 1\r\nA\r\nget a b\r\nversion\r\nquit\r\n";
 
 const ANSWERED: &[u8] = b"STORED\r\nVALUE a 0 1\r\nA\r\nEND\r\nVERSION cocytus-1\r\n";
 
-/// Says everything to a server, and hears it to its end: how many bytes came into `heard`.
-fn talk<N: Net>(net: &N, server: SocketAddr, heard: &mut [u8]) -> io::Result<usize> {
+/// What a client is told that says everything at once.
+fn talk<R: Net>(net: &R, alloc: Global, server: SocketAddr) -> io::Result<Vec<u8>> {
     let mut stream = TcpStream::connect(net, server)?;
     stream.write_all(SAID)?;
-    let mut count = 0;
-    while count < heard.len() {
-        let n = stream.read(&mut heard[count..])?;
-        if n == 0 {
-            return Ok(count);
+    let mut heard = Vec::new(alloc);
+    stream.read_to_end(&mut heard)?;
+    Ok(heard)
+}
+
+/// Serves one client over a table of its own.
+fn serve_one<R, L>(rt: &R, alloc: Global, port: &mut L) -> Result<u64, ServeFault>
+where
+    R: Threads + Wait + Sync + Send + Copy,
+    L: Listener,
+    L::Incoming: Drop,
+    L::Outgoing: Drop,
+{
+    match Table::new(alloc, 1) {
+        Ok(table) => {
+            let table = Mutex::new(table);
+            let shop = Shop::new(*rt, &table);
+            serve_all(rt, alloc, port, &shop, &OpenGate, 1, 1, &FixedClock::new(0))
         }
-        count += n;
+        Err(AllocError) => Err(ServeFault::Want),
     }
-    Ok(count)
 }
 
 #[test]
@@ -35,25 +49,14 @@ fn serves_a_client(rt: HostRuntime) -> Result<(), Fail> {
     let mut port = TcpEdge::new(rt);
     assert_eq!(rt; port.listen("127.0.0.1:0"), Ok(()));
     let server = port.local_addr()?;
-    let table = Mutex::new(Table::new(rt.alloc(), 1)?);
-    let shop = Shop::new(rt, &table);
-    let mut heard = [0; 100];
-    let (count, served) = thread::join_mut(
+    let alloc = rt.alloc();
+    let (heard, served) = thread::join(
         &rt,
-        &mut || talk(&rt, server, &mut heard),
-        &mut || serve_all(
-            &rt,
-            rt.alloc(),
-            &mut port,
-            &shop,
-            &OpenGate,
-            1,
-            1,
-            &FixedClock::new(0),
-        ),
+        move || talk(&rt, alloc, server),
+        move || serve_one(&rt, alloc, &mut port),
     );
     assert_eq!(rt; served, Ok(1));
-    assert_eq!(rt; &heard[..count?], ANSWERED);
+    assert_eq!(rt; heard?.as_slice(), ANSWERED);
     Ok(())
 }
 
