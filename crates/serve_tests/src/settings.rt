@@ -36,7 +36,14 @@ fn measures_an_address(rt: HostRuntime) -> Result<(), Fail> {
     }
     let text = with_address(rt.alloc(), 256)?;
     let read = read_settings(rt.alloc(), &text);
-    assert!(rt; matches!(read, Err(ConfigFault::BadConfig { key: ConfigKey::Address })));
+    assert!(rt;
+        matches!(
+            read,
+            Err(ConfigFault::BadConfig {
+                key: ConfigKey::Address
+            })
+        )
+    );
     Ok(())
 }
 
@@ -45,7 +52,14 @@ fn refuses_what_is_no_settings(rt: HostRuntime) {
     let read = read_settings(rt.alloc(), b"");
     assert!(rt; matches!(read, Err(ConfigFault::BadConfig { key: ConfigKey::K })));
     let read = read_settings(rt.alloc(), b"k = \"\xff\"");
-    assert!(rt; matches!(read, Err(ConfigFault::BadConfig { key: ConfigKey::Syntax })));
+    assert!(rt;
+        matches!(
+            read,
+            Err(ConfigFault::BadConfig {
+                key: ConfigKey::Syntax
+            })
+        )
+    );
 }
 
 #[test]
@@ -64,14 +78,24 @@ fn reads_up_to_its_limit(rt: HostRuntime) -> Result<(), Fail> {
 #[test]
 fn tells_a_read_that_failed(rt: HostRuntime) -> Result<(), Fail> {
     let mut source = MemorySource::new(rt.alloc(), b"k = 4", &[2])?.with_piece(1);
-    assert!(rt; matches!(read_text(rt.alloc(), &mut source), Err(TextFault::ReadFault)));
+    assert!(rt;
+        matches!(
+            read_text(rt.alloc(), &mut source),
+            Err(TextFault::ReadFault)
+        )
+    );
     Ok(())
 }
 
 #[test]
 fn tells_a_person_what_is_allowed(rt: HostRuntime) -> Result<(), Fail> {
-    let fault = ConfigFault::BadConfig { key: ConfigKey::Workers };
+    let fault = ConfigFault::BadConfig {
+        key: ConfigKey::Workers,
+    };
     let sentence = format!(in rt.alloc(); "{fault}")?;
-    assert_eq!(rt; sentence.as_str(), "workers is 1 to 64, and 4 where it is left out");
+    assert_eq!(rt;
+        sentence.as_str(),
+        "workers is 1 to 64, and 4 where it is left out"
+    );
     Ok(())
 }

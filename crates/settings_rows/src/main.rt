@@ -1,6 +1,7 @@
 //! Texts of settings, each with what it must give. Standard input has the texts, an empty line behind each; the first
 //! line of each is a comment, which names it. Standard output has a line for each: its name, and the shape, address,
-//! workers, connections and control that it gives, or the key that is refused.
+//! workers, connections and control that it gives, or the key that is refused and what
+//! is allowed there.
 #![tactic(auto)]
 
 use group_config::{ConfigFault, Settings, read_settings};
@@ -32,7 +33,7 @@ fn name_of(text: &str) -> &str {
 fn told(alloc: Global, read: Result<Settings, ConfigFault>) -> Result<String, AllocError> {
     match read {
         Ok(settings) => told_settings(alloc, &settings),
-        Err(ConfigFault::BadConfig { key }) => format!(in alloc; "{key}"),
+        Err(ConfigFault::BadConfig { key }) => format!(in alloc; "{key} ({})", key.allowed()),
         Err(ConfigFault::Want) => Err(AllocError),
     }
 }
@@ -41,6 +42,10 @@ fn told_settings(alloc: Global, settings: &Settings) -> Result<String, AllocErro
     let shape = settings.shape;
     let address = settings.address.as_str();
     let (k, m, blocks, block) = (shape.k(), shape.m(), shape.blocks(), shape.block());
-    let (workers, connections, control) = (settings.workers, settings.connections, settings.control);
+    let (workers, connections, control) = (
+        settings.workers,
+        settings.connections,
+        settings.control,
+    );
     format!(in alloc; "{k} {m} {blocks} {block}, {address}, {workers}, {connections}, {control}")
 }
