@@ -21,9 +21,7 @@ fn with_address(alloc: Global, length: usize) -> Result<Vec<u8>, AllocError> {
 /// The same, with a comment behind it that makes it `length` bytes long.
 fn of_length(alloc: Global, length: usize) -> Result<Vec<u8>, AllocError> {
     let mut text = with_address(alloc, 1)?;
-    while text.len() < length {
-        text.push(b'#')?;
-    }
+    text.resize(length, b'#')?;
     Ok(text)
 }
 
