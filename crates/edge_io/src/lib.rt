@@ -4,6 +4,7 @@
 //! fault. That the system's reads and writes move the bytes that they say, and its clock, is left to them.
 #![tactic(auto)]
 
+mod arrival;
 mod calls;
 mod clock;
 mod fault;
@@ -15,6 +16,7 @@ mod memory_sink;
 mod memory_source;
 mod past;
 mod read_edge;
+mod shared_sink;
 mod sink;
 mod source;
 mod system_clock;
@@ -30,6 +32,7 @@ pub use memory_sink::MemorySink;
 pub use memory_source::MemorySource;
 pub use past::Past;
 pub use read_edge::ReadEdge;
+pub use shared_sink::SharedSink;
 pub use sink::Sink;
 pub use source::Source;
 pub use system_clock::SystemClock;

@@ -1,0 +1,14 @@
+//! Serving, as a client sees it: connections in memory and over a port of this machine, workers beside each other,
+//! and settings. They are tests of public calls alone, over one table behind a lock in place of a group.
+#![tactic(auto)]
+
+#[cfg(test)]
+mod loopback;
+#[cfg(test)]
+mod memory;
+#[cfg(test)]
+mod settings;
+#[cfg(test)]
+mod shop;
+#[cfg(test)]
+mod workers;

@@ -1,0 +1,139 @@
+ghost use Rattle.std.specs.Prelude.{◌≡◌, ◌^◌, ◌≤◌, None};
+
+use crate::accepting::accept_from;
+use crate::listening::listen_at;
+use edge_io::{Failed, Listener, ReadEdge, WriteEdge};
+use std::io;
+use std::io::ErrorKind;
+use std::net::{Net, SocketAddr, TcpListener, TcpStream};
+
+/// The most connections that a listener hands out.
+const MOST_CONNECTIONS: u64 = 1 << 62;
+
+/// A port as a listener: each error counts as a fault, and so do an `accept` before `listen` and one after 2^62
+/// connections. It never says that no connection comes, and keeps its last error for a person to read.
+#[derive(Drop)]
+pub struct TcpEdge<N> {
+    net: N,
+    listener: Option<TcpListener>,
+    accepted: u64,
+    faults: u64,
+    last_error: Option<io::Error>,
+    ghost limit: { accepted ≤ 2 ^ 62 },
+}
+
+impl<N> TcpEdge<N> {
+    ghost use Rattle.std.specs.Prelude.{◌≡◌, ◌<◌, ◌≤◌, ◌^◌, OnOk, Some, option_copied};
+    ghost use Rattle.edge_io.specs.Faults.{Rose, raised};
+
+    /// No port yet: `net` is the runtime value that opens sockets.
+    pub fn new(net: N) -> TcpEdge<N>
+        ensures listener { result.listener ≡ None }
+        ensures accepted { result.accepted ≡ 0 }
+        ensures faults { result.faults ≡ 0 }
+        ensures last_error { result.last_error ≡ None }
+    {
+        TcpEdge {
+            net,
+            listener: None,
+            accepted: 0,
+            faults: 0,
+            last_error: None,
+        }
+    }
+
+    /// Why the last call that failed did so: none where none failed.
+    pub fn last_error(&self) -> Option<&io::Error>
+        ensures { option_copied result ≡ self.now.last_error }
+    {
+        self.last_error.as_ref()
+    }
+
+    /// The port that was bound, for a person to read: an error where there is none.
+    pub fn local_addr(&self) -> io::Result<SocketAddr> {
+        match &self.listener {
+            Some(listener) => listener.local_addr(),
+            None => Err(io::Error::from(ErrorKind::NotConnected)),
+        }
+    }
+
+    // Counts a fault, and keeps its error.
+    fn fail(&mut self, error: io::Error) -> Failed
+        ensures faults { self.new.faults ≡ raised self.old.faults }
+        ensures later { self.old.faults ≤ self.new.faults }
+        ensures rose { Rose self.old.faults self.new.faults }
+        ensures error { self.new.last_error ≡ Some error }
+        ensures accepted { self.new.accepted ≡ self.old.accepted }
+    {
+        self.faults = self.faults.saturating_add(1);
+        self.last_error = Some(error);
+        Failed
+    }
+
+    // The next connection of the port, if there is one.
+    fn next(&self) -> io::Result<(TcpStream, TcpStream)>
+        ensures few { OnOk result (self.now.accepted < 2 ^ 62) }
+    {
+        if self.accepted >= MOST_CONNECTIONS {
+            return Err(io::Error::from(ErrorKind::QuotaExceeded));
+        }
+        match &self.listener {
+            Some(listener) => accept_from(listener),
+            None => Err(io::Error::from(ErrorKind::NotConnected)),
+        }
+    }
+}
+
+impl<N: Net> Listener for TcpEdge<N> {
+    ghost use Rattle.std.specs.Prelude.{◌≡◌, ◌+◌, ◌^◌, ◌≤◌, ◌≢◌, None, false, [], IfOk, OnOk, IsSome, IfSome, is_err, if◌then◌else◌};
+    ghost use Rattle.edge_io.specs.Connections.{handed_out};
+    ghost use Rattle.edge_io.specs.Faults.{HasCause, raised};
+
+    type Incoming = ReadEdge<TcpStream>;
+
+    type Outgoing = WriteEdge<TcpStream>;
+
+    ghost faults = { λ l. l.faults };
+
+    ghost accepted = { λ l. l.accepted };
+
+    ghost over = { λ _. false };
+
+    ghost to_come = { λ _. None };
+
+    ghost listened = { λ _ _ after. IsSome after.listener };
+
+    fn listen(&mut self, address: &str) -> Result<(), Failed>
+        ensures begun { OnOk result (IsSome self.new.listener) }
+        ensures limit { self.new.accepted ≤ 2 ^ 62 }
+        ensures none_accepted { self.new.accepted ≡ self.old.accepted }
+        ensures cause { HasCause self.old.faults self.new.faults result }
+        ensures count { self.new.faults ≡ (if is_err result then raised self.old.faults else self.old.faults) }
+    {
+        match listen_at(&self.net, address) {
+            Ok(listener) => {
+                self.listener = Some(listener);
+                Ok(())
+            }
+            Err(error) => Err(self.fail(error)),
+        }
+    }
+
+    fn accept(&mut self) -> Result<Option<(ReadEdge<TcpStream>, WriteEdge<TcpStream>)>, Failed>
+        ensures limit { self.new.accepted ≤ 2 ^ 62 }
+        ensures never_over { IfOk result (λ next. next ≢ None) }
+        ensures accepts { self.new.accepted ≡ self.old.accepted + handed_out result }
+        ensures unread { IfOk result (λ o. IfSome o (λ c. (c.0.past.bytes ≡ []) × (c.0.ended ≡ false))) }
+        ensures fresh { IfOk result (λ o. IfSome o (λ c. c.1.past.bytes ≡ [])) }
+        ensures cause { HasCause self.old.faults self.new.faults result }
+        ensures count { self.new.faults ≡ (if is_err result then raised self.old.faults else self.old.faults) }
+    {
+        match self.next() {
+            Ok((incoming, outgoing)) => {
+                self.accepted += 1;
+                Ok(Some((ReadEdge::new(incoming), WriteEdge::new(outgoing))))
+            }
+            Err(error) => Err(self.fail(error)),
+        }
+    }
+}
