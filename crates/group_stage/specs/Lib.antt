@@ -1,0 +1,7 @@
+pub mod Stub
+pub mod Places
+pub mod Schedules
+pub mod Views
+pub mod Counts
+pub mod Kept
+pub mod Steps
