@@ -1,2 +1,4 @@
 pub mod Sums
 pub mod Runs
+pub mod Moves
+pub mod Taking

@@ -29,6 +29,11 @@ module _ {A : Type 0} where
     terms_le (x ∷ xs) (suc j) zero v u n e d = omega (arith, ap g (some-injective x u d), term_le xs j v e)
     terms_le (x ∷ xs) (suc j) (suc k) v u n e d = omega (arith, terms_le xs j k v u (λ h. n (ap suc h)) e d)
 
+  pub at_within : (l : List A) (i : ℕ) (a : A) → get_elem? l i ≡ some a → i < length l
+  at_within [] i a e = absurd (some-ne-none a (sym e))
+  at_within (x ∷ xs) zero a e = omega arith
+  at_within (x ∷ xs) (suc i) a e = omega (arith, at_within xs i a e)
+
   -- one sum is at most another
   pub total_le : (f g : A → ℕ) (l : List A) → ((k : ℕ) (u : A) → get_elem? l k ≡ some u → f u ≤ g u) → total f l ≤ total g l
   total_le f g [] h = omega arith
