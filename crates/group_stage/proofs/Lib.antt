@@ -2,3 +2,5 @@ pub mod Sums
 pub mod Runs
 pub mod Moves
 pub mod Taking
+pub mod Releasing
+pub mod Committing

@@ -23,7 +23,7 @@ use Rattle.group_stage.proofs.Sums.{at_within, bit-no, each-weaker, flag-none, f
 use Rattle.group_stage.proofs.Moves.{Homes, Keeps, St, again, changed, knows, next_in, stage, word_bound}
 
 -- what a step on a process's word may come to
-abbrev Goes : Plan → St → ℕ → ℕ → Sat → (ℕ → Sat → Type 0) → ℕ → Type 0
+abbrev pub Goes : Plan → St → ℕ → ℕ → Sat → (ℕ → Sat → Type 0) → ℕ → Type 0
 Goes plan st i id m then n = (w : View) × (a : Act (std.Option Standing)) × Valid st.homes m.1 a × Kept plan (stepped st i n id m.1 w a) × then (get_or st.words i 0) (w, carried_after m.1 a)
 
 -- the words where one process's is changed
