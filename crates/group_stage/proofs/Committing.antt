@@ -44,7 +44,7 @@ pub record CanCommit (plan : Plan) (v : View) : Type 0 where
   pub own : (c : ℕ) → times c v.numbers ≡ 0 → ask_by c v.call ≡ 0
   pub may : (w : World) → w.shape ≡ plan.shape → ((c : ℕ) → 0 < times c v.numbers → at 0 w.asked c ≡ asks_by c v.made) → MayCome w v.call
 
-drawn-append : (k : ℕ) (xs ys : List Numbered) → drawn k (xs ++ ys) ≡ drawn k xs + drawn k ys
+pub drawn-append : (k : ℕ) (xs ys : List Numbered) → drawn k (xs ++ ys) ≡ drawn k xs + drawn k ys
 drawn-append k [] ys = omega arith
 drawn-append k (x ∷ xs) ys = let more = drawn-append k xs ys in omega (arith, more)
 

@@ -4,3 +4,6 @@ pub mod Moves
 pub mod Taking
 pub mod Releasing
 pub mod Committing
+pub mod Drawing
+pub mod Parting
+pub mod Opening

@@ -31,7 +31,7 @@ pub record HasLast (plan : Plan) (m : Sat) (p : ℕ) (y : Standing) : Type 0 whe
   pub held : m.0.held ≡ (p, y) ∷ held_rest m.0.held
   pub slot : m.1 ≡ (slot_of p, std.Some y) ∷ rest m.1
 
-tally-append : (p : ℕ) (xs ys : List (ℕ × ℕ)) → tally p (xs ++ ys) ≡ tally p xs + tally p ys
+pub tally-append : (p : ℕ) (xs ys : List (ℕ × ℕ)) → tally p (xs ++ ys) ≡ tally p xs + tally p ys
 tally-append p [] ys = omega arith
 tally-append p (x ∷ xs) ys = let more = tally-append p xs ys in omega (arith, more)
 
