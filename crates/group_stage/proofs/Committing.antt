@@ -11,6 +11,7 @@ use Rattle.group_calls.specs.declared.event.Event.{Event}
 use Rattle.group_run.specs.Locality.{times}
 use Rattle.group_run.specs.World.{names}
 use Rattle.group_stage.specs.Stub.{Standing}
+use Rattle.group_stage.specs.Conditions.{CanCommit}
 use Rattle.group_stage.specs.Counts.{Each, bit, flag, total}
 use Rattle.group_stage.specs.Kept.{Fits, IsSpent, Kept, most_calls}
 use Rattle.group_stage.specs.Places.{drawing_of, history_of, place_of, slot_of, word_in, word_of}
@@ -35,14 +36,6 @@ use Rattle.group_stage.proofs.Sums.{bit-more, each-both, each-map, each-snoc}
 use Rattle.group_stage.proofs.Moves.{few_events, owned_asks}
 use Rattle.group_stage.proofs.Runs.{asked-more, last-answered, run-more, shape-after, stands, still-answered}
 use Rattle.group_stage.proofs.Taking.{Goes}
-
--- what a seat needs to make its call an event: it holds all nodes that the event names, and the event may come
-pub record CanCommit (plan : Plan) (v : View) : Type 0 where
-  pub part : v.parts ≡ 1
-  pub due : v.due ≡ 1
-  pub holds : (q : ℕ) → q < processes_of plan.shape → 0 < times q (names plan.shape v.call) → 0 < holding q v
-  pub own : (c : ℕ) → times c v.numbers ≡ 0 → ask_by c v.call ≡ 0
-  pub may : (w : World) → w.shape ≡ plan.shape → ((c : ℕ) → 0 < times c v.numbers → at 0 w.asked c ≡ asks_by c v.made) → MayCome w v.call
 
 pub drawn-append : (k : ℕ) (xs ys : List Numbered) → drawn k (xs ++ ys) ≡ drawn k xs + drawn k ys
 drawn-append k [] ys = omega arith

@@ -14,6 +14,7 @@ use Rattle.group_calls.specs.declared.event.Event.{Event}
 use Rattle.group_run.specs.Locality.{times}
 use Rattle.group_run.specs.World.{names}
 use Rattle.group_stage.specs.Stub.{Standing}
+use Rattle.group_stage.specs.Conditions.{CanDraw}
 use Rattle.group_stage.specs.Counts.{Each, bit, flag, total}
 use Rattle.group_stage.specs.Kept.{Fits, IsAnswered, IsSpent, Kept, most_calls}
 use Rattle.group_stage.specs.Places.{drawing_of, history_of, place_of, slot_of, word_in, word_of}
@@ -26,12 +27,6 @@ use Rattle.group_stage.specs.declared.view.View.{View}
 use Rattle.group_stage.proofs.Sums.{at_within, bit-more, bit-no, each-append, flag-none, only_one, term_le, terms_le, times-append, total-append, total-set, total_le}
 use Rattle.group_stage.proofs.Moves.{Homes, St, next_in, stage}
 use Rattle.group_stage.proofs.Taking.{Goes}
-
--- what a seat needs to draw: it is the one that may, and has no number
-pub record CanDraw (v : View) : Type 0 where
-  pub parts : 0 < v.parts
-  pub pen : 0 < v.pens
-  pub numbers : v.numbers ≡ []
 
 next_bound : (plan : Plan) (st : St) → Kept plan st → next_in plan st.words ≤ 256
 next_bound plan st o =

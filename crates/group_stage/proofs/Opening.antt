@@ -14,6 +14,7 @@ use Rattle.group_calls.specs.declared.event.Event.{Event}
 use Rattle.group_run.specs.Locality.{times}
 use Rattle.group_run.specs.World.{names}
 use Rattle.group_stage.specs.Stub.{Standing}
+use Rattle.group_stage.specs.Conditions.{IsAtStart}
 use Rattle.group_stage.specs.Counts.{Each, bit, flag, total}
 use Rattle.group_stage.specs.Kept.{Fits, IsAnswered, IsSpent, IsWhole, Kept, most_calls}
 use Rattle.group_stage.specs.Places.{drawing_of, history_of, place_of, slot_of, word_in, word_of}
@@ -26,14 +27,6 @@ use Rattle.group_stage.specs.declared.view.View.{View}
 use Rattle.group_stage.proofs.Sums.{at_within, bit-more, bit-no, each-append, flag-none, only_one, term_le, terms_le, times-append, total-append, total-set, total_le}
 use Rattle.group_stage.proofs.Moves.{Homes, St, next_in, stage}
 use Rattle.group_stage.proofs.Taking.{Goes}
-
--- what the first words and slots are
-pub record IsAtStart (plan : Plan) (ws : List ℕ) (xs : List (std.Option Standing)) : Type 0 where
-  pub limits : IsShape plan.shape
-  pub seats : plan.callers ≤ callers
-  pub words : ws ≡ replicate (word_of (processes_of plan.shape + 2)) 0
-  pub long : length xs ≡ slot_of (processes_of plan.shape)
-  pub home : (p : ℕ) → p < processes_of plan.shape → get_elem? xs (slot_of p) ≡ some (std.Some (standing_at plan.shape [] p))
 
 abbrev zeros_of : ℕ → List ℕ
 zeros_of n = replicate n 0

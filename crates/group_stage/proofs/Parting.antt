@@ -14,6 +14,7 @@ use Rattle.group_calls.specs.declared.event.Event.{Event}
 use Rattle.group_run.specs.Locality.{times}
 use Rattle.group_run.specs.World.{names}
 use Rattle.group_stage.specs.Stub.{Standing}
+use Rattle.group_stage.specs.Conditions.{CanJoin, CanPart}
 use Rattle.group_stage.specs.Counts.{Each, bit, flag, total}
 use Rattle.group_stage.specs.Kept.{Fits, IsAnswered, IsSpent, Kept, most_calls}
 use Rattle.group_stage.specs.Places.{drawing_of, history_of, place_of, slot_of, word_in, word_of}
@@ -28,12 +29,6 @@ use Rattle.group_stage.proofs.Moves.{Homes, St, next_in, stage}
 use Rattle.group_stage.proofs.Taking.{Goes}
 use Rattle.group_stage.proofs.Releasing.{tally-append}
 use Rattle.group_stage.proofs.Committing.{asks-append, drawn-append}
-
--- what a seat needs to be cut in two
-pub record CanPart (v : View) : Type 0 where
-  pub parts : 1 < v.parts
-  pub calls : v.calls ≤ most_calls
-  pub numbers : length v.numbers ≤ 1
 
 module _ (plan : Plan) (st : St) (o : Kept plan st) (id : ℕ) (v : View) (me : get_elem? st.views id ≡ some v) (can : CanPart v) where
   abbrev l : View
@@ -107,13 +102,6 @@ module _ (plan : Plan) (st : St) (o : Kept plan st) (id : ℕ) (v : View) (me : 
 
 pub parts : (plan : Plan) (id : ℕ) (v : View) → CanPart v → Splits (Kept plan) id v (kept_part v) (new_part v)
 parts plan id v can st o me = part-kept plan st o id v me can
-
--- what two seats need to be joined
-pub record CanJoin (v : View) (w : View) : Type 0 where
-  pub parts : 0 < v.parts
-  pub idle : v.held ≡ []
-  pub other_parts : 0 < w.parts
-  pub other_idle : w.held ≡ []
 
 module _ (plan : Plan) (st : St) (o : Kept plan st) (id other : ℕ) (v w : View) (me : get_elem? st.views id ≡ some v) (apart : ¬ (other ≡ id)) (it : get_elem? (set st.views id (joined v w)) other ≡ some w) (can : CanJoin v w) where
   abbrev both : View

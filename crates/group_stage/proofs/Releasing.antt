@@ -11,6 +11,7 @@ use Rattle.group_calls.specs.declared.event.Event.{Event}
 use Rattle.group_run.specs.Locality.{times}
 use Rattle.group_run.specs.World.{names}
 use Rattle.group_stage.specs.Stub.{Standing}
+use Rattle.group_stage.specs.Conditions.{HasLast}
 use Rattle.group_stage.specs.Counts.{Each, bit, flag, total}
 use Rattle.group_stage.specs.Kept.{Fits, IsSpent, Kept, most_calls}
 use Rattle.group_stage.specs.Places.{drawing_of, history_of, place_of, slot_of, word_in, word_of}
@@ -23,13 +24,6 @@ use Rattle.group_stage.proofs.Sums.{at_within, bit-no, each-weaker, flag-none, f
 use Rattle.group_stage.proofs.Moves.{Homes, Keeps, St, again, changed, knows, next_in, stage, word_bound}
 
 use Rattle.group_stage.proofs.Taking.{Goes, drawing-else, history-else, place-is, word-else, word-here}
-
--- what a seat needs to give a node back: it is the one that it took last
-pub record HasLast (plan : Plan) (m : Sat) (p : ℕ) (y : Standing) : Type 0 where
-  pub part : m.0.parts ≡ 1
-  pub within : p < processes_of plan.shape
-  pub held : m.0.held ≡ (p, y) ∷ held_rest m.0.held
-  pub slot : m.1 ≡ (slot_of p, std.Some y) ∷ rest m.1
 
 pub tally-append : (p : ℕ) (xs ys : List (ℕ × ℕ)) → tally p (xs ++ ys) ≡ tally p xs + tally p ys
 tally-append p [] ys = omega arith
@@ -110,7 +104,7 @@ module _ (plan : Plan) (st : St) (o : Kept plan st) (id : ℕ) (v : View) (me : 
         pen = fits.pen;
       })
 
-pub releases : (plan : Plan) (slots id : ℕ) (m : Sat) (p i : ℕ) (y : Standing) → i ≡ word_of p → HasLast plan m p y → Allows (Kept plan) slots id m i (λ _. 0) (Releases (step slots i 0 0 none) m)
+pub releases : (plan : Plan) (slots id : ℕ) (m : Sat) (p i : ℕ) (y : Standing) → i ≡ word_of p → HasLast plan m p y (std.Some y) → Allows (Kept plan) slots id m i (λ _. 0) (Releases (step slots i 0 0 none) m)
 releases plan slots id m p i y here last st o wide me low =
     let v : View = m.0 in
     let kept = released-kept plan st o id v me p y last.part last.within last.held in

@@ -11,6 +11,7 @@ use Rattle.group_calls.specs.declared.event.Event.{Event}
 use Rattle.group_run.specs.Locality.{times}
 use Rattle.group_run.specs.World.{names}
 use Rattle.group_stage.specs.Stub.{Standing}
+use Rattle.group_stage.specs.Conditions.{CanBegin, CanTake}
 use Rattle.group_stage.specs.Counts.{Each, bit, flag, total}
 use Rattle.group_stage.specs.Kept.{Fits, IsSpent, Kept, most_calls}
 use Rattle.group_stage.specs.Places.{drawing_of, history_of, place_of, slot_of, word_in, word_of}
@@ -163,21 +164,6 @@ module _ (plan : Plan) (st : St) (o : Kept plan st) (id : ℕ) (v : View) (me : 
         subst (λ (n : ℕ). Kept plan (stage (set st.words (word_of p) n) st.homes (set st.views id (with_met u p)))) (sym next) (met-kept k is).0,
         subst (λ (n : ℕ). Takes u p slots n (with_met u p, slots)) (sym is) refl,
       )
-
--- what a call needs to begin at a process
-pub record CanBegin (plan : Plan) (v : View) (e : Event) (p : ℕ) : Type 0 where
-  pub part : v.parts ≡ 1
-  pub calls : v.calls < most_calls
-  pub idle : v.held ≡ []
-  pub within : p < processes_of plan.shape
-  pub named : 0 < times p (names plan.shape e)
-
--- what it needs to go on with a further one
-pub record CanTake (plan : Plan) (v : View) (p : ℕ) : Type 0 where
-  pub part : v.parts ≡ 1
-  pub due : v.due ≡ 1
-  pub within : p < processes_of plan.shape
-  pub named : 0 < times p (names plan.shape v.call)
 
 module _ (plan : Plan) (slots id : ℕ) (m : Sat) (p i : ℕ) (here : i ≡ word_of p) where
   pub begins : (e : Event) → CanBegin plan m.0 e p → Allows (Kept plan) slots id m i (λ n. (n + 1) % 18446744073709551616) (Begins e (step slots i 1 0 none) m)

@@ -2,5 +2,9 @@
 #![tactic(auto)]
 
 mod node;
+mod places;
 mod plays;
+mod stage;
 mod view;
+
+pub use stage::Stage;
