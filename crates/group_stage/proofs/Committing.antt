@@ -10,7 +10,7 @@ use Rattle.group_types.specs.Dimensions.{Dimensions, processes_of}
 use Rattle.group_calls.specs.declared.event.Event.{Event}
 use Rattle.group_run.specs.Locality.{times}
 use Rattle.group_run.specs.World.{names}
-use Rattle.group_stage.specs.Stub.{Standing}
+use Rattle.group_node.specs.Standing.{Standing}
 use Rattle.group_stage.specs.Conditions.{CanCommit}
 use Rattle.group_stage.specs.Counts.{Each, bit, flag, total}
 use Rattle.group_stage.specs.Kept.{Fits, IsSpent, Kept, most_calls}

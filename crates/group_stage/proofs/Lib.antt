@@ -7,3 +7,4 @@ pub mod Committing
 pub mod Drawing
 pub mod Parting
 pub mod Opening
+pub mod Hands

@@ -11,7 +11,7 @@ use Rattle.group_calls.specs.declared.event.Event.{Event}
 use Rattle.group_run.specs.Headline.{IsRun}
 use Rattle.group_run.specs.Locality.{times}
 use Rattle.group_run.specs.World.{names}
-use Rattle.group_stage.specs.Stub.{Standing}
+use Rattle.group_node.specs.Standing.{Standing}
 use Rattle.group_stage.specs.Counts.{Each, bit, flag, total}
 use Rattle.group_stage.specs.Kept.{Fits, IsAnswered, IsSpent, Kept, most_calls}
 use Rattle.group_stage.specs.Places.{drawing_of, history_of, place_of, slot_of, word_in, word_of}

@@ -10,7 +10,7 @@ use Rattle.group_calls.specs.declared.event.Event.{Event}
 use Rattle.group_run.specs.Headline.{MayCome}
 use Rattle.group_run.specs.Locality.{times}
 use Rattle.group_run.specs.World.{World, names}
-use Rattle.group_stage.specs.Stub.{Standing}
+use Rattle.group_node.specs.Standing.{Standing}
 use Rattle.group_stage.specs.Kept.{most_calls}
 use Rattle.group_stage.specs.Places.{slot_of, word_of}
 use Rattle.group_stage.specs.Schedules.{ask_by, standing_at}

@@ -1,4 +1,3 @@
-pub mod Stub
 pub mod Places
 pub mod Schedules
 pub mod Views

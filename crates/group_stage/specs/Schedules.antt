@@ -8,7 +8,7 @@ use Rattle.group_calls.specs.declared.event.Event.{Event}
 use Rattle.group_calls.specs.declared.event.Event.TheVariants.{Ask}
 use Rattle.group_run.specs.Process.{Node}
 use Rattle.group_run.specs.World.{after, group_step, opening_node}
-use Rattle.group_stage.specs.Stub.{Standing}
+use Rattle.group_node.specs.Standing.{Standing}
 
 -- the machine's node of the process at an index, after a schedule
 abbrev pub node_at : Dimensions → List Event → ℕ → Node

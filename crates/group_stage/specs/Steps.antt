@@ -7,7 +7,7 @@ use Rattle.group_run.specs.Headline.{IsRun, MayCome}
 use Rattle.group_run.specs.Locality.{times}
 use Rattle.group_run.specs.World.{World}
 use Rattle.group_types.specs.Lists.{at}
-use Rattle.group_stage.specs.Stub.{Standing}
+use Rattle.group_node.specs.Standing.{Standing}
 use Rattle.group_stage.specs.Counts.{Each}
 use Rattle.group_stage.specs.Kept.{IsAnswered}
 use Rattle.group_stage.specs.Places.{place_of, slot_of}

@@ -5,7 +5,7 @@ use Rattle.group_types.specs.declared.process.ProcessId.TheVariants.{DataNode}
 use Rattle.group_calls.specs.declared.event.Event.{Event}
 use Rattle.group_calls.specs.declared.event.Event.TheVariants.{Flush}
 use Rattle.group_run.specs.Locality.{times}
-use Rattle.group_stage.specs.Stub.{Standing}
+use Rattle.group_node.specs.Standing.{Standing}
 use Rattle.group_stage.specs.Schedules.{answer_at, ask_by, standing_at}
 use Rattle.group_stage.specs.declared.view.Numbered.{Numbered}
 use Rattle.group_stage.specs.declared.view.View.{View}

@@ -1,7 +1,6 @@
 //! A group whose nodes are shared by threads.
 #![tactic(auto)]
 
-mod node;
 mod places;
 mod plays;
 mod stage;

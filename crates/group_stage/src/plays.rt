@@ -1,4 +1,4 @@
-use crate::node::Node;
+use group_node::Node;
 use crate::view::{Plan, View};
 use atomic_table::{Join, Play, Split, TableRule};
 use group_calls::Event;

@@ -1,4 +1,4 @@
-use crate::node::Node;
+use group_node::Node;
 use group_calls::{Answer, Event};
 use group_types::Shape;
 use std::collections::LinkedList;
