@@ -8,3 +8,4 @@ pub mod Drawing
 pub mod Parting
 pub mod Opening
 pub mod Hands
+pub mod Treating

@@ -1,5 +1,5 @@
 -- What a seat needs for each of its steps.
-use Rattle.std.specs.Prelude.{◌≡◌, ℕ, ◌+◌, ◌*◌, ◌<◌, ◌≤◌, List, [], ◌∷◌, length, map, replicate, Option, Some, None}
+use Rattle.std.specs.Prelude.{◌≡◌, ℕ, ◌+◌, ◌*◌, ◌<◌, ◌≤◌, List, [], ◌∷◌, ◌++◌, length, map, replicate, Option, Some, None}
 use mathlib.Core.Option as maybe
 use lib.ListN.{get_elem?}
 use Rattle.atomic_table.specs.Table.{rest}
@@ -93,3 +93,12 @@ pub record InHand (v : View) (p : ℕ) (slots : List (ℕ × Option Standing)) (
 abbrev pub Took : View → ℕ → List (ℕ × Option Standing) → Option Standing → Sat → Type 0
 Took v p slots (Some y) w = (es : List Event) × InHand v p slots y w es
 Took v p slots None w = w ≡ (with_met v p, slots)
+
+-- a call of one process may become an event: the node in hand has treated it as the machine does
+pub record CanFinish (plan : Plan) (m : Sat) (p : ℕ) (new : Standing) : Type 0 where
+  pub old : Standing
+  pub within : p < processes_of plan.shape
+  pub can : CanCommit plan m.0
+  pub held : m.0.held ≡ (p, old) ∷ []
+  pub slot : m.1 ≡ (slot_of p, None) ∷ []
+  pub treated : (es : List Event) → Knows es m.0 → new ≡ standing_at m.0.shape (es ++ m.0.call ∷ []) p

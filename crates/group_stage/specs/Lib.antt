@@ -5,3 +5,4 @@ pub mod Counts
 pub mod Kept
 pub mod Steps
 pub mod Conditions
+pub mod Ended

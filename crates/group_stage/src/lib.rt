@@ -1,9 +1,14 @@
 //! A group whose nodes are shared by threads.
 #![tactic(auto)]
 
+mod answer;
+mod asking;
 mod places;
 mod plays;
+mod seat;
 mod stage;
 mod view;
 
+pub use answer::StageAnswer;
+pub use seat::Seat;
 pub use stage::Stage;

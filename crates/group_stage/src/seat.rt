@@ -1,0 +1,29 @@
+ghost use Rattle.std.specs.Prelude.{◌≡◌};
+ghost use Rattle.group_stage.specs.Ended.{IsSeat};
+
+use crate::stage::RawSeat;
+
+/// A place at a stage, from which one thread calls. It has a caller number of its own.
+pub struct Seat {
+    pub(crate) raw: RawSeat,
+    pub(crate) caller: u32,
+    pub(crate) calls: u64,
+    pub(crate) asks: u64,
+    ghost is_seat: { IsSeat raw.me caller calls asks },
+}
+
+impl Seat {
+    /// Its caller number.
+    pub fn caller(&self) -> u32
+        ensures { result ≡ self.now.caller }
+    {
+        self.caller
+    }
+
+    /// How often it asked: the events `Ask` among its events.
+    pub fn asks(&self) -> u64
+        ensures { result ≡ self.now.asks }
+    {
+        self.asks
+    }
+}
