@@ -1,11 +1,13 @@
 -- A call of one process: the node in hand treats it as the machine does, and so the call is the event.
 use Rattle.std.proofs.Common.{ℕ, zero, suc, ◌≡◌, ◌≢◌, ◌<◌, ◌≤◌, ◌+◌, Bool, cond, eqb, List, [], ◌∷◌, ◌++◌, length, map, refl, sym, ap, subst, ◌∙◌, arith}
-use Rattle.std.specs.Prelude.{Option, Some, None}
+use Rattle.std.specs.Prelude.{All, Option, Some, None, false}
+use Rattle.std.proofs.lemmas.List.Elements.{All-weaker}
 use Rattle.atomic_table.specs.Table.{rest}
 use Rattle.group_types.specs.Dimensions.{Dimensions, callers, processes_of}
 use Rattle.group_types.specs.Lists.{at, put}
 use Rattle.group_types.specs.Names.{IsProcess, index_of, process_at}
 use Rattle.group_types.specs.declared.process.ProcessId.{ProcessId}
+use Rattle.group_types.specs.declared.process.Partition.{Partition}
 use Rattle.group_types.proofs.Lists.{at-put}
 use Rattle.group_types.proofs.Names.{index-below, process_at-index}
 use Rattle.memc_table.specs.Act.{value_of}
@@ -15,7 +17,11 @@ use Rattle.group_calls.specs.declared.event.Event.{Event}
 use Rattle.group_calls.specs.declared.event.Event.TheVariants.{Ask, Collect, Flush, Trace}
 use Rattle.group_run.specs.Headline.{IsRun, MayCome}
 use Rattle.group_run.specs.Locality.{times}
+use Rattle.group_run.specs.Meaning.{Lives}
 use Rattle.group_run.specs.Process.{Node}
+use Rattle.group_run.specs.Replica.{last_of}
+use Rattle.law_answers.specs.Numbers.{NumbersAreLow}
+use Rattle.law_answers.proofs.Numbers.{numbers_low_always}
 use Rattle.group_run.specs.World.{GroupStep, NodeStep, World, after, ask_node, collect_node, flush_node, group_step, names, next_name, node_of, one_changes, opening, opening_node, step, trace_node, unchanged}
 use Rattle.group_node.specs.Standing.{Standing}
 use Rattle.group_node.specs.Steps.{made}
@@ -31,7 +37,7 @@ use Rattle.group_stage.specs.declared.answer.StageAnswer.TheVariants.{Made}
 use Rattle.group_stage.specs.declared.view.Plan.{Plan}
 use Rattle.group_stage.specs.declared.view.View.{View}
 use Rattle.group_stage.proofs.Sums.{times-here}
-use Rattle.group_stage.proofs.Runs.{after-more, run-more, shape-after}
+use Rattle.group_stage.proofs.Runs.{after-more, events-after, run-more, shape-after}
 
 -- an event of one process, which the caller of this view may make
 pub record IsOne (s : Dimensions) (v : View) (e : Event) (p : ProcessId) : Type 0 where
@@ -154,3 +160,64 @@ flush-one s v p pin = record { named = refl; own = λ c no. refl; may = λ w sha
 pub flush-treats : (v : View) (p : ℕ) (q : ProcessId) (y new : Standing) (out : NodeOut) → IsProcess v.shape q → p ≡ index_of v.shape q → new.shape ≡ y.shape
     → flush_node y.shape y.node ≡ made new.node out → Treats v (Flush q) p y new out.answer
 flush-treats v p q y new out pin here shape is = treats v (Flush q) p q y pin here new out.answer (λ w s n. flush_node s n) (made new.node out) (λ w. refl) shape refl refl (λ es knows. is)
+
+pub collect-one : (s : Dimensions) (v : View) (caller call : ℕ) (p : ProcessId) → caller < callers → IsProcess s p → IsOne s v (Collect caller call p) p
+collect-one s v caller call p low pin = record { named = refl; own = λ c no. refl; may = λ w shape asked. (low, subst (λ (t : Dimensions). IsProcess t p) (sym shape) pin) }
+
+pub collect-treats : (v : View) (p caller call : ℕ) (q : ProcessId) (y new : Standing) (a : Answer) → IsProcess v.shape q → p ≡ index_of v.shape q → new.shape ≡ y.shape
+    → collect_node y.shape caller call y.node ≡ unchanged a new.node → Treats v (Collect caller call q) p y new a
+collect-treats v p caller call q y new a pin here shape is =
+    treats v (Collect caller call q) p q y pin here new a (λ w s n. collect_node s caller call n) (unchanged a new.node) (λ w. refl) shape refl refl (λ es knows. is)
+
+-- a caller's own number
+own-times : (v : View) (caller : ℕ) → v.numbers ≡ caller ∷ [] → 0 < times caller v.numbers
+own-times v caller own = let one = times-here caller [] in let same = ap (times caller) own in omega (arith, one, same)
+
+pub trace-one : (s : Dimensions) (v : View) (caller call : ℕ) (d : Partition) (p : ProcessId) → caller < callers → v.numbers ≡ caller ∷ [] → call < asks_by caller v.made → d.0 < s.k → IsProcess s p
+    → IsOne s v (Trace caller call d p) p
+trace-one s v caller call d p low own asked within pin = record {
+  named = refl;
+  own = λ c no. refl;
+  may = λ w shape known. (low, (let same = known caller (own-times v caller own) in omega (arith, same, asked)), subst (λ (t : Dimensions). d.0 < t.k) (sym shape) within, subst (λ (t : Dimensions). IsProcess t p) (sym shape) pin);
+}
+
+pub trace-treats : (v : View) (p caller call : ℕ) (d : Partition) (q : ProcessId) (y : Standing) (a : Answer) → IsProcess v.shape q → p ≡ index_of v.shape q
+    → trace_node y.shape caller call d.0 y.node ≡ unchanged a y.node → Treats v (Trace caller call d q) p y y a
+trace-treats v p caller call d q y a pin here is =
+    treats v (Trace caller call d q) p q y pin here y a (λ w s n. trace_node s caller call d.0 n) (unchanged a y.node) (λ w. refl) refl refl refl (λ es knows. is)
+
+pub ask-one : (s : Dimensions) (v : View) (caller : ℕ) (op : Asked) (p : ProcessId) → caller < callers → v.numbers ≡ caller ∷ [] → All (λ b. b < 256) (value_of op.act) → IsProcess s p → IsOne s v (Ask caller op p) p
+ask-one s v caller op p low own bytes pin = record {
+  named = refl;
+  own = λ c no. let same = ap (times c) own in omega (arith, same, no);
+  may = λ w shape asked. (low, subst (λ (t : Dimensions). IsProcess t p) (sym shape) pin, bytes);
+}
+
+pub ask-treats : (v : View) (p caller call : ℕ) (op : Asked) (q : ProcessId) (y new : Standing) (out : NodeOut) → v.numbers ≡ caller ∷ [] → call ≡ asks_by caller v.made → IsProcess v.shape q → p ≡ index_of v.shape q
+    → new.shape ≡ y.shape → ask_node y.shape (record { caller = caller; call = call }) op y.node ≡ made new.node out → Treats v (Ask caller op q) p y new out.answer
+ask-treats v p caller call op q y new out own asked pin here shape is =
+    treats v (Ask caller op q) p q y pin here new out.answer (λ w s n. ask_node s (next_name w caller) op n) (made new.node out) (λ w. refl) shape refl refl
+    (λ es knows. let same : asked_at v.shape es caller ≡ call = knows.asked caller (own-times v caller own) ∙ sym asked in
+        ap (λ (n : ℕ). ask_node y.shape (record { caller = caller; call = n }) op y.node) same ∙ is)
+
+-- the numbers at the node in hand can rise
+module _ (v : View) (e : Event) (p : ℕ) (q : ProcessId) (slots : List (ℕ × Option Standing)) (y : Standing) (m : Sat) (pin : IsProcess v.shape q) (here : p ≡ index_of v.shape q)
+    (taken : (es : List Event) × InHand (begun e v) p slots y m es) where
+  low-is : NumbersAreLow (after v.shape taken.0)
+  low-is = numbers_low_always v.shape taken.0 taken.1.knows.run
+
+  node-same : y.node ≡ node_of (after v.shape taken.0) q
+  node-same = ap (λ (z : Standing). z.node) (taken.1.node ∙ ap (standing_at v.shape taken.0) here) ∙ sym (node-is v.shape taken.0 q pin)
+
+  few : (after v.shape taken.0).events < 4611686018427387904
+  few = let many = events-after v.shape taken.0 in let low = taken.1.knows.few in omega (arith, many, low)
+
+  lives : y.node.dead ≡ false → Lives (after v.shape taken.0) q
+  lives dead = (subst (λ (s : Dimensions). IsProcess s q) (sym (shape-after v.shape taken.0)) pin, ap (λ (n : Node). n.dead) (sym node-same) ∙ dead)
+
+  pub low-updates : y.node.dead ≡ false → All (λ r. last_of r < 4611686018427387904) y.node.process.replicas
+  low-updates dead = subst (λ (n : Node). All (λ r. last_of r < 4611686018427387904) n.process.replicas) (sym node-same)
+      (All-weaker (λ r. last_of r ≤ (after v.shape taken.0).events) (λ r. last_of r < 4611686018427387904) (λ r low. let f = few in omega (arith, low, f)) _ (low-is.updates q (lives dead)))
+
+  pub low-sessions : y.node.dead ≡ false → y.node.process.as_leader.last_session < 4611686018427387904
+  low-sessions dead = let low = low-is.sessions q (lives dead) in let f = few in let same = ap (λ (n : Node). n.process.as_leader.last_session) node-same in omega (arith, low, f, same)

@@ -6,3 +6,4 @@ pub mod Kept
 pub mod Steps
 pub mod Conditions
 pub mod Ended
+pub mod Seated
