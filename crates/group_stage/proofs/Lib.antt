@@ -9,3 +9,4 @@ pub mod Parting
 pub mod Opening
 pub mod Hands
 pub mod Treating
+pub mod Seating

@@ -3,10 +3,14 @@
 
 mod answer;
 mod asking;
+mod collecting;
+mod finishing;
+mod flushing;
 mod places;
 mod plays;
 mod seat;
 mod stage;
+mod tracing;
 mod view;
 
 pub use answer::StageAnswer;

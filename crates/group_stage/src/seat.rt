@@ -1,7 +1,11 @@
-ghost use Rattle.std.specs.Prelude.{◌≡◌};
+ghost use Rattle.std.specs.Prelude.{◌≡◌, ◌↔◌, ◌<◌, ◌==◌, false, IsTrue};
 ghost use Rattle.group_stage.specs.Ended.{IsSeat};
+ghost use Rattle.group_stage.specs.Kept.{most_calls};
 
 use crate::stage::RawSeat;
+
+/// The most calls of one seat.
+pub const MOST_CALLS: u64 = 18_014_398_509_481_984;
 
 /// A place at a stage, from which one thread calls. It has a caller number of its own.
 pub struct Seat {
@@ -25,5 +29,12 @@ impl Seat {
         ensures { result ≡ self.now.asks }
     {
         self.asks
+    }
+
+    // Whether it has made all its calls.
+    pub(crate) fn is_worn(&self) -> bool
+        ensures { result ≡ (self.now.calls == most_calls) }
+    {
+        self.calls == MOST_CALLS
     }
 }
