@@ -1,5 +1,5 @@
 -- A seat after a call.
-use Rattle.std.proofs.Common.{ℕ, zero, suc, ◌≡◌, ◌≢◌, ◌<◌, ◌≤◌, ◌+◌, Bool, true, false, eqb, List, [], ◌∷◌, ◌++◌, length, refl, sym, ap, subst, ◌∙◌, arith, eq-eqb, ne_eqb, ◌⊎◌, ⊎_elim}
+use Rattle.std.proofs.Common.{ℕ, zero, suc, ◌≡◌, ◌≢◌, ◌<◌, ◌≤◌, ◌+◌, Bool, true, false, eqb, List, [], ◌∷◌, ◌++◌, length, refl, sym, ap, subst, ◌∙◌, arith, cond, eq-eqb, ne_eqb, ◌⊎◌, ⊎_elim}
 use Rattle.std.specs.Prelude.{Result, Ok, Err, MatchResult}
 use Rattle.std.proofs.lemmas.Bool.{cases_eq}
 use Rattle.std.specs.declared.alloc.AllocError.{AllocError}
@@ -97,3 +97,10 @@ module _ (e : Event) (m n : Sat) (caller calls asks : ℕ) (seat : IsSeat m call
   -- an ask
   pub asked-once : ask_by caller e ≡ 1 → IsSeat n caller (calls + 1) (asks + made_in r)
   asked-once one = after (made_in r) (sym (ap (λ (x : ℕ). more_asks x r) one ∙ one-asked r)) (one-most r)
+
+abbrev one_if : Bool → ℕ
+one_if b = cond b 1 0
+
+-- an ask of one's own
+pub own-ask : (c : ℕ) → one_if (eqb c c) ≡ 1
+own-ask c = ap one_if (eq-eqb c c refl)
