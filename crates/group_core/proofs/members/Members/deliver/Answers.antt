@@ -4,7 +4,7 @@ use Rattle.group_types.specs.Names.{index_of}
 use Rattle.group_message.specs.declared.message.Message.{Message}
 use Rattle.group_node.specs.Delivering.{Comes}
 use Rattle.group_core.specs.Seats.{Seats, seat, seats_of}
-use Rattle.group_core.proofs.nodes.Nodes.deliver.Goals as goal
+use Rattle.group_core.proofs.members.Members.deliver.Goals as goal
 
 pub deliver_in-requires-clause-comes : goal.deliver_in-requires-clause-comes
 deliver_in-requires-clause-comes c =

@@ -1,6 +1,6 @@
 use Rattle.group_run.specs.World.{flush_node}
 use Rattle.group_core.proofs.Changed.{changed, weaker}
-use Rattle.group_core.proofs.nodes.Nodes.flush.Goals as goal
+use Rattle.group_core.proofs.members.Members.flush.Goals as goal
 
 pub returns-clause-step : goal.returns-clause-step
 returns-clause-step c =

@@ -1,7 +1,7 @@
 use Rattle.std.proofs.Common.{◌∙◌}
 use Rattle.group_run.specs.World.{trace_node}
 use Rattle.group_core.proofs.Changed.{only-is, still}
-use Rattle.group_core.proofs.nodes.Nodes.trace.Goals as goal
+use Rattle.group_core.proofs.members.Members.trace.Goals as goal
 
 pub returns : goal.returns
 returns c = record {

@@ -4,7 +4,7 @@ use Rattle.group_run.specs.World.{ask_node}
 use Rattle.head_service.specs.Acting.{name_of}
 use Rattle.group_core.specs.Seats.{IsKnownLow}
 use Rattle.group_core.proofs.Changed.{changed, own-node, same-seats, weaker}
-use Rattle.group_core.proofs.nodes.Nodes.ask.Goals as goal
+use Rattle.group_core.proofs.members.Members.ask.Goals as goal
 
 pub ask-requires-clause-numbers : goal.ask-requires-clause-numbers
 ask-requires-clause-numbers c = λ up lives.

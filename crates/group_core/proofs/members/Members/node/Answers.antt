@@ -1,5 +1,5 @@
 use Rattle.group_core.proofs.Changed.{own-node}
-use Rattle.group_core.proofs.nodes.Nodes.node.Goals as goal
+use Rattle.group_core.proofs.members.Members.node.Goals as goal
 
 pub returns-clause-node : goal.returns-clause-node
 returns-clause-node c =

@@ -3,7 +3,7 @@ use Rattle.std.specs.List.{range_with_len}
 use Rattle.group_types.specs.Names.{process_at}
 use Rattle.group_run.specs.World.{opening_node}
 use Rattle.group_core.specs.Seats.{AreOf, nodes_of}
-use Rattle.group_core.proofs.nodes.nodes_at_start.Given as goal
+use Rattle.group_core.proofs.members.nodes_at_start.Given as goal
 
 abbrev pub invariant-processes : goal.invariant-processes
 invariant-processes l = record {

@@ -1,7 +1,7 @@
 use Rattle.std.proofs.Common.{◌∙◌}
 use Rattle.group_run.specs.World.{collect_node}
 use Rattle.group_core.proofs.Changed.{changed, only-is}
-use Rattle.group_core.proofs.nodes.Nodes.collect.Goals as goal
+use Rattle.group_core.proofs.members.Members.collect.Goals as goal
 
 pub returns-clause-step : goal.returns-clause-step
 returns-clause-step c =

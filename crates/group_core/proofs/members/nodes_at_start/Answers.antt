@@ -8,7 +8,7 @@ use Rattle.group_run.specs.World.{opening_node}
 use Rattle.group_node.specs.Standing.{Standing}
 use Rattle.group_core.specs.Seats.{AreOf, nodes_of}
 use Rattle.group_core.proofs.Told.{next-made}
-use Rattle.group_core.proofs.nodes.nodes_at_start.Goals as goal
+use Rattle.group_core.proofs.members.nodes_at_start.Goals as goal
 
 pub processes-preserved : goal.processes-preserved
 processes-preserved c =
