@@ -32,7 +32,7 @@ tally-append p (x ∷ xs) ys = let more = tally-append p xs ys in omega (arith, 
 tally-here : (p n : ℕ) → tally p ((p, n) ∷ []) ≡ n
 tally-here p n = ap (λ (b : std.Bool). std.cond b n 0 + 0) (eq-eqb p p refl) ∙ omega arith
 
-tally-else : (q p n : ℕ) → p ≢ q → tally q ((p, n) ∷ []) ≡ 0
+pub tally-else : (q p n : ℕ) → p ≢ q → tally q ((p, n) ∷ []) ≡ 0
 tally-else q p n other = ap (λ (b : std.Bool). std.cond b n 0 + 0) (ne_eqb p q other)
 
 each-rest : (P : ℕ × Standing → Type 0) (hs : List (ℕ × Standing)) → Each P hs → Each P (held_rest hs)

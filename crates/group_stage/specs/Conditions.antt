@@ -102,3 +102,15 @@ pub record CanFinish (plan : Plan) (m : Sat) (p : ℕ) (new : Standing) : Type 0
   pub held : m.0.held ≡ (p, old) ∷ []
   pub slot : m.1 ≡ (slot_of p, None) ∷ []
   pub treated : (es : List Event) → Knows es m.0 → new ≡ standing_at m.0.shape (es ++ m.0.call ∷ []) p
+
+-- a call of two processes may become an event: both nodes in hand, the second taken last, have treated it as the machine does
+pub record CanFinishTwo (plan : Plan) (m : Sat) (p q : ℕ) (first second : Standing) : Type 0 where
+  pub old : Standing
+  pub next : Standing
+  pub within : p < processes_of plan.shape
+  pub next_within : q < processes_of plan.shape
+  pub can : CanCommit plan m.0
+  pub held : m.0.held ≡ (q, next) ∷ (p, old) ∷ []
+  pub slot : m.1 ≡ (slot_of q, None) ∷ (slot_of p, None) ∷ []
+  pub treated : (es : List Event) → Knows es m.0 → first ≡ standing_at m.0.shape (es ++ m.0.call ∷ []) p
+  pub next_treated : (es : List Event) → Knows es m.0 → second ≡ standing_at m.0.shape (es ++ m.0.call ∷ []) q
