@@ -10,4 +10,4 @@ pub mod Opening
 pub mod Hands
 pub mod Treating
 pub mod Seating
-pub mod Delivering
+pub mod Pairs

@@ -114,3 +114,11 @@ pub record CanFinishTwo (plan : Plan) (m : Sat) (p q : ℕ) (first second : Stan
   pub slot : m.1 ≡ (slot_of q, None) ∷ (slot_of p, None) ∷ []
   pub treated : (es : List Event) → Knows es m.0 → first ≡ standing_at m.0.shape (es ++ m.0.call ∷ []) p
   pub next_treated : (es : List Event) → Knows es m.0 → second ≡ standing_at m.0.shape (es ++ m.0.call ∷ []) q
+
+-- both nodes are those that were taken last
+pub record HasTwo (plan : Plan) (m : Sat) (p q : ℕ) (first second : Standing) : Type 0 where
+  pub part : m.0.parts ≡ 1
+  pub within : p < processes_of plan.shape
+  pub next_within : q < processes_of plan.shape
+  pub held : m.0.held ≡ (q, second) ∷ (p, first) ∷ []
+  pub slot : m.1 ≡ (slot_of q, None) ∷ (slot_of p, None) ∷ []

@@ -4,6 +4,7 @@
 mod answer;
 mod asking;
 mod collecting;
+mod delivering;
 mod finishing;
 mod flushing;
 mod places;
