@@ -57,3 +57,8 @@ given-back plan m w p y there slot last here is =
 pub given : (m w x : Sat) (p i found : ℕ) (y : Standing) (slot : ℕ) → w ≡ (m.0, (slot, Some y) ∷ rest m.1) → i ≡ word_of p → x ≡ (released w.0 (place_of i) found, rest w.1) → x ≡ (released m.0 p found, rest m.1)
 given m w x p i found y slot is here has =
     has ∙ ap (λ (q : ℕ). (released w.0 q found, rest w.1)) (ap place_of here ∙ place-is p) ∙ ap (λ (z : Sat). (released z.0 p found, rest z.1)) is
+
+-- no node was taken
+pub none-took : (v : View) (p : ℕ) (slots : List (ℕ × Option Standing)) (r : Option Standing) (w : Sat) → ((x : Standing) → r ≡ Some x → ⊥) → Took v p slots r w → w ≡ (with_met v p, slots)
+none-took v p slots None w not took = took
+none-took v p slots (Some y) w not took = absurd (not y refl)

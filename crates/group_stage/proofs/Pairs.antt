@@ -293,3 +293,17 @@ unmade-two v e p q y z m m' w slots ready took taken back =
       seen = refl;
       met = refl;
     })
+
+-- both nodes in hand stand in the run of the schedule as of the second
+module _ (v : View) (e : Event) (p q : ℕ) (y z : Standing) (m m' : Sat) (slots : List (ℕ × Option Standing)) (took : (fs : List Event) × InHand (begun e v) p slots y m fs) (taken : (es : List Event) × InHand m.0 q m.1 z m' es) where
+  knows-two : Knows taken.0 (two_held v e p y q z)
+  knows-two = subst (λ (x : Sat). Knows taken.0 (with_held x.0 q z)) took.1.seat taken.1.knows
+
+  pub held-first : y ≡ standing_at v.shape taken.0 p
+  held-first = knows-two.held.1.0
+
+  pub held-second : z ≡ standing_at v.shape taken.0 q
+  held-second = knows-two.held.0
+
+  pub run-second : IsRun v.shape taken.0
+  run-second = knows-two.run
