@@ -6,8 +6,8 @@ pub mod Releasing
 pub mod Committing
 pub mod Drawing
 pub mod Parting
-pub mod Opening
+pub mod Starting
 pub mod Hands
 pub mod Treating
-pub mod Seating
+pub mod Called
 pub mod Pairs

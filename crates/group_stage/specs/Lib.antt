@@ -7,3 +7,6 @@ pub mod Steps
 pub mod Conditions
 pub mod Ended
 pub mod Seated
+pub mod Opened
+pub mod Dealt
+pub mod SeatList

@@ -7,13 +7,16 @@ mod collecting;
 mod delivering;
 mod finishing;
 mod flushing;
+mod opening;
 mod places;
 mod plays;
 mod seat;
+mod seats;
 mod stage;
 mod tracing;
 mod view;
 
 pub use answer::StageAnswer;
 pub use seat::Seat;
+pub use seats::Seats;
 pub use stage::Stage;

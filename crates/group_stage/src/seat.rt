@@ -8,6 +8,7 @@ use crate::stage::RawSeat;
 pub const MOST_CALLS: u64 = 18_014_398_509_481_984;
 
 /// A place at a stage, from which one thread calls. It has a caller number of its own.
+#[derive(Drop)]
 pub struct Seat {
     pub(crate) raw: RawSeat,
     pub(crate) caller: u32,

@@ -22,10 +22,12 @@ pub(crate) type RawSeat = atomic_table::Seat<Option<Node>, View>;
 /// The nodes of a group, which threads share.
 #[derive(Drop)]
 pub struct Stage {
+    pub(crate) alloc: Global,
     pub(crate) table: Table<Option<Node>, View, Plan, Rule, Global>,
     pub(crate) plan: Plan,
     ghost key_is: { table.shared.key ≡ plan },
     ghost words: { table.shared.table_id.words ≡ places.word_of (processes_of plan.shape + 2) },
+    ghost some: { 0 < plan.callers },
     ghost slots: { table.shared.table_id.slots ≡ places.slot_of (processes_of plan.shape) },
 }
 

@@ -2,7 +2,7 @@ use Rattle.std.proofs.Common.{◌≡◌, ◌+◌, ℕ, sym, ap, subst, ◌∙◌
 use Rattle.std.specs.Prelude.{Ok}
 use Rattle.group_calls.specs.declared.event.Event.TheVariants.{Ask}
 use Rattle.group_stage.specs.Ended.{IsSeat}
-use Rattle.group_stage.proofs.Seating.{asked-once, not-worn, ready, own-ask}
+use Rattle.group_stage.proofs.Called.{asked-once, not-worn, ready, own-ask}
 use Rattle.group_stage.proofs.stage.Stage.try_ask.Goals as goal
 
 pub ask_as-ended-requires-clause-ready : goal.ask_as-ended-requires-clause-ready

@@ -2,7 +2,7 @@ use Rattle.std.proofs.Common.{◌≡◌, ◌+◌, ℕ, sym, ap, subst, ◌∙◌
 use Rattle.std.specs.Prelude.{Ok}
 use Rattle.group_calls.specs.declared.event.Event.TheVariants.{Flush}
 use Rattle.group_stage.specs.Ended.{IsSeat}
-use Rattle.group_stage.proofs.Seating.{called, not-worn, ready}
+use Rattle.group_stage.proofs.Called.{called, not-worn, ready}
 use Rattle.group_stage.proofs.stage.Stage.try_flush.Goals as goal
 
 pub flush_as-ended-requires-clause-ready : goal.flush_as-ended-requires-clause-ready
