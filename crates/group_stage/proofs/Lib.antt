@@ -11,3 +11,4 @@ pub mod Hands
 pub mod Treating
 pub mod Called
 pub mod Pairs
+pub mod Dealing

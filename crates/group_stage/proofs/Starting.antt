@@ -28,7 +28,7 @@ use Rattle.group_stage.proofs.Sums.{at_within, bit-more, bit-no, each-append, fl
 use Rattle.group_stage.proofs.Moves.{Homes, St, next_in, stage}
 use Rattle.group_stage.proofs.Taking.{Goes}
 
-abbrev zeros_of : ℕ → List ℕ
+abbrev pub zeros_of : ℕ → List ℕ
 zeros_of n = replicate n 0
 
 word-zero : (n i : ℕ) → get_or (zeros_of n) i 0 ≡ 0

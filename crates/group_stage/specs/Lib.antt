@@ -10,3 +10,4 @@ pub mod Seated
 pub mod Opened
 pub mod Dealt
 pub mod SeatList
+pub mod Closed

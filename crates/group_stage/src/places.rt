@@ -1,5 +1,6 @@
 ghost use Rattle.std.specs.Prelude.{◌≡◌, ◌+◌, ◌≤◌, ◌<◌};
 ghost use Rattle.group_types.specs.Dimensions.{processes_of};
+ghost use Rattle.group_types.specs.Shape.{IsShape};
 ghost use Rattle.group_stage.specs.Places as places;
 
 use group_types::Shape;
@@ -8,6 +9,7 @@ use group_types::Shape;
 pub(crate) fn processes_of(shape: Shape) -> usize
     ensures value { result ≡ processes_of shape }
     ensures few { result ≤ 20 }
+    ensures limits { IsShape shape }
 {
     (shape.k() + shape.m()) as usize
 }
