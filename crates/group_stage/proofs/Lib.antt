@@ -12,3 +12,5 @@ pub mod Treating
 pub mod Called
 pub mod Pairs
 pub mod Dealing
+pub mod Stacks
+pub mod Deaths
