@@ -11,3 +11,4 @@ pub mod Opened
 pub mod Dealt
 pub mod SeatList
 pub mod Closed
+pub mod Emptied

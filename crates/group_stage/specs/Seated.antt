@@ -1,6 +1,7 @@
 -- A seat of a stage, as the contracts of a call see it.
-use Rattle.std.specs.Prelude.{◌≡◌, ℕ, Result, Ok, Err}
+use Rattle.std.specs.Prelude.{◌≡◌, ℕ, List, Result, Ok, Err}
 use Rattle.std.specs.declared.alloc.AllocError.{AllocError}
+use Rattle.group_stage.specs.Counts.{Each}
 use Rattle.group_stage.specs.declared.answer.StageAnswer.{StageAnswer}
 use Rattle.group_stage.specs.declared.answer.StageAnswer.TheVariants.{Busy, Made, Worn}
 use Rattle.group_stage.specs.declared.seat.Seat.{Seat}
@@ -25,3 +26,7 @@ one_made Worn = 0
 abbrev pub made_in : Result StageAnswer AllocError → ℕ
 made_in (Ok a) = one_made a
 made_in (Err e) = 0
+
+-- all are seats of this stage
+abbrev pub AreOf : Stage → List Seat → Type 0
+AreOf stage seats = Each (IsOf stage) seats

@@ -3,6 +3,7 @@
 
 mod answer;
 mod asking;
+mod closing;
 mod collecting;
 mod delivering;
 mod finishing;
@@ -17,6 +18,7 @@ mod tracing;
 mod view;
 
 pub use answer::StageAnswer;
+pub use closing::Unclosed;
 pub use seat::Seat;
 pub use seats::Seats;
 pub use stage::Stage;
