@@ -12,3 +12,4 @@ pub mod Treating
 pub mod Called
 pub mod Pairs
 pub mod Dealing
+pub mod Gathering

@@ -20,7 +20,7 @@ use atomic_table::Closed;
 use group_core::Nodes;
 use group_node::Node;
 use group_types::Shape;
-use std::alloc::Global;
+use std::alloc::{AllocError, Global};
 
 /// There was no memory to close a stage. Both come back as they were.
 #[derive(Drop)]
@@ -37,12 +37,19 @@ impl Stage {
         ensures closed { IfOk result (λ nodes. HasClosed self.plan.shape seats.seats nodes.nodes) }
         ensures unclosed { IfErr result (λ u. (u.stage ≡ self) × (u.seats ≡ seats)) }
     {
-        let count = self.plan.shape.k() + self.plan.shape.m();
-        let Ok(nodes) = Nodes::with_room(self.alloc, count) else {
+        let Ok(nodes) = self.room_for_all() else {
             return Err(Unclosed { stage: self, seats });
         };
         let seat = self.gather(seats);
         Ok(self.taken_apart(seat, nodes))
+    }
+
+    // Room for all nodes.
+    fn room_for_all(&self) -> Result<Nodes, AllocError>
+        ensures { IfOk result (λ nodes. nodes ≡ record { room = limits.processes_of self.now.plan.shape; nodes = [] }) }
+    {
+        let shape = self.plan.shape;
+        Nodes::with_room(self.alloc, shape.k() + shape.m())
     }
 
     // All seats as one.
