@@ -22,7 +22,6 @@ use Rattle.group_stage.specs.declared.view.Plan.{Plan}
 use Rattle.group_stage.specs.declared.view.View.{View}
 use Rattle.group_stage.proofs.Sums.{at_within, bit-no, each-weaker, flag-none, flag_le, only_one, term_le, terms_le, times-append, times-else, times-here, times_length, total-set, total_both, total_le, total_scaled}
 use Rattle.group_stage.proofs.Moves.{Homes, Keeps, St, again, changed, knows, next_in, stage, word_bound}
-
 use Rattle.std.proofs.Common.{append_assoc, append-nil}
 use Rattle.group_types.specs.Lists.{at}
 use Rattle.group_run.specs.Headline.{IsRun, MayCome}
@@ -122,7 +121,7 @@ module _ (plan : Plan) (st : St) (o : Kept plan st) (id : ℕ) (v : View) (me : 
         inside = fits.inside;
         held = each-both (λ h. (0 < times h.0 (map (λ h. h.0) u.held)) × (h.0 < processes_of plan.shape)) (λ h. h.1 ≡ standing_at plan.shape es h.0) (λ h. h.1 ≡ standing_at plan.shape (es ++ e ∷ []) h.0) u.held
             (λ h some_held is. is ∙ sym (still h.0 some_held.1
-                (let two = terms_le (holding h.0) st.views id j v u apart me at_j in let one = flag_le (word_in st.words h.0) in omega (arith, two, one, o.taken h.0 some_held.1, some_held.0))))
+            (let two = terms_le (holding h.0) st.views id j v u apart me at_j in let one = flag_le (word_in st.words h.0) in omega (arith, two, one, o.taken h.0 some_held.1, some_held.0))))
             (each-both (λ h. 0 < times h.0 (map (λ h. h.0) u.held)) (λ h. h.0 < processes_of plan.shape) (λ h. (0 < times h.0 (map (λ h. h.0) u.held)) × (h.0 < processes_of plan.shape)) u.held (λ h a b. (a, b))
             (each-counted u.held u.held (λ q. omega arith)) fits.inside)
             fits.held;

@@ -90,9 +90,9 @@ taken-more p slot fs here within taken =
       gone = λ k low. ⊎_elim
           (λ (e : k ≡ slot + 1). ap (λ (x : ℕ). get_or (set (set fs slot false) (slot + 1) false) x false) e ∙ get_or-set_same (set fs slot false) (slot + 1) false false (omega (arith, long, within)))
           (λ (n : k ≢ slot + 1). get_or-set_other (set fs slot false) (slot + 1) k false false n ∙ ⊎_elim
-              (λ (e : k ≡ slot). ap (λ (x : ℕ). get_or (set fs slot false) x false) e ∙ get_or-set_same fs slot false false (omega (arith, within)))
-              (λ (m : k ≢ slot). get_or-set_other fs slot k false false m ∙ taken.gone k (omega (arith, low, here, n, m)))
-              (cases_eq k slot))
+          (λ (e : k ≡ slot). ap (λ (x : ℕ). get_or (set fs slot false) x false) e ∙ get_or-set_same fs slot false false (omega (arith, within)))
+          (λ (m : k ≢ slot). get_or-set_other fs slot k false false m ∙ taken.gone k (omega (arith, low, here, n, m)))
+          (cases_eq k slot))
           (cases_eq k (slot + 1));
       left = λ k high below.
           let long2 = length-set (set fs slot false) (slot + 1) false in
@@ -106,9 +106,9 @@ pub nodes-more : (xs : List (std.Option Standing)) (slot p : ℕ) (nodes : List 
     → (q : ℕ) (z : Standing) → q < p + 1 → get_elem? xs (slot_of q) ≡ some (std.Some z) → slice_get (nodes ++ y ∷ []) q ≡ std.Some z
 nodes-more xs slot p nodes y here many there all q z low is = ⊎_elim
     (λ (e : q ≡ p).
-        let both : some (std.Some y) ≡ some (std.Some z) = sym there ∙ ap (get_elem? xs) (here ∙ ap slot_of (sym e)) ∙ is in
-        let same : std.Some y ≡ std.Some z = some-injective (std.Some y) (std.Some z) both in
-        ap (slice_get (nodes ++ y ∷ [])) (e ∙ sym many) ∙ get-last nodes y ∙ same)
+    let both : some (std.Some y) ≡ some (std.Some z) = sym there ∙ ap (get_elem? xs) (here ∙ ap slot_of (sym e)) ∙ is in
+    let same : std.Some y ≡ std.Some z = some-injective (std.Some y) (std.Some z) both in
+    ap (slice_get (nodes ++ y ∷ [])) (e ∙ sym many) ∙ get-last nodes y ∙ same)
     (λ (n : q ≢ p). get-more nodes (y ∷ []) q z (all q z (omega (arith, low, n)) is))
     (cases_eq q p)
 

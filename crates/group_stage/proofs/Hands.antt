@@ -35,11 +35,14 @@ in-hand v p slots m taken slot here r w had has =
     let front : (slot, r) ∷ rest m.1 ≡ (slot_of p, Some y) ∷ slots = sym had ∙ ap (λ (x : Sat). x.1) is.seat in
     let r-is : r ≡ Some y = ap (λ (l : List (ℕ × Option Standing)). (get_or l 0 (slot, r)).1) front in
     let rest-is : rest m.1 ≡ slots = ap (λ (x : Sat). rest x.1) is.seat in
-    subst (λ (x : Option Standing). Took v p slots x w) (sym r-is) (es, record {
-      node = refl;
-      knows = is.knows;
-      seat = has ∙ (λ i. ((is.seat i).0, (here i, None) ∷ rest-is i));
-    })
+    subst (λ (x : Option Standing). Took v p slots x w) (sym r-is) (
+      es,
+      record {
+        node = refl;
+        knows = is.knows;
+        seat = has ∙ (λ i. ((is.seat i).0, (here i, None) ∷ rest-is i));
+      },
+    )
 
 pub slot-there : (v : View) (p : ℕ) (slots : List (ℕ × Option Standing)) (m : Sat) → (es : List Event) × IsTaken v p slots m es → (slot : ℕ) → slot ≡ slot_of p
     → (old : Option Standing) × (m.1 ≡ (slot, old) ∷ rest m.1)

@@ -151,8 +151,7 @@ delivery-treats s es run from to fin tin apart sender receiver sender' receiver'
     let t : DeliveryStep = record { sender = sender'.node; receiver = made receiver'.node out } in
     let step = delivered-as s es run from to fin tin apart sender receiver sent received t is in
     let a : sender'.shape ≡ s = same ∙ ap (λ (z : Standing). z.shape) sent in
-    let b : receiver'.shape ≡ s = same' ∙ ap (λ (z : Standing). z.shape) received in
-    (
+    let b : receiver'.shape ≡ s = same' ∙ ap (λ (z : Standing). z.shape) received in (
       (λ i. record { shape = a i; node = sender'.node }) ∙ sym (sender-stands s es run from to fin tin apart t step),
       (λ i. record { shape = b i; node = receiver'.node }) ∙ sym (receiver-stands s es run from to fin tin apart t step),
       sym (delivery-answer s es run from to fin tin apart t step),
@@ -269,7 +268,7 @@ pub busy-second : (v : View) (e : Event) (p q : ℕ) (r : ProcessId) (y : Standi
 busy-second v e p q r y m m' w slots ready two here apart took met back =
     let found : ℕ = back.0 in
     let after_all : w.0 ≡ released (with_met (with_held (begun e v) p y) q) p found =
-        back.1 ∙ ap (λ (x : Sat). released x.0 p found) met ∙ ap (λ (x : Sat). released (with_met x.0 q) p found) took.1.seat in
+    back.1 ∙ ap (λ (x : Sat). released x.0 p found) met ∙ ap (λ (x : Sat). released (with_met x.0 q) p found) took.1.seat in
     subst (λ (x : View). Ended e v (Busy r) x) (sym after_all) (
       record { shape = refl; parts = refl; numbers = refl; calls = refl; idle = ready.idle },
       record {
@@ -286,7 +285,7 @@ pub unmade-two : (v : View) (e : Event) (p q : ℕ) (y z : Standing) (m m' w : S
     → (es : List Event) × InHand m.0 q m.1 z m' es → (f : ℕ) × (g : ℕ) × (w.0 ≡ released (released m'.0 q f) p g) → IsUnmade v w.0
 unmade-two v e p q y z m m' w slots ready took taken back =
     let after_all : w.0 ≡ released (released (two_held v e p y q z) q back.0) p back.1 =
-        back.2 ∙ ap (λ (x : Sat). released (released x.0 q back.0) p back.1) taken.1.seat ∙ ap (λ (x : Sat). released (released (with_held x.0 q z) q back.0) p back.1) took.1.seat in
+    back.2 ∙ ap (λ (x : Sat). released (released x.0 q back.0) p back.1) taken.1.seat ∙ ap (λ (x : Sat). released (released (with_held x.0 q z) q back.0) p back.1) took.1.seat in
     subst (IsUnmade v) (sym after_all) (record {
       returned = record { shape = refl; parts = refl; numbers = refl; calls = refl; idle = ready.idle };
       made = refl;

@@ -22,7 +22,6 @@ use Rattle.group_stage.specs.declared.view.Plan.{Plan}
 use Rattle.group_stage.specs.declared.view.View.{View}
 use Rattle.group_stage.proofs.Sums.{at_within, bit-no, each-weaker, flag-none, flag_le, only_one, term_le, terms_le, times-append, times-else, times-here, times_length, total-set, total_both, total_le, total_scaled}
 use Rattle.group_stage.proofs.Moves.{Homes, Keeps, St, again, changed, knows, next_in, stage, word_bound}
-
 use Rattle.group_stage.proofs.Taking.{Goes, drawing-else, history-else, place-is, word-else, word-here}
 
 pub tally-append : (p : ℕ) (xs ys : List (ℕ × ℕ)) → tally p (xs ++ ys) ≡ tally p xs + tally p ys
@@ -75,20 +74,20 @@ module _ (plan : Plan) (st : St) (o : Kept plan st) (id : ℕ) (v : View) (me : 
       changed plan st o id v v.call v.calls v.due (held_rest v.held) v.met (v.cleared ++ (p, word_in st.words p - 1) ∷ []) (set st.words (word_of p) 0) (set st.homes (slot_of p) (some (std.Some y))) me
       (length-set st.words (word_of p) 0) (length-set st.homes (slot_of p) (some (std.Some y))) (history-else plan st.words o.wide p 0 within) (drawing-else plan st.words o.wide p 0 within)
       (λ q low. ⊎_elim
-          (λ (e : q ≡ p). subst (λ (x : ℕ). times x (map (λ h. h.0) (held_rest v.held)) + flag (word_in st.words x) ≡ holding x v + flag (word_in (set st.words (word_of p) 0) x)) (sym e)
-              (let a = times-here p (map (λ h. h.0) (held_rest v.held)) in let b = holding-is p in let c = ap flag here in omega (arith, a, b, c, up)))
-          (λ (ne : q ≢ p). let a = times-else q p (map (λ h. h.0) (held_rest v.held)) (λ e. ne (sym e)) in let b = holding-is q in let c = ap flag (else q ne) in omega (arith, a, b, c))
-          (cases_eq q p))
+      (λ (e : q ≡ p). subst (λ (x : ℕ). times x (map (λ h. h.0) (held_rest v.held)) + flag (word_in st.words x) ≡ holding x v + flag (word_in (set st.words (word_of p) 0) x)) (sym e)
+      (let a = times-here p (map (λ h. h.0) (held_rest v.held)) in let b = holding-is p in let c = ap flag here in omega (arith, a, b, c, up)))
+      (λ (ne : q ≢ p). let a = times-else q p (map (λ h. h.0) (held_rest v.held)) (λ e. ne (sym e)) in let b = holding-is q in let c = ap flag (else q ne) in omega (arith, a, b, c))
+      (cases_eq q p))
       (λ q low. let more = tally-append q v.cleared ((p, word_in st.words p - 1) ∷ []) in ⊎_elim
-          (λ (e : q ≡ p). subst (λ (x : ℕ). met_of x v + flag (word_in (set st.words (word_of p) 0) x) + cleared_of x v + word_in st.words x ≡ met_of x v + flag (word_in st.words x) + tally x (v.cleared ++ (p, word_in st.words p - 1) ∷ []) + word_in (set st.words (word_of p) 0) x) (sym e)
-              (let a = tally-append p v.cleared ((p, word_in st.words p - 1) ∷ []) in let b = tally-here p (word_in st.words p - 1) in let c = ap flag here in omega (arith, a, b, c, up, here, high)))
-          (λ (ne : q ≢ p). let b = tally-else q p (word_in st.words p - 1) (λ e. ne (sym e)) in let c = ap flag (else q ne) in omega (arith, more, b, c, else q ne))
-          (cases_eq q p))
+      (λ (e : q ≡ p). subst (λ (x : ℕ). met_of x v + flag (word_in (set st.words (word_of p) 0) x) + cleared_of x v + word_in st.words x ≡ met_of x v + flag (word_in st.words x) + tally x (v.cleared ++ (p, word_in st.words p - 1) ∷ []) + word_in (set st.words (word_of p) 0) x) (sym e)
+      (let a = tally-append p v.cleared ((p, word_in st.words p - 1) ∷ []) in let b = tally-here p (word_in st.words p - 1) in let c = ap flag here in omega (arith, a, b, c, up, here, high)))
+      (λ (ne : q ≢ p). let b = tally-else q p (word_in st.words p - 1) (λ e. ne (sym e)) in let c = ap flag (else q ne) in omega (arith, more, b, c, else q ne))
+      (cases_eq q p))
       (λ q low zero_now. ⊎_elim
-          (λ (e : q ≡ p). subst (λ (x : ℕ). get_elem? (set st.homes (slot_of p) (some (std.Some y))) (slot_of x) ≡ some (some (std.Some (standing_at plan.shape o.schedule x)))) (sym e)
-              (set_here st.homes (slot_of p) (some (std.Some y)) (omega (arith, o.long, within)) ∙ ap (λ (z : Standing). some (some (std.Some z))) node-is))
-          (λ (ne : q ≢ p). set_else st.homes (slot_of p) (slot_of q) (some (std.Some y)) (λ e. ne (omega (arith, e))) ∙ o.home q low (sym (else q ne) ∙ zero_now))
-          (cases_eq q p))
+      (λ (e : q ≡ p). subst (λ (x : ℕ). get_elem? (set st.homes (slot_of p) (some (std.Some y))) (slot_of x) ≡ some (some (std.Some (standing_at plan.shape o.schedule x)))) (sym e)
+      (set_here st.homes (slot_of p) (some (std.Some y)) (omega (arith, o.long, within)) ∙ ap (λ (z : Standing). some (some (std.Some z))) node-is))
+      (λ (ne : q ≢ p). set_else st.homes (slot_of p) (slot_of q) (some (std.Some y)) (λ e. ne (omega (arith, e))) ∙ o.home q low (sym (else q ne) ∙ zero_now))
+      (cases_eq q p))
       (record {
         shape = fits.shape;
         inside = each-rest _ v.held fits.inside;

@@ -91,12 +91,12 @@ one_if b = cond b 1 0
 asked-step : (w : World) (e : Event) (c : ℕ) → at 0 (asked_after w.asked (call_of w e)) c ≡ at 0 w.asked c + ask_by c e
 asked-step w (Ask caller op p) c = ⊎_elim
     (λ (same : caller ≡ c).
-        let here : at 0 (put 0 w.asked caller (suc (at 0 w.asked caller))) caller ≡ suc (at 0 w.asked caller) = at-put 0 0 w.asked caller _ in
-        let one : one_if (eqb caller c) ≡ 1 = ap one_if (eq-eqb caller c same) in
-        ap (λ (x : ℕ). at 0 (put 0 w.asked caller (suc (at 0 w.asked caller))) x) (sym same) ∙ here ∙ omega (arith, one, ap (λ (x : ℕ). at 0 w.asked x) same))
+    let here : at 0 (put 0 w.asked caller (suc (at 0 w.asked caller))) caller ≡ suc (at 0 w.asked caller) = at-put 0 0 w.asked caller _ in
+    let one : one_if (eqb caller c) ≡ 1 = ap one_if (eq-eqb caller c same) in
+    ap (λ (x : ℕ). at 0 (put 0 w.asked caller (suc (at 0 w.asked caller))) x) (sym same) ∙ here ∙ omega (arith, one, ap (λ (x : ℕ). at 0 w.asked x) same))
     (λ (other : caller ≢ c).
-        let none : one_if (eqb caller c) ≡ 0 = ap one_if (ne_eqb caller c other) in
-        at-put-other 0 w.asked caller c _ (λ e. other (sym e)) ∙ omega (arith, none))
+    let none : one_if (eqb caller c) ≡ 0 = ap one_if (ne_eqb caller c other) in
+    at-put-other 0 w.asked caller c _ (λ e. other (sym e)) ∙ omega (arith, none))
     (cases_eq caller c)
 asked-step w (Collect caller call p) c = omega arith
 asked-step w (Deliver from to) c = omega arith

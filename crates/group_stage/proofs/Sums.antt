@@ -107,9 +107,9 @@ bit-no a b less = ap bit (le-ltb a b less)
 pub bit-more : (k n : ℕ) → bit (nat_lt k (suc n)) ≡ bit (nat_lt k n) + times k (n ∷ [])
 bit-more k n = ⊎_elim (λ (h : k < n). omega (arith, bit-yes k n h, bit-yes k (suc n) (omega arith), times-else k n [] (λ e. omega arith)))
     (λ (h : n ≤ k). ⊎_elim
-        (λ (e : n ≡ k). let here : times k (n ∷ []) ≡ 1 = ap (λ (x : ℕ). times k (x ∷ [])) e ∙ times-here k [] in omega (arith, bit-no k n h, bit-yes k (suc n) (omega arith), here))
-        (λ (ne : n ≢ k). let gone : times k (n ∷ []) ≡ 0 = times-else k n [] ne in omega (arith, bit-no k n h, bit-no k (suc n) (omega arith), gone))
-        (cases_eq n k))
+    (λ (e : n ≡ k). let here : times k (n ∷ []) ≡ 1 = ap (λ (x : ℕ). times k (x ∷ [])) e ∙ times-here k [] in omega (arith, bit-no k n h, bit-yes k (suc n) (omega arith), here))
+    (λ (ne : n ≢ k). let gone : times k (n ∷ []) ≡ 0 = times-else k n [] ne in omega (arith, bit-no k n h, bit-no k (suc n) (omega arith), gone))
+    (cases_eq n k))
     (cases_lt k n)
 
 pub flag_le : (n : ℕ) → flag n ≤ 1

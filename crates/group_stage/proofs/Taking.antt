@@ -65,19 +65,19 @@ module _ (plan : Plan) (st : St) (o : Kept plan st) (id : ℕ) (v : View) (me : 
       changed plan st o id v call calls due ((p, y) ∷ v.held) v.met v.cleared (set st.words (word_of p) 1) (set st.homes (slot_of p) none) me
       (length-set st.words (word_of p) 1) (length-set st.homes (slot_of p) none) (history-else plan st.words o.wide p 1 within) (drawing-else plan st.words o.wide p 1 within)
       (λ q low. ⊎_elim
-          (λ (e : q ≡ p). subst (λ (x : ℕ). times x (p ∷ map (λ h. h.0) v.held) + flag (word_in st.words x) ≡ holding x v + flag (word_in (set st.words (word_of p) 1) x)) (sym e)
-              (let a = times-here p (map (λ h. h.0) v.held) in let b = ap flag free in let c = ap flag here in omega (arith, a, b, c)))
-          (λ (ne : q ≢ p). let a = times-else q p (map (λ h. h.0) v.held) (λ e. ne (sym e)) in let b = ap flag (else q ne) in omega (arith, a, b))
-          (cases_eq q p))
+      (λ (e : q ≡ p). subst (λ (x : ℕ). times x (p ∷ map (λ h. h.0) v.held) + flag (word_in st.words x) ≡ holding x v + flag (word_in (set st.words (word_of p) 1) x)) (sym e)
+      (let a = times-here p (map (λ h. h.0) v.held) in let b = ap flag free in let c = ap flag here in omega (arith, a, b, c)))
+      (λ (ne : q ≢ p). let a = times-else q p (map (λ h. h.0) v.held) (λ e. ne (sym e)) in let b = ap flag (else q ne) in omega (arith, a, b))
+      (cases_eq q p))
       (λ q low. ⊎_elim
-          (λ (e : q ≡ p). subst (λ (x : ℕ). met_of x v + flag (word_in (set st.words (word_of p) 1) x) + cleared_of x v + word_in st.words x ≡ met_of x v + flag (word_in st.words x) + cleared_of x v + word_in (set st.words (word_of p) 1) x) (sym e)
-              (let b = ap flag free in let c = ap flag here in omega (arith, b, c, free, here)))
-          (λ (ne : q ≢ p). let b = ap flag (else q ne) in omega (arith, b, else q ne))
-          (cases_eq q p))
+      (λ (e : q ≡ p). subst (λ (x : ℕ). met_of x v + flag (word_in (set st.words (word_of p) 1) x) + cleared_of x v + word_in st.words x ≡ met_of x v + flag (word_in st.words x) + cleared_of x v + word_in (set st.words (word_of p) 1) x) (sym e)
+      (let b = ap flag free in let c = ap flag here in omega (arith, b, c, free, here)))
+      (λ (ne : q ≢ p). let b = ap flag (else q ne) in omega (arith, b, else q ne))
+      (cases_eq q p))
       (λ q low zero_now. ⊎_elim
-          (λ (e : q ≡ p). absurd (let one = ap (word_in (set st.words (word_of p) 1)) e in omega (arith, one, here, zero_now)))
-          (λ (ne : q ≢ p). set_else st.homes (slot_of p) (slot_of q) none (λ e. ne (omega (arith, e))) ∙ o.home q low (sym (else q ne) ∙ zero_now))
-          (cases_eq q p))
+      (λ (e : q ≡ p). absurd (let one = ap (word_in (set st.words (word_of p) 1)) e in omega (arith, one, here, zero_now)))
+      (λ (ne : q ≢ p). set_else st.homes (slot_of p) (slot_of q) none (λ e. ne (omega (arith, e))) ∙ o.home q low (sym (else q ne) ∙ zero_now))
+      (cases_eq q p))
       (record {
         shape = fit.shape;
         inside = (within, fit.inside);
@@ -101,19 +101,19 @@ module _ (plan : Plan) (st : St) (o : Kept plan st) (id : ℕ) (v : View) (me : 
       changed plan st o id v call calls 0 v.held (v.met ++ p ∷ []) v.cleared (set st.words (word_of p) (suc k + 1)) st.homes me
       (length-set st.words (word_of p) (suc k + 1)) refl (history-else plan st.words o.wide p (suc k + 1) within) (drawing-else plan st.words o.wide p (suc k + 1) within)
       (λ q low. ⊎_elim
-          (λ (e : q ≡ p). subst (λ (x : ℕ). holding x v + flag (word_in st.words x) ≡ holding x v + flag (word_in (set st.words (word_of p) (suc k + 1)) x)) (sym e)
-              (let b = ap flag is in let c = ap flag here in omega (arith, b, c, up)))
-          (λ (ne : q ≢ p). let b = ap flag (else q ne) in omega (arith, b))
-          (cases_eq q p))
+      (λ (e : q ≡ p). subst (λ (x : ℕ). holding x v + flag (word_in st.words x) ≡ holding x v + flag (word_in (set st.words (word_of p) (suc k + 1)) x)) (sym e)
+      (let b = ap flag is in let c = ap flag here in omega (arith, b, c, up)))
+      (λ (ne : q ≢ p). let b = ap flag (else q ne) in omega (arith, b))
+      (cases_eq q p))
       (λ q low. ⊎_elim
-          (λ (e : q ≡ p). subst (λ (x : ℕ). times x (v.met ++ p ∷ []) + flag (word_in (set st.words (word_of p) (suc k + 1)) x) + cleared_of x v + word_in st.words x ≡ met_of x v + flag (word_in st.words x) + cleared_of x v + word_in (set st.words (word_of p) (suc k + 1)) x) (sym e)
-              (let a = times-append p v.met (p ∷ []) in let t = times-here p [] in let b = ap flag is in let c = ap flag here in omega (arith, a, t, b, c, up, is, here)))
-          (λ (ne : q ≢ p). let a = times-append q v.met (p ∷ []) in let t = times-else q p [] (λ e. ne (sym e)) in let b = ap flag (else q ne) in omega (arith, a, t, b, else q ne))
-          (cases_eq q p))
+      (λ (e : q ≡ p). subst (λ (x : ℕ). times x (v.met ++ p ∷ []) + flag (word_in (set st.words (word_of p) (suc k + 1)) x) + cleared_of x v + word_in st.words x ≡ met_of x v + flag (word_in st.words x) + cleared_of x v + word_in (set st.words (word_of p) (suc k + 1)) x) (sym e)
+      (let a = times-append p v.met (p ∷ []) in let t = times-here p [] in let b = ap flag is in let c = ap flag here in omega (arith, a, t, b, c, up, is, here)))
+      (λ (ne : q ≢ p). let a = times-append q v.met (p ∷ []) in let t = times-else q p [] (λ e. ne (sym e)) in let b = ap flag (else q ne) in omega (arith, a, t, b, else q ne))
+      (cases_eq q p))
       (λ q low zero_now. ⊎_elim
-          (λ (e : q ≡ p). absurd (let one = ap (word_in (set st.words (word_of p) (suc k + 1))) e in omega (arith, one, here, zero_now)))
-          (λ (ne : q ≢ p). o.home q low (sym (else q ne) ∙ zero_now))
-          (cases_eq q p))
+      (λ (e : q ≡ p). absurd (let one = ap (word_in (set st.words (word_of p) (suc k + 1))) e in omega (arith, one, here, zero_now)))
+      (λ (ne : q ≢ p). o.home q low (sym (else q ne) ∙ zero_now))
+      (cases_eq q p))
       (record {
         shape = fit.shape;
         inside = fit.inside;
@@ -139,8 +139,7 @@ module _ (plan : Plan) (st : St) (o : Kept plan st) (id : ℕ) (v : View) (me : 
       let shape : v.shape ≡ plan.shape = fit.shape parts in
       let one : (word_in st.words p + 1) % 18446744073709551616 ≡ 1 = omega (arith, is) in
       let w : View = with_held u p y in
-      let there : get_elem? (set st.views id w) id ≡ some w = set_here st.views id w (at_within st.views id v me) in
-      (
+      let there : get_elem? (set st.views id w) id ≡ some w = set_here st.views id w (at_within st.views id v me) in (
         w,
         takes (slot_of p) (std.Some y),
         o.home p within is,
@@ -150,14 +149,16 @@ module _ (plan : Plan) (st : St) (o : Kept plan st) (id : ℕ) (v : View) (me : 
       )
     where
       shaped : (slots : List (ℕ × std.Option Standing)) → v.shape ≡ plan.shape → Knows o.schedule (with_held u p y) → (es : List Event) × IsTaken u p slots (with_held u p y, (slot_of p, std.Some y) ∷ slots) es
-      shaped slots shape k = (o.schedule, record {
-        knows = subst (λ (t : Dimensions). Knows o.schedule (with_held u p (standing_at t o.schedule p))) (sym shape) k;
-        seat = ap (λ (t : Dimensions). (with_held u p (standing_at t o.schedule p), (slot_of p, std.Some (standing_at t o.schedule p)) ∷ slots)) (sym shape);
-      })
+      shaped slots shape k = (
+        o.schedule,
+        record {
+          knows = subst (λ (t : Dimensions). Knows o.schedule (with_held u p (standing_at t o.schedule p))) (sym shape) k;
+          seat = ap (λ (t : Dimensions). (with_held u p (standing_at t o.schedule p), (slot_of p, std.Some (standing_at t o.schedule p)) ∷ slots)) (sym shape);
+        },
+      )
   goes slots (suc k) is =
       let bound = word_bound plan st o p within in
-      let next : (word_in st.words p + 1) % 18446744073709551616 ≡ suc k + 1 = omega (arith, is, bound) in
-      (
+      let next : (word_in st.words p + 1) % 18446744073709551616 ≡ suc k + 1 = omega (arith, is, bound) in (
         with_met u p,
         keeps,
         tt,

@@ -64,8 +64,8 @@ one-treated s es e p t pin is =
     let d : Node = opening_node s (process_at s x) in
     let shape = shape-after s es in
     let node : node_at s (es ++ e ∷ []) x ≡ t.node =
-        ap (λ (v : World). at d v.nodes x) (after-more (opening s) es e) ∙ ap (λ (g : GroupStep). at d g.nodes x) is
-        ∙ (λ i. at d (put (opening_node (shape i) p) w.nodes (index_of (shape i) p) t.node) x) ∙ at-put d (opening_node s p) w.nodes x t.node in
+    ap (λ (v : World). at d v.nodes x) (after-more (opening s) es e) ∙ ap (λ (g : GroupStep). at d g.nodes x) is
+    ∙ (λ i. at d (put (opening_node (shape i) p) w.nodes (index_of (shape i) p) t.node) x) ∙ at-put d (opening_node s p) w.nodes x t.node in
     (ap (λ (n : Node). record { shape = s; node = n }) node, ap (λ (g : GroupStep). g.answer) is)
 
 -- the shape and the node in hand are those of the run
@@ -198,7 +198,7 @@ pub ask-treats : (v : View) (p caller call : ℕ) (op : Asked) (q : ProcessId) (
 ask-treats v p caller call op q y new out own asked pin here shape is =
     treats v (Ask caller op q) p q y pin here new out.answer (λ w s n. ask_node s (next_name w caller) op n) (made new.node out) (λ w. refl) shape refl refl
     (λ es knows. let same : asked_at v.shape es caller ≡ call = knows.asked caller (own-times v caller own) ∙ sym asked in
-        ap (λ (n : ℕ). ask_node y.shape (record { caller = caller; call = n }) op y.node) same ∙ is)
+    ap (λ (n : ℕ). ask_node y.shape (record { caller = caller; call = n }) op y.node) same ∙ is)
 
 -- the numbers at the node in hand can rise
 module _ (v : View) (e : Event) (p : ℕ) (q : ProcessId) (slots : List (ℕ × Option Standing)) (y : Standing) (m : Sat) (pin : IsProcess v.shape q) (here : p ≡ index_of v.shape q)

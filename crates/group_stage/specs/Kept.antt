@@ -77,7 +77,6 @@ pub record Kept (plan : Plan) (st : State (Option Standing) View) : Type 0 where
       → get_elem? st.homes (slot_of p) ≡ maybe.some (maybe.some (Some (standing_at plan.shape schedule p)))
   pub each : (j : ℕ) (v : View) → get_elem? st.views j ≡ maybe.some v → Fits plan.shape schedule (slice_index st.words (drawing_of plan.shape)) v
 
-
 -- the schedule is exactly that of these views: each number of it is of one of their events, with the machine's answer
 pub record IsWhole (s : Dimensions) (es : List Event) (views : List View) : Type 0 where
   pub many : total (λ v. length v.made) views ≡ length es

@@ -13,7 +13,19 @@ use Rattle.group_stage.specs.declared.view.View.{View}
 -- the view of a seat that has not called, with this many parts
 abbrev pub blank : Dimensions → ℕ → ℕ → ℕ → View
 blank s parts pens next = record {
-  shape = s; parts = parts; pens = pens; next = next; numbers = []; calls = 0; call = Flush (DataNode 0); due = 0; held = []; met = []; cleared = []; made = []; seen = [];
+  shape = s;
+  parts = parts;
+  pens = pens;
+  next = next;
+  numbers = [];
+  calls = 0;
+  call = Flush (DataNode 0);
+  due = 0;
+  held = [];
+  met = [];
+  cleared = [];
+  made = [];
+  seen = [];
 }
 
 -- the view of a seat that was joined to another
@@ -68,9 +80,19 @@ new_part v = blank v.shape (v.parts - 1) v.pens v.next
 -- two views as one
 abbrev pub joined : View → View → View
 joined v w = record {
-  shape = v.shape; parts = v.parts + w.parts; pens = v.pens + w.pens; next = if v.pens == 0 then w.next else v.next;
-  numbers = v.numbers ++ w.numbers; calls = v.calls + w.calls; call = v.call; due = v.due + w.due; held = v.held ++ w.held;
-  met = v.met ++ w.met; cleared = v.cleared ++ w.cleared; made = v.made ++ w.made; seen = v.seen;
+  shape = v.shape;
+  parts = v.parts + w.parts;
+  pens = v.pens + w.pens;
+  next = if v.pens == 0 then w.next else v.next;
+  numbers = v.numbers ++ w.numbers;
+  calls = v.calls + w.calls;
+  call = v.call;
+  due = v.due + w.due;
+  held = v.held ++ w.held;
+  met = v.met ++ w.met;
+  cleared = v.cleared ++ w.cleared;
+  made = v.made ++ w.made;
+  seen = v.seen;
 }
 
 -- how often a process's word was met held

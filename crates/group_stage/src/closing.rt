@@ -67,7 +67,9 @@ impl Stage {
         };
         let mut all = first.into_raw();
         'seats: while let Some(seat) = rest.take() {
-            self.table.shared.join_seat::<Both>(&mut all, seat.into_raw());
+            self.table
+                .shared
+                .join_seat::<Both>(&mut all, seat.into_raw());
         }
         all
     }

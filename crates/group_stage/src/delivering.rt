@@ -147,14 +147,7 @@ impl Stage {
     }
 
     // A call of two processes becomes an event, and both nodes go back.
-    fn finish_two(
-        &self,
-        seat: &mut RawSeat,
-        low: usize,
-        high: usize,
-        first: Node,
-        second: Node,
-    )
+    fn finish_two(&self, seat: &mut RawSeat, low: usize, high: usize, first: Node, second: Node)
         requires table { seat.old.table_id ≡ self.now.table.shared.table_id }
         requires can { CanFinishTwo self.now.plan seat.old.me low high first second }
         ensures table { seat.new.table_id ≡ seat.old.table_id }
@@ -165,14 +158,7 @@ impl Stage {
     }
 
     // Both nodes go back, in the opposite order.
-    fn put_two_back(
-        &self,
-        seat: &mut RawSeat,
-        low: usize,
-        high: usize,
-        first: Node,
-        second: Node,
-    )
+    fn put_two_back(&self, seat: &mut RawSeat, low: usize, high: usize, first: Node, second: Node)
         requires table { seat.old.table_id ≡ self.now.table.shared.table_id }
         requires last { HasTwo self.now.plan seat.old.me low high first second }
         ensures table { seat.new.table_id ≡ seat.old.table_id }

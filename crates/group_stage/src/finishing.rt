@@ -7,7 +7,6 @@ ghost use Rattle.group_stage.specs.Ended.{Ended, IsUnmade, IsWorn};
 ghost use Rattle.group_stage.specs.Seated.{IsOf, view_of};
 ghost use Rattle.group_stage.specs.Steps.{Knows};
 ghost use Rattle.group_stage.specs.Views.{asks_by, committed, released};
-
 ghost use Rattle.group_calls.specs.declared.event.Event.{Event};
 
 use crate::stage::{RawSeat, Stage};

@@ -19,11 +19,7 @@ use std::marker::Brand;
 
 impl Stage {
     /// A process tells the others how far it has settled.
-    pub fn try_flush(
-        &self,
-        seat: &mut Seat,
-        at: ProcessId,
-    ) -> Result<StageAnswer, AllocError>
+    pub fn try_flush(&self, seat: &mut Seat, at: ProcessId) -> Result<StageAnswer, AllocError>
         requires seat { IsOf self.now seat.old }
         requires process { IsProcess self.now.plan.shape at }
         ensures seat { IsOf self.now seat.new }

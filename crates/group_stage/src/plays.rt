@@ -1,7 +1,7 @@
-use group_node::Node;
 use crate::view::{Plan, View};
 use atomic_table::{Join, Play, Split, TableRule};
 use group_calls::Event;
+use group_node::Node;
 use std::marker::{Brand, PhantomData};
 
 // The rule of a stage.

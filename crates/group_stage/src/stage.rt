@@ -8,11 +8,11 @@ ghost use Rattle.group_calls.specs.declared.event.Event.{Event};
 ghost use Rattle.std.specs.Prelude.{ℕ, List, Some, None};
 ghost use Rattle.atomic_table.specs.Table.{rest};
 
-use group_node::Node;
 use crate::places::{processes_of, slot_of, word_of};
 use crate::plays::{Begin, Calls, Commit, Release, Rule, Take};
 use crate::view::{Plan, View};
 use atomic_table::Table;
+use group_node::Node;
 use group_types::Shape;
 use std::alloc::Global;
 

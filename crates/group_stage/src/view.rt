@@ -1,5 +1,5 @@
-use group_node::Node;
 use group_calls::{Answer, Event};
+use group_node::Node;
 use group_types::Shape;
 use std::collections::LinkedList;
 

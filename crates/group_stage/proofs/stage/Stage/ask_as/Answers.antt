@@ -40,7 +40,7 @@ finish-requires-clause-can g c =
     let here = c.index_of-place.ensures ∙ ap (λ (s : Dimensions). index_of s q) (sym c.requires.shape) in
     let taken = subst (λ (e : Event). (es : List Event) × InHand (begun e v) p c.args.seat.now.me.1 c.in-Some.node c.take_first.new.seat.me es) c.requires.event c.in-Some.ensures.took in
     can-finish c.args.self.now.plan v (Ask c.args.call.caller c.args.op.now q) p q c.args.seat.now.me.1 c.in-Some.node c.ask.new.self c.in-Ok.out.answer c.take_first.new.seat.me c.requires.ready c.requires.shape c.requires.process
-        c.index_of-place.ensures (ask-one v.shape v c.args.call.caller c.args.op.now q c.requires.caller c.requires.own (subst (λ (x : Act). All (λ b. b < 256) (value_of x)) c.act.ensures c.values_are_bytes.ensures) pin) taken (ask-treats v p c.args.call.caller c.args.call.number c.args.op.now q c.in-Some.node c.ask.new.self c.in-Ok.out c.requires.own c.requires.number pin here c.in-Ok.ensures.shape c.in-Ok.ensures.step)
+    c.index_of-place.ensures (ask-one v.shape v c.args.call.caller c.args.op.now q c.requires.caller c.requires.own (subst (λ (x : Act). All (λ b. b < 256) (value_of x)) c.act.ensures c.values_are_bytes.ensures) pin) taken (ask-treats v p c.args.call.caller c.args.call.number c.args.op.now q c.in-Some.node c.ask.new.self c.in-Ok.out c.requires.own c.requires.number pin here c.in-Ok.ensures.shape c.in-Ok.ensures.step)
 
 pub returns-in-Ok-clause-ended : goal.returns-in-Ok-clause-ended
 returns-in-Ok-clause-ended g c =
@@ -51,4 +51,4 @@ returns-in-Ok-clause-ended g c =
     let here = c.index_of-place.ensures ∙ ap (λ (s : Dimensions). index_of s q) (sym c.requires.shape) in
     let taken = subst (λ (e : Event). (es : List Event) × InHand (begun e v) p c.args.seat.now.me.1 c.in-Some.node c.take_first.new.seat.me es) c.requires.event c.in-Some.ensures.took in
     made-ended v (Ask c.args.call.caller c.args.op.now q) p q c.args.seat.now.me.1 c.in-Some.node c.ask.new.self c.in-Ok.out.answer c.take_first.new.seat.me c.finish.new.seat.me c.requires.ready
-        (ask-one v.shape v c.args.call.caller c.args.op.now q c.requires.caller c.requires.own (subst (λ (x : Act). All (λ b. b < 256) (value_of x)) c.act.ensures c.values_are_bytes.ensures) pin) taken (ask-treats v p c.args.call.caller c.args.call.number c.args.op.now q c.in-Some.node c.ask.new.self c.in-Ok.out c.requires.own c.requires.number pin here c.in-Ok.ensures.shape c.in-Ok.ensures.step) c.finish.ensures.finished
+    (ask-one v.shape v c.args.call.caller c.args.op.now q c.requires.caller c.requires.own (subst (λ (x : Act). All (λ b. b < 256) (value_of x)) c.act.ensures c.values_are_bytes.ensures) pin) taken (ask-treats v p c.args.call.caller c.args.call.number c.args.op.now q c.in-Some.node c.ask.new.self c.in-Ok.out c.requires.own c.requires.number pin here c.in-Ok.ensures.shape c.in-Ok.ensures.step) c.finish.ensures.finished

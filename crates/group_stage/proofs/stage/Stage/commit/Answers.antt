@@ -8,8 +8,7 @@ use Rattle.group_stage.proofs.stage.Stage.commit.Goals as goal
 
 pub fetch_add-found-requires : goal.fetch_add-found-requires
 fetch_add-found-requires c =
-    let here = c.word_of-word.ensures ∙ ap word_of c.processes_of.ensures.value in
-    (
+    let here = c.word_of-word.ensures ∙ ap word_of c.processes_of.ensures.value in (
       c.requires.table,
       (let w = c.args.self.now.words in omega (arith, w, here)),
       commits c.args.self.now.table.shared.key c.args.self.now.table.shared.table_id.slots c.args.seat.now.id c.args.seat.now.me c.word_of-word.result

@@ -27,9 +27,9 @@ returns-in_default-take_next-clause-ended g c =
     let two = down-two v from to p q fin tin c.requires.apart low high in
     let took = subst (λ (e : Event). (es : List Event) × InHand (begun e v) p c.args.seat.now.me.1 c.in-Some.first c.take_first.new.seat.me es) c.requires.event c.in-Some.ensures.took in
     busy-second v (Deliver from to) p q from c.in-Some.first c.take_first.new.seat.me c.take_next.new.seat.me c.put_back.new.seat.me c.args.seat.now.me.1 c.requires.ready two high
-        (λ same. c.requires.apart (index-one v.shape from to fin tin (sym high ∙ sym same ∙ low))) took
-        (none-took c.take_first.new.seat.me.0 q c.take_first.new.seat.me.1 c.take_next.result c.take_next.new.seat.me c.in_default-take_next.not-Some c.take_next.ensures.took)
-        (c.put_back.ensures.released.0, ap (λ (m : Sat). m.0) c.put_back.ensures.released.1)
+    (λ same. c.requires.apart (index-one v.shape from to fin tin (sym high ∙ sym same ∙ low))) took
+    (none-took c.take_first.new.seat.me.0 q c.take_first.new.seat.me.1 c.take_next.result c.take_next.new.seat.me c.in_default-take_next.not-Some c.take_next.ensures.took)
+    (c.put_back.ensures.released.0, ap (λ (m : Sat). m.0) c.put_back.ensures.released.1)
 
 pub deliver_between-requires-clause-same : goal.deliver_between-requires-clause-same
 deliver_between-requires-clause-same g c =
@@ -89,8 +89,8 @@ finish_two-requires-clause-can g c =
     let taken = c.in-Some-take_next.ensures.took in
     let treats = down-treats v from to p q c.in-Some.first c.in-Some-take_next.second c.deliver_between.new.receiver c.deliver_between.new.sender c.in-Ok.out fin tin c.requires.apart low high c.in-Ok.ensures.receiver_shape c.in-Ok.ensures.sender_shape c.in-Ok.ensures.step in
     can-finish-two c.args.self.now.plan v (Deliver from to) p q c.in-Some.first c.in-Some-take_next.second c.deliver_between.new.receiver c.deliver_between.new.sender c.in-Ok.out.answer c.take_first.new.seat.me c.take_next.new.seat.me c.args.seat.now.me.1
-        c.requires.ready c.requires.shape (let i = c.index_of-low.ensures in let b = index-below c.args.self.now.plan.shape to c.requires.to in omega (arith, i, b))
-        (let i = c.index_of-high.ensures in let b = index-below c.args.self.now.plan.shape from c.requires.from in omega (arith, i, b)) two took taken treats
+    c.requires.ready c.requires.shape (let i = c.index_of-low.ensures in let b = index-below c.args.self.now.plan.shape to c.requires.to in omega (arith, i, b))
+    (let i = c.index_of-high.ensures in let b = index-below c.args.self.now.plan.shape from c.requires.from in omega (arith, i, b)) two took taken treats
 
 pub returns-in-Ok-clause-ended : goal.returns-in-Ok-clause-ended
 returns-in-Ok-clause-ended g c =
@@ -108,4 +108,4 @@ returns-in-Ok-clause-ended g c =
     let taken = c.in-Some-take_next.ensures.took in
     let treats = down-treats v from to p q c.in-Some.first c.in-Some-take_next.second c.deliver_between.new.receiver c.deliver_between.new.sender c.in-Ok.out fin tin c.requires.apart low high c.in-Ok.ensures.receiver_shape c.in-Ok.ensures.sender_shape c.in-Ok.ensures.step in
     made-ended-two v (Deliver from to) p q c.in-Some.first c.in-Some-take_next.second c.deliver_between.new.receiver c.deliver_between.new.sender c.in-Ok.out.answer c.take_first.new.seat.me c.take_next.new.seat.me c.finish_two.new.seat.me c.args.seat.now.me.1
-        c.requires.ready two took taken treats c.finish_two.ensures.finished
+    c.requires.ready two took taken treats c.finish_two.ensures.finished

@@ -17,7 +17,7 @@ finish-requires-clause-can g c =
     let here = c.index_of-place.ensures ∙ ap (λ (s : Dimensions). index_of s q) (sym c.requires.shape) in
     let taken = subst (λ (e : Event). (es : List Event) × InHand (begun e v) p c.args.seat.now.me.1 c.in-Some.node c.take_first.new.seat.me es) c.requires.event c.in-Some.ensures.took in
     can-finish c.args.self.now.plan v (Flush q) p q c.args.seat.now.me.1 c.in-Some.node c.flush.new.self c.in-Ok.out.answer c.take_first.new.seat.me c.requires.ready c.requires.shape c.requires.process
-        c.index_of-place.ensures (flush-one v.shape v q pin) taken (flush-treats v p q c.in-Some.node c.flush.new.self c.in-Ok.out pin here c.in-Ok.ensures.shape c.in-Ok.ensures.step)
+    c.index_of-place.ensures (flush-one v.shape v q pin) taken (flush-treats v p q c.in-Some.node c.flush.new.self c.in-Ok.out pin here c.in-Ok.ensures.shape c.in-Ok.ensures.step)
 
 pub returns-in-Ok-clause-ended : goal.returns-in-Ok-clause-ended
 returns-in-Ok-clause-ended g c =
@@ -28,4 +28,4 @@ returns-in-Ok-clause-ended g c =
     let here = c.index_of-place.ensures ∙ ap (λ (s : Dimensions). index_of s q) (sym c.requires.shape) in
     let taken = subst (λ (e : Event). (es : List Event) × InHand (begun e v) p c.args.seat.now.me.1 c.in-Some.node c.take_first.new.seat.me es) c.requires.event c.in-Some.ensures.took in
     made-ended v (Flush q) p q c.args.seat.now.me.1 c.in-Some.node c.flush.new.self c.in-Ok.out.answer c.take_first.new.seat.me c.finish.new.seat.me c.requires.ready
-        (flush-one v.shape v q pin) taken (flush-treats v p q c.in-Some.node c.flush.new.self c.in-Ok.out pin here c.in-Ok.ensures.shape c.in-Ok.ensures.step) c.finish.ensures.finished
+    (flush-one v.shape v q pin) taken (flush-treats v p q c.in-Some.node c.flush.new.self c.in-Ok.out pin here c.in-Ok.ensures.shape c.in-Ok.ensures.step) c.finish.ensures.finished

@@ -41,8 +41,7 @@ join_seat-requires c =
     let both = front-of c.args.self.now c.seats.rest.seats c.take-in-seats.new.self.seats seat is i.of_stage in
     let raw = c.into_raw.ensures in
     let one = seat.is_seat.part in
-    let parts = ap (λ (r : _). r.me.0.parts) raw in
-    (
+    let parts = ap (λ (r : _). r.me.0.parts) raw in (
       i.table,
       ap (λ (r : _). r.table_id) raw ∙ both.1.table,
       ap (λ (r : _). r.me.1) raw ∙ seat.is_seat.slots,

@@ -17,8 +17,7 @@ fetch_add-requires c = (
 pub exchange-requires : goal.exchange-requires
 exchange-requires c =
     let v = c.args.seat.now.me.0 in
-    let takes = at-place v c.args.place c.word_of-word.result c.args.seat.now.me.1 c.fetch_add.result c.fetch_add.new.seat.me c.word_of-word.ensures c.fetch_add.ensures.2 in
-    (
+    let takes = at-place v c.args.place c.word_of-word.result c.args.seat.now.me.1 c.fetch_add.result c.fetch_add.new.seat.me c.word_of-word.ensures c.fetch_add.ensures.2 in (
       c.fetch_add.ensures.0 ∙ c.requires.table,
       slot-there v c.args.place c.args.seat.now.me.1 c.fetch_add.new.seat.me (free-taken v c.args.place c.args.seat.now.me.1 c.fetch_add.result c.fetch_add.new.seat.me takes c.if-fetch_add-gt0.false) c.slot_of-slot.result c.slot_of-slot.ensures,
     )

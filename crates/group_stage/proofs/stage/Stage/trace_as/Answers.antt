@@ -17,7 +17,7 @@ finish-requires-clause-can g c =
     let here = c.index_of-place.ensures ∙ ap (λ (s : Dimensions). index_of s q) (sym c.requires.shape) in
     let taken = subst (λ (e : Event). (es : List Event) × InHand (begun e v) p c.args.seat.now.me.1 c.in-Some.node c.take_first.new.seat.me es) c.requires.event c.in-Some.ensures.took in
     can-finish c.args.self.now.plan v (Trace c.args.caller c.args.call c.args.partition q) p q c.args.seat.now.me.1 c.in-Some.node c.in-Some.node c.trace-answer.result c.take_first.new.seat.me c.requires.ready c.requires.shape c.requires.process
-        c.index_of-place.ensures (trace-one v.shape v c.args.caller c.args.call c.args.partition q c.requires.caller c.requires.own c.requires.call (subst (λ (s : Dimensions). c.args.partition.0 < s.k) (sym c.requires.shape) c.requires.partition) pin) taken (trace-treats v p c.args.caller c.args.call c.args.partition q c.in-Some.node c.trace-answer.result pin here c.trace-answer.ensures)
+    c.index_of-place.ensures (trace-one v.shape v c.args.caller c.args.call c.args.partition q c.requires.caller c.requires.own c.requires.call (subst (λ (s : Dimensions). c.args.partition.0 < s.k) (sym c.requires.shape) c.requires.partition) pin) taken (trace-treats v p c.args.caller c.args.call c.args.partition q c.in-Some.node c.trace-answer.result pin here c.trace-answer.ensures)
 
 pub returns-clause-ended : goal.returns-clause-ended
 returns-clause-ended g c =
@@ -28,4 +28,4 @@ returns-clause-ended g c =
     let here = c.index_of-place.ensures ∙ ap (λ (s : Dimensions). index_of s q) (sym c.requires.shape) in
     let taken = subst (λ (e : Event). (es : List Event) × InHand (begun e v) p c.args.seat.now.me.1 c.in-Some.node c.take_first.new.seat.me es) c.requires.event c.in-Some.ensures.took in
     made-ended v (Trace c.args.caller c.args.call c.args.partition q) p q c.args.seat.now.me.1 c.in-Some.node c.in-Some.node c.trace-answer.result c.take_first.new.seat.me c.finish.new.seat.me c.requires.ready
-        (trace-one v.shape v c.args.caller c.args.call c.args.partition q c.requires.caller c.requires.own c.requires.call (subst (λ (s : Dimensions). c.args.partition.0 < s.k) (sym c.requires.shape) c.requires.partition) pin) taken (trace-treats v p c.args.caller c.args.call c.args.partition q c.in-Some.node c.trace-answer.result pin here c.trace-answer.ensures) c.finish.ensures.finished
+    (trace-one v.shape v c.args.caller c.args.call c.args.partition q c.requires.caller c.requires.own c.requires.call (subst (λ (s : Dimensions). c.args.partition.0 < s.k) (sym c.requires.shape) c.requires.partition) pin) taken (trace-treats v p c.args.caller c.args.call c.args.partition q c.in-Some.node c.trace-answer.result pin here c.trace-answer.ensures) c.finish.ensures.finished
