@@ -1,7 +1,7 @@
 -- Seats are gathered into one, and nodes come out of their slots.
 use Rattle.std.proofs.Common.{ℕ, zero, suc, ◌≡◌, ◌≢◌, ◌<◌, ◌≤◌, ◌+◌, ◌*◌, ◌⊎◌, ⊎_elim, Bool, true, false, List, [], ◌∷◌, ◌++◌, length, map, get_or, set, refl, sym, ap, subst, ◌∙◌, arith, length-append, length-set, get_or-set_other, get_or-set_same}
 use Rattle.std.specs.Prelude as std
-use Rattle.std.specs.Prelude.{All, slice_get}
+use Rattle.std.specs.Prelude.{All, option_to_list, slice_get}
 use Rattle.std.proofs.lemmas.Bool.{cases_eq}
 use mathlib.Core.Option.{Option, some, some-injective}
 use lib.ListN.{get_elem?}
@@ -150,3 +150,12 @@ module _ (plan : Plan) (st : St) (o : Kept plan st) (id : ℕ) (v : View) (me : 
         seated = record { many = many; shapes = shapes-match s nodes (λ p. at (opening_node s (process_at s p)) (after s es).nodes p) each };
         nodes = nodes-match s nodes (after s es).nodes (λ p. opening_node s (process_at s p)) (many ∙ sym (size-after s es o.run)) each;
       }
+
+-- one seat of the stage more
+pub of-stage-more : (stage : Stage) (xs all : List Seat) (x : Seat) → all ≡ xs ++ x ∷ [] → AreOf stage xs → IsOf stage x → AreOf stage all
+of-stage-more stage xs all x is of_stage last = subst (AreOf stage) (sym is) (each-snoc (IsOf stage) xs x of_stage last)
+
+-- and one fewer
+pub of-stage-fewer : (stage : Stage) (all xs : List Seat) (r : std.Option Seat) → all ≡ xs ++ option_to_list r → AreOf stage all → AreOf stage xs × std.IfSome r (IsOf stage)
+of-stage-fewer stage all xs std.None is of_stage = ((each-split (IsOf stage) xs [] (subst (AreOf stage) is of_stage)).0, tt)
+of-stage-fewer stage all xs (std.Some x) is of_stage = front-of stage all xs x is of_stage

@@ -9,7 +9,7 @@ ghost use Rattle.group_stage.specs.Closed.{HasClosed};
 ghost use Rattle.group_stage.specs.Emptied.{AreTaken, HaveNodes};
 ghost use Rattle.group_stage.specs.Kept.{IsWhole};
 ghost use Rattle.group_stage.specs.Places as places;
-ghost use Rattle.group_stage.specs.Seated.{AreOf, view_of};
+ghost use Rattle.group_stage.specs.Seated.{AreOf, callers_of, shape_of, view_of};
 ghost use Rattle.group_stage.specs.declared.seat.Seat.{Seat};
 
 use crate::places::{processes_of, slot_of};
@@ -33,8 +33,8 @@ impl Stage {
     /// The nodes of all processes, as they stand after the events of the seats.
     pub fn close(self, seats: Seats) -> Result<Nodes, Unclosed>
         requires seats { AreOf self seats.seats }
-        requires all { length seats.seats ≡ self.plan.callers }
-        ensures closed { IfOk result (λ nodes. HasClosed self.plan.shape seats.seats nodes.nodes) }
+        requires all { length seats.seats ≡ callers_of self }
+        ensures closed { IfOk result (λ nodes. HasClosed (shape_of self) seats.seats nodes.nodes) }
         ensures unclosed { IfErr result (λ u. (u.stage ≡ self) × (u.seats ≡ seats)) }
     {
         let Ok(nodes) = self.room_for_all() else {
