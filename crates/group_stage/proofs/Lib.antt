@@ -14,3 +14,4 @@ pub mod Pairs
 pub mod Dealing
 pub mod Stacks
 pub mod Deaths
+pub mod Gathering

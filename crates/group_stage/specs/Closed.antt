@@ -11,9 +11,9 @@ use Rattle.group_stage.specs.Seated.{view_of}
 use Rattle.group_stage.specs.declared.seat.Seat.{Seat}
 
 -- the nodes are those of the run of a schedule, and the schedule is exactly that of the seats
-pub record HasClosed (s : Dimensions) (seats : List Seat) (nodes : List Standing) : Type 0 where
+pub record HasClosed (s : Dimensions) (seats : List Seat) (list : List Standing) : Type 0 where
   pub schedule : List Event
   pub run : IsRun s schedule
   pub whole : IsWhole s schedule (map view_of seats)
-  pub seated : AreSeated s nodes
-  pub nodes : nodes_of nodes ≡ (after s schedule).nodes
+  pub seated : AreSeated s list
+  pub nodes : nodes_of list ≡ (after s schedule).nodes

@@ -12,3 +12,4 @@ pub mod Dealt
 pub mod SeatList
 pub mod Closed
 pub mod Gathered
+pub mod Emptied

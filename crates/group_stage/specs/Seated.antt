@@ -1,6 +1,8 @@
 -- A seat of a stage, as the contracts of a call see it.
-use Rattle.std.specs.Prelude.{◌≡◌, ℕ, Result, Ok, Err}
+use Rattle.std.specs.Prelude.{◌≡◌, ℕ, List, Result, Ok, Err}
 use Rattle.std.specs.declared.alloc.AllocError.{AllocError}
+use Rattle.group_types.specs.Dimensions.{Dimensions}
+use Rattle.group_stage.specs.Counts.{Each}
 use Rattle.group_stage.specs.declared.answer.StageAnswer.{StageAnswer}
 use Rattle.group_stage.specs.declared.answer.StageAnswer.TheVariants.{Busy, Made, Worn}
 use Rattle.group_stage.specs.declared.seat.Seat.{Seat}
@@ -10,6 +12,13 @@ use Rattle.group_stage.specs.declared.view.View.{View}
 -- what a seat knows
 abbrev pub view_of : Seat → View
 view_of seat = seat.raw.me.0
+
+-- the shape of its group, and how many callers it was made for
+abbrev pub shape_of : Stage → Dimensions
+shape_of stage = stage.plan.shape
+
+abbrev pub callers_of : Stage → ℕ
+callers_of stage = stage.plan.callers
 
 -- a seat of this stage
 pub record IsOf (stage : Stage) (seat : Seat) : Type 0 where
@@ -25,3 +34,7 @@ one_made Worn = 0
 abbrev pub made_in : Result StageAnswer AllocError → ℕ
 made_in (Ok a) = one_made a
 made_in (Err e) = 0
+
+-- all are seats of this stage
+abbrev pub AreOf : Stage → List Seat → Type 0
+AreOf stage seats = Each (IsOf stage) seats

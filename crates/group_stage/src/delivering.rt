@@ -5,7 +5,7 @@ ghost use Rattle.group_types.specs.Names as names;
 ghost use Rattle.group_types.specs.Names.{IsProcess};
 ghost use Rattle.group_stage.specs.Conditions.{CanFinishTwo, HasTwo, IsReady};
 ghost use Rattle.group_stage.specs.Ended.{Ended, IsUnmade};
-ghost use Rattle.group_stage.specs.Seated.{IsOf, view_of};
+ghost use Rattle.group_stage.specs.Seated.{IsOf, shape_of, view_of};
 ghost use Rattle.group_stage.specs.Steps.{Knows};
 ghost use Rattle.group_stage.specs.Views.{committed, released};
 
@@ -27,8 +27,8 @@ impl Stage {
         to: ProcessId,
     ) -> Result<StageAnswer, AllocError>
         requires seat { IsOf self.now seat.old }
-        requires from { IsProcess self.now.plan.shape from }
-        requires to { IsProcess self.now.plan.shape to }
+        requires from { IsProcess (shape_of self.now) from }
+        requires to { IsProcess (shape_of self.now) to }
         requires apart { from ≢ to }
         ensures seat { IsOf self.now seat.new }
         ensures caller { seat.new.caller ≡ seat.old.caller }
@@ -51,8 +51,8 @@ impl Stage {
     ) -> Result<StageAnswer, AllocError>
         requires table { seat.old.table_id ≡ self.now.table.shared.table_id }
         requires event { J.event ≡ happens.Deliver from to }
-        requires from { IsProcess self.now.plan.shape from }
-        requires to { IsProcess self.now.plan.shape to }
+        requires from { IsProcess (shape_of self.now) from }
+        requires to { IsProcess (shape_of self.now) to }
         requires apart { from ≢ to }
         requires shape { seat.old.me.0.shape ≡ self.now.plan.shape }
         requires ready { IsReady seat.old.me }
@@ -76,8 +76,8 @@ impl Stage {
     ) -> Result<StageAnswer, AllocError>
         requires table { seat.old.table_id ≡ self.now.table.shared.table_id }
         requires event { J.event ≡ happens.Deliver from to }
-        requires from { IsProcess self.now.plan.shape from }
-        requires to { IsProcess self.now.plan.shape to }
+        requires from { IsProcess (shape_of self.now) from }
+        requires to { IsProcess (shape_of self.now) to }
         requires apart { from ≢ to }
         requires order { names.index_of self.now.plan.shape from < names.index_of self.now.plan.shape to }
         requires shape { seat.old.me.0.shape ≡ self.now.plan.shape }
@@ -116,8 +116,8 @@ impl Stage {
     ) -> Result<StageAnswer, AllocError>
         requires table { seat.old.table_id ≡ self.now.table.shared.table_id }
         requires event { J.event ≡ happens.Deliver from to }
-        requires from { IsProcess self.now.plan.shape from }
-        requires to { IsProcess self.now.plan.shape to }
+        requires from { IsProcess (shape_of self.now) from }
+        requires to { IsProcess (shape_of self.now) to }
         requires apart { from ≢ to }
         requires shape { seat.old.me.0.shape ≡ self.now.plan.shape }
         requires ready { IsReady seat.old.me }

@@ -4,7 +4,7 @@ ghost use Rattle.group_types.specs.Dimensions.{callers};
 ghost use Rattle.group_types.specs.Names.{IsProcess};
 ghost use Rattle.group_stage.specs.Conditions.{CanFinish, IsReady};
 ghost use Rattle.group_stage.specs.Ended.{Ended, IsUnmade, IsWorn};
-ghost use Rattle.group_stage.specs.Seated.{IsOf, view_of};
+ghost use Rattle.group_stage.specs.Seated.{IsOf, shape_of, view_of};
 ghost use Rattle.group_stage.specs.Steps.{Knows};
 ghost use Rattle.group_stage.specs.Views.{asks_by, committed, released};
 
@@ -21,7 +21,7 @@ impl Stage {
     /// A process tells the others how far it has settled.
     pub fn try_flush(&self, seat: &mut Seat, at: ProcessId) -> Result<StageAnswer, AllocError>
         requires seat { IsOf self.now seat.old }
-        requires process { IsProcess self.now.plan.shape at }
+        requires process { IsProcess (shape_of self.now) at }
         ensures seat { IsOf self.now seat.new }
         ensures caller { seat.new.caller ≡ seat.old.caller }
         ensures ended { MatchResult result (λ a. Ended (happens.Flush at) (view_of seat.old) a (view_of seat.new)) (λ _. IsUnmade (view_of seat.old) (view_of seat.new)) }
@@ -41,7 +41,7 @@ impl Stage {
     ) -> Result<StageAnswer, AllocError>
         requires table { seat.old.table_id ≡ self.now.table.shared.table_id }
         requires event { J.event ≡ happens.Flush at }
-        requires process { IsProcess self.now.plan.shape at }
+        requires process { IsProcess (shape_of self.now) at }
         requires shape { seat.old.me.0.shape ≡ self.now.plan.shape }
         requires ready { IsReady seat.old.me }
         ensures table { seat.new.table_id ≡ seat.old.table_id }

@@ -7,6 +7,7 @@ ghost use Rattle.group_stage.specs.Conditions.{CanDraw};
 ghost use Rattle.group_stage.specs.Dealt.{AreNew, IsNew};
 ghost use Rattle.group_stage.specs.Opened.{AreLaid};
 ghost use Rattle.group_stage.specs.Places as places;
+ghost use Rattle.group_stage.specs.Seated.{AreOf};
 ghost use Rattle.group_stage.specs.Views.{blank, numbered};
 
 use crate::places::{processes_of, word_of};
@@ -28,7 +29,8 @@ impl Stage {
         ensures plan { IfOk result (λ r. r.0.plan ≡ record { shape = shape; callers = callers }) }
         ensures made { IfOk result (λ r. r.1.made ≡ callers) }
         ensures all { IfOk result (λ r. length r.1.seats ≡ callers) }
-        ensures seats { IfOk result (λ r. AreNew r.0 r.1.seats) }
+        ensures new { IfOk result (λ r. AreNew r.0 r.1.seats) }
+        ensures of_stage { IfOk result (λ r. AreOf r.0 r.1.seats) }
     {
         let seats = Vec::with_capacity(alloc, callers as usize)?;
         let plan = Plan { shape, callers };
@@ -72,7 +74,8 @@ impl Stage {
         requires room { self.now.plan.callers ≤ vec_capacity seats }
         ensures many { length result.items ≡ self.now.plan.callers }
         ensures room { self.now.plan.callers ≤ vec_capacity result }
-        ensures seats { AreNew self.now result.items }
+        ensures new { AreNew self.now result.items }
+        ensures of_stage { AreOf self.now result.items }
     {
         let mut raw = first;
         'callers: for number in 1..self.plan.callers {

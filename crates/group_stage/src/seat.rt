@@ -38,4 +38,17 @@ impl Seat {
     {
         self.calls == MOST_CALLS
     }
+
+    // The right to step alone.
+    pub(crate) fn into_raw(self) -> RawSeat
+        ensures { result ≡ self.raw }
+    {
+        let Seat {
+            raw,
+            caller: _,
+            calls: _,
+            asks: _,
+        } = self;
+        raw
+    }
 }

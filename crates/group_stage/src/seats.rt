@@ -1,4 +1,6 @@
-ghost use Rattle.std.specs.Prelude.{◌≡◌, ◌<◌, ◌++◌, [], ◌∷◌, length, MatchOption};
+ghost use Rattle.std.specs.Prelude.{◌≡◌, ◌<◌, ◌++◌, [], ◌∷◌, length, IfSome, MatchOption};
+ghost use Rattle.group_stage.specs.Seated.{AreOf, IsOf};
+ghost use Rattle.group_stage.specs.declared.stage.Stage.{Stage};
 
 use crate::seat::Seat;
 use std::marker::Model;
@@ -28,6 +30,7 @@ impl Seats {
         ensures made { self.new.made ≡ self.old.made }
         ensures last { MatchOption result ((self.old.seats ≡ []) × (self.new.seats ≡ []))
             (λ seat. self.old.seats ≡ self.new.seats ++ seat ∷ []) }
+        ensures of_stage { (stage : Stage) → AreOf stage self.old.seats → AreOf stage self.new.seats × IfSome result (IsOf stage) }
     {
         self.seats.pop()
     }
@@ -35,7 +38,8 @@ impl Seats {
     /// A seat comes to the end. It takes no memory.
     pub fn put(&mut self, seat: Seat)
         requires { length self.old.seats < self.old.made }
-        ensures { self.new ≡ record { made = self.old.made; seats = self.old.seats ++ seat ∷ [] } }
+        ensures put { self.new ≡ record { made = self.old.made; seats = self.old.seats ++ seat ∷ [] } }
+        ensures of_stage { (stage : Stage) → AreOf stage self.old.seats → IsOf stage seat → AreOf stage self.new.seats }
     {
         self.seats.push_reserved(seat);
     }

@@ -4,7 +4,7 @@ ghost use Rattle.group_types.specs.Dimensions.{callers};
 ghost use Rattle.group_types.specs.Names.{IsProcess};
 ghost use Rattle.group_stage.specs.Conditions.{CanFinish, IsReady};
 ghost use Rattle.group_stage.specs.Ended.{Ended, IsUnmade, IsWorn};
-ghost use Rattle.group_stage.specs.Seated.{IsOf, view_of};
+ghost use Rattle.group_stage.specs.Seated.{IsOf, shape_of, view_of};
 ghost use Rattle.group_stage.specs.Steps.{Knows};
 ghost use Rattle.group_stage.specs.Views.{asks_by, committed, released};
 
@@ -27,9 +27,9 @@ impl Stage {
         at: ProcessId,
     ) -> Result<StageAnswer, AllocError>
         requires seat { IsOf self.now seat.old }
-        requires process { IsProcess self.now.plan.shape at }
+        requires process { IsProcess (shape_of self.now) at }
         requires call { call < seat.old.asks }
-        requires partition { partition.0 < self.now.plan.shape.k }
+        requires partition { partition.0 < (shape_of self.now).k }
         ensures seat { IsOf self.now seat.new }
         ensures caller { seat.new.caller ≡ seat.old.caller }
         ensures ended { MatchResult result (λ a. Ended (happens.Trace seat.old.caller call partition at) (view_of seat.old) a (view_of seat.new)) (λ _. IsUnmade (view_of seat.old) (view_of seat.new)) }
@@ -52,13 +52,13 @@ impl Stage {
     ) -> StageAnswer
         requires table { seat.old.table_id ≡ self.now.table.shared.table_id }
         requires event { J.event ≡ happens.Trace caller call partition at }
-        requires process { IsProcess self.now.plan.shape at }
+        requires process { IsProcess (shape_of self.now) at }
         requires shape { seat.old.me.0.shape ≡ self.now.plan.shape }
         requires ready { IsReady seat.old.me }
         requires caller { caller < callers }
         requires own { seat.old.me.0.numbers ≡ caller ∷ [] }
         requires call { call < asks_by caller seat.old.me.0.made }
-        requires partition { partition.0 < self.now.plan.shape.k }
+        requires partition { partition.0 < (shape_of self.now).k }
         ensures table { seat.new.table_id ≡ seat.old.table_id }
         ensures slots { seat.new.me.1 ≡ [] }
         ensures ended { Ended (happens.Trace caller call partition at) seat.old.me.0 result seat.new.me.0 }

@@ -4,7 +4,7 @@ use Rattle.group_stage.specs.Dealt.{AreNew, IsNew}
 use Rattle.group_stage.specs.Steps.{Sat}
 use Rattle.group_stage.specs.Views.{blank}
 use Rattle.group_stage.specs.declared.seat.Seat.{Seat}
-use Rattle.group_stage.proofs.Dealing.{dealt}
+use Rattle.group_stage.proofs.Dealing.{dealt, new-of-stage}
 use Rattle.group_stage.proofs.stage.Stage.deal.Goals as goal
 
 pub callers-preserved : goal.callers-preserved
@@ -28,10 +28,16 @@ callers-preserved c =
           (dealt c.args.self.now c.callers.seats.items c.part-seat.result.0 c.callers.raw.me.0.next i.new (omega (arith, next, many)) c.part-seat.ensures.seat);
     }
 
-pub returns-clause-seats : goal.returns-clause-seats
-returns-clause-seats c =
+all-new : goal.returns-clause-new
+all-new c =
     let i = c.callers.invariant in
     let next : c.callers.raw.me.0.next ≡ c.callers.number - 1 = ap (λ (m : Sat). m.0.next) i.seat in
     let many = i.many in
     subst (AreNew c.args.self.now) (sym c.push_reserved-2.ensures.items)
     (dealt c.args.self.now c.callers.seats.items c.last.result c.callers.raw.me.0.next i.new (omega (arith, next, many)) c.last.ensures)
+
+pub returns-clause-new : goal.returns-clause-new
+returns-clause-new c = all-new c
+
+pub returns-clause-of_stage : goal.returns-clause-of_stage
+returns-clause-of_stage c = new-of-stage c.args.self.now c.push_reserved-2.new.self.items (λ i. i) (all-new c)
