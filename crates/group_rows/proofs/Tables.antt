@@ -3,7 +3,7 @@ use Rattle.std.specs.Fmt.{digits}
 use Rattle.hex.specs.Hex.{encode_with}
 use Rattle.field_byte.specs.Field.{product_of_bits, product, inverse_below, inverse}
 use Rattle.field_byte.specs.Vectors.{add_bytes, scale}
-use Rattle.group_rows.specs.Tables.{SmallestScript, FullSpace, TableCases, Expiry, Numerals}
+use Rattle.group_rows.specs.Tables.{SmallestScript, FullSpace, TouchInFullSpace, TableCases, Expiry, Numerals}
 
 pub smallest_script : SmallestScript
 unfolding digits encode_with product_of_bits product inverse_below inverse add_bytes scale
@@ -12,6 +12,10 @@ smallest_script = refl
 pub full_space : FullSpace
 unfolding digits encode_with product_of_bits product inverse_below inverse add_bytes scale
 full_space = refl
+
+pub touch_in_full_space : TouchInFullSpace
+unfolding digits encode_with product_of_bits product inverse_below inverse add_bytes scale
+touch_in_full_space = refl
 
 pub table_cases : TableCases
 unfolding digits encode_with product_of_bits product inverse_below inverse add_bytes scale

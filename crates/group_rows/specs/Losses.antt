@@ -1,7 +1,7 @@
 -- Rows that decode lost blocks. Each is a script, by lines, and what it writes.
 use Rattle.std.specs.Prelude.{pos, [], ◌∷◌, codes}
 use Rattle.group_types.specs.declared.process.ProcessId.TheVariants.{DataNode, ParityNode}
-use Rattle.memc_table.specs.declared.act.Act.TheVariants.{Get, Set}
+use Rattle.memc_table.specs.declared.act.Act.TheVariants.{Get, Set, Touch}
 use Rattle.scenario_text.specs.declared.line.Line.TheVariants.{Ask, Collect, Deliver, Fail, Flush, Drain, Show}
 use Rattle.group_rows.specs.Script.{shape, writes}
 
@@ -42,6 +42,32 @@ CodeByHand = writes (shape 2 1 4 16) (
     codes "drained 3" ∷
     codes "reply value 0 1 42" ∷
     codes "= 1.3 get b value 0 1 42" ∷ [])
+
+-- a touch needs no block of a lost partition, and a get does
+abbrev pub TouchWithoutBlock : Type 0
+TouchWithoutBlock = writes (shape 2 1 4 16) (
+    Ask 0 (DataNode 0) (Set (codes "a") 0 (pos 0) (65 ∷ [])) ∷
+    Drain ∷
+    Collect 0 0 (DataNode 0) ∷
+    Fail (DataNode 0) 0 ∷
+    Drain ∷
+    Ask 0 (ParityNode 0) (Touch (codes "a") (pos 50)) ∷
+    Ask 0 (ParityNode 0) (Get (codes "a")) ∷
+    Drain ∷
+    Ask 0 (ParityNode 0) (Get (codes "a")) ∷ [])
+    (
+    codes "ticket 1" ∷
+    codes "= 0.0 set a 0 41 stored" ∷
+    codes "drained 2" ∷
+    codes "reply stored" ∷
+    codes "done" ∷
+    codes "drained 2" ∷
+    codes "reply touched" ∷
+    codes "= 0.1 touch a 50 touched" ∷
+    codes "retry block 0" ∷
+    codes "drained 3" ∷
+    codes "reply value 0 1 41" ∷
+    codes "= 0.3 get a value 0 1 41" ∷ [])
 
 -- an update is settled, its settling isn't sent, and its head fails
 abbrev pub SettledUnsent : Type 0

@@ -32,6 +32,19 @@ FullSpace = writes (shape 1 0 1 16) (
     codes "= 0.2 get a value 0 2 -" ∷
     codes "no_space" ∷ [])
 
+-- a touch in a full space takes none of it
+abbrev pub TouchInFullSpace : Type 0
+TouchInFullSpace = writes (shape 1 0 1 16) (
+    Ask 0 (DataNode 0) (Set (codes "b") 0 (pos 0) (replicate 16 97)) ∷
+    Ask 0 (DataNode 0) (Touch (codes "b") (pos 100)) ∷
+    Ask 0 (DataNode 0) (Set (codes "c") 0 (pos 0) (99 ∷ [])) ∷ [])
+    (
+    codes "reply stored" ∷
+    codes "= 0.0 set b 0 61616161616161616161616161616161 stored" ∷
+    codes "reply touched" ∷
+    codes "= 0.1 touch b 100 touched" ∷
+    codes "no_space" ∷ [])
+
 -- the table's cases
 abbrev pub TableCases : Type 0
 TableCases = writes (shape 1 0 1 16) (

@@ -3,9 +3,9 @@
 //! it is left to `scenario_run`, which has the transcript of every script.
 #![tactic(auto)]
 
-ghost use Rattle.group_rows.specs.Tables.{SmallestScript, FullSpace, TableCases, Expiry, Numerals};
+ghost use Rattle.group_rows.specs.Tables.{SmallestScript, FullSpace, TouchInFullSpace, TableCases, Expiry, Numerals};
 ghost use Rattle.group_rows.specs.Updates.{FullWindow, OldRunNotFree, PendingUpdate, AllParitiesFail, CutBefore, CutBehind};
-ghost use Rattle.group_rows.specs.Losses.{CodeByHand, SettledUnsent, MarkedRow};
+ghost use Rattle.group_rows.specs.Losses.{CodeByHand, TouchWithoutBlock, SettledUnsent, MarkedRow};
 ghost use Rattle.group_rows.specs.Takeovers.{PartialAdoption, FateGone, FateCutBefore, FateCutBehind};
 ghost use Rattle.group_rows.specs.TwoLost.{TwoLost, SecondLoss};
 
@@ -19,6 +19,12 @@ pub fn row_smallest_script()
 #[tactic(auto, using(crate::proofs::Tables::full_space))]
 pub fn row_full_space()
     ensures { FullSpace }
+{}
+
+/// A touch in a full space.
+#[tactic(auto, using(crate::proofs::Tables::touch_in_full_space))]
+pub fn row_touch_in_full_space()
+    ensures { TouchInFullSpace }
 {}
 
 /// The table's cases.
@@ -77,6 +83,12 @@ pub fn row_cut_behind()
 #[tactic(auto, using(crate::proofs::Losses::code_by_hand))]
 pub fn row_code_by_hand()
     ensures { CodeByHand }
+{}
+
+/// A touch needs no block of a lost partition.
+#[tactic(auto, using(crate::proofs::Losses::touch_without_block))]
+pub fn row_touch_without_block()
+    ensures { TouchWithoutBlock }
 {}
 
 /// An update is settled, its settling isn't sent, and its head fails.

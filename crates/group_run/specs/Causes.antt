@@ -1,6 +1,5 @@
--- The exact cause of each answer of a step, what an answer leaves as it was, and when a call is answered.
--- Rules are judged in order: each cause says that no earlier one holds.
-use Rattle.std.specs.Prelude.{ℕ, suc, ◌≡◌, ◌≢◌, ◌<◌, ◌≤◌, ◌⊎◌, ◌==◌, ◌&&◌, true, false, ⊤, [], length, Option, Some, None, Contains}
+-- The cause of each answer of a step, what an answer leaves as it was, and when a call is answered.
+use Rattle.std.specs.Prelude.{ℕ, suc, ◌≡◌, ◌≢◌, ◌<◌, ◌≤◌, ◌⊎◌, ◌==◌, ◌&&◌, Bool, true, false, ⊤, [], length, Option, Some, None, Contains}
 use Rattle.group_types.specs.Dimensions.{space_of}
 use Rattle.group_types.specs.Hash.{home_of}
 use Rattle.group_types.specs.Lists.{at}
@@ -25,7 +24,7 @@ use Rattle.group_calls.specs.declared.event.Event.{Event}
 use Rattle.group_calls.specs.declared.event.Event.TheVariants.{Ask, Collect, Deliver, Fail, Flush, Trace}
 use Rattle.group_run.specs.Applying.{replica_of, head_at, held_at}
 use Rattle.group_run.specs.Asking.{is_call, is_in_log, reply_from}
-use Rattle.group_run.specs.Deciding.{is_get, run_needed, window}
+use Rattle.group_run.specs.Deciding.{is_get, is_touch, run_needed, window}
 use Rattle.group_run.specs.Free.{is_free, place_for}
 use Rattle.group_run.specs.Headline.{MayCome}
 use Rattle.group_run.specs.Leaders.{missing_block, rebuilt_block}
@@ -75,17 +74,31 @@ pub record FindsWindowFull (w : World) (p : ProcessId) (op : Asked) (d n : ℕ) 
   pub full : length (replica_for w p op).log ≡ window
   pub oldest : n ≡ suc (replica_for w p op).applied
 
--- the run of the item whose bytes the op needs, or the run that its new value gets
-abbrev pub NeedsRun : World → ProcessId → Asked → Run → Type 0
-NeedsRun w p op run = (run_needed op (slot_in (replica_for w p op).items (key_of op.act)) ≡ Some run)
-    ⊎ ((h : Holding) × Leaves w op h × (place_for (space_of w.shape) (replica_for w p op) (length h.item.value) ≡ Some run))
+-- the run of the item whose bytes the op needs
+abbrev pub NeedsItem : World → ProcessId → Asked → Run → Type 0
+NeedsItem w p op run = run_needed op (slot_in (replica_for w p op).items (key_of op.act)) ≡ Some run
 
--- block b is the lowest of a needed run that isn't rebuilt here, at a parity head
+-- the run that the op's new value gets; a touch writes none
+pub record NeedsPlace (w : World) (p : ProcessId) (op : Asked) (run : Run) : Type 0 where
+  pub written : is_touch op.act ≡ false
+  pub value : Holding
+  pub leaves : Leaves w op value
+  pub place : place_for (space_of w.shape) (replica_for w p op) (length value.item.value) ≡ Some run
+
+-- one of the two
+abbrev pub NeedsRun : World → ProcessId → Asked → Run → Type 0
+NeedsRun w p op run = NeedsItem w p op run ⊎ NeedsPlace w p op run
+
+-- block b is the lowest of a run of the op's partition that isn't rebuilt here, at a parity head
+pub record MissesBlock (w : World) (p : ProcessId) (op : Asked) (run : Run) (b : ℕ) : Type 0 where
+  pub parity : (i : ℕ) × (p ≡ ParityNode i)
+  pub missing : missing_block w.shape (home_in w op) run (process_of w p).as_leader ≡ Some b
+
+-- and the op needs that run
 pub record NeedsBlock (w : World) (p : ProcessId) (op : Asked) (b : ℕ) : Type 0 where
   pub run : Run
   pub needed : NeedsRun w p op run
-  pub parity : (i : ℕ) × (p ≡ ParityNode i)
-  pub missing : missing_block w.shape (home_in w op) run (process_of w p).as_leader ≡ Some b
+  pub misses : MissesBlock w p op run b
 
 -- partition d has an inherited update that is unfinished at this process
 abbrev pub HasInherited : Process → ℕ → Type 0
@@ -100,12 +113,14 @@ pub record WaitsForInherited (w : World) (p : ProcessId) (op : Asked) (d n : ℕ
   pub lowest : (e : ℕ) → e < d → ¬ (HasInherited (process_of w p) e)
   pub oldest : n ≡ suc (replica_of (process_of w p) d).applied
 
--- a block is awaited at a leader: it isn't rebuilt for some lost partition, and just one session is open for it
+-- a block is awaited at a leader: just one session is open for it, and it isn't rebuilt for a partition that the
+-- session is for
 pub record IsAwaited (p : Process) (block : ℕ) : Type 0 where
-  pub d : ℕ
-  pub missing : rebuilt_block p.as_leader d block ≡ None
   pub session : Gathering
   pub opened : Contains p.as_leader.sessions session
+  pub d : ℕ
+  pub lost : Contains session.lost d
+  pub missing : rebuilt_block p.as_leader d block ≡ None
   pub of_block : session.block ≡ block
   pub alone : (g : Gathering) → Contains p.as_leader.sessions g → g.block ≡ block → g ≡ session
 
@@ -113,8 +128,9 @@ pub record IsAwaited (p : Process) (block : ℕ) : Type 0 where
 abbrev pub ComesToBe : World → ProcessId → ℕ → Type 0
 ComesToBe after p b = IsAwaited (process_of after p) b ⊎ ((after.shape.k ≡ 1) × (rebuilt_block (process_of after p).as_leader 0 b ≢ None))
 
--- no free run has the length of the new value
+-- no free run has the length of the new value; a touch writes none
 pub record FindsNoRun (w : World) (p : ProcessId) (op : Asked) : Type 0 where
+  pub written : is_touch op.act ≡ false
   pub value : Holding
   pub leaves : Leaves w op value
   pub some : 0 < length value.item.value
@@ -167,17 +183,23 @@ IsAdopted w p h = (h.rank ≡ 0) ⊎ ((i : ℕ) → i < w.shape.m → ParityNode
 abbrev pub kept_at : World → ProcessId → ℕ → ℕ → Option Kept
 kept_at w p d caller = at None (replica_of (process_of w p) d).kept caller
 
--- the call isn't in the log, and what is kept of its caller is no later one
+-- whether an update of the call waits in the head's log
+abbrev pub waits_at : World → ProcessId → ℕ → ℕ → ℕ → Bool
+waits_at w p caller call d = is_in_log caller call (replica_of (process_of w p) d).log
+
+-- no update of the call waits, and what is kept of its caller is no later one
 pub record IsOpen (w : World) (p : ProcessId) (caller call d : ℕ) : Type 0 where
-  pub not_in_log : is_in_log caller call (replica_of (process_of w p) d).log ≡ false
+  pub not_in_log : waits_at w p caller call d ≡ false
   pub earlier : (kept : Kept) → kept_at w p d caller ≡ Some kept → kept.call < call
 
 -- why a trace is answered so, at a head that is ready
 abbrev pub FateCause : World → ProcessId → ℕ → ℕ → ℕ → Answer → Type 0
-FateCause w p caller call d (says.Reply reply) = (kept : Kept) × (kept_at w p d caller ≡ Some kept) × (kept.call ≡ call) × (reply ≡ reply_from kept.outcome)
-FateCause w p caller call d (says.Stale c) = (kept : Kept) × (kept_at w p d caller ≡ Some kept) × (kept.call ≡ c) × (call < c)
+FateCause w p caller call d (says.Reply reply) = (waits_at w p caller call d ≡ false)
+    × ((kept : Kept) × (kept_at w p d caller ≡ Some kept) × (kept.call ≡ call) × (reply ≡ reply_from kept.outcome))
+FateCause w p caller call d (says.Stale c) = (waits_at w p caller call d ≡ false) × ((kept : Kept) × (kept_at w p d caller ≡ Some kept) × (kept.call ≡ c) × (call < c))
 FateCause w p caller call d says.Gone = IsOpen w p caller call d × ((h : Head) × (head_at (process_of w p) d ≡ Some h) × IsAdopted w p h)
-FateCause w p caller call d says.NotYet = (is_in_log caller call (replica_of (process_of w p) d).log ≡ true) ⊎ (IsOpen w p caller call d × ((h : Head) × (head_at (process_of w p) d ≡ Some h) × (¬ (IsAdopted w p h))))
+FateCause w p caller call d says.NotYet = (waits_at w p caller call d ≡ true)
+    ⊎ (IsOpen w p caller call d × ((h : Head) × (head_at (process_of w p) d ≡ Some h) × (¬ (IsAdopted w p h))))
 FateCause w p caller call d _ = ⊥
 
 -- why a trace is answered so

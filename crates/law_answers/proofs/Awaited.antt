@@ -144,7 +144,7 @@ kept-apply s e n p d b = by (cases_eq d e) where
       ap (λ (bs : List (Option (List ℕ))). is_some (at None bs b))
       (at-put-other [] p.as_leader.rebuilt e d (rebuilt_after s e (up_to n (replica_of p e)) 0 (at [] p.as_leader.rebuilt e)) other)
 
-both-true : (a b : Bool) → (a && b) ≡ true → (a ≡ true) × (b ≡ true)
+pub both-true : (a b : Bool) → (a && b) ≡ true → (a ≡ true) × (b ≡ true)
 both-true true b is = (refl, is)
 both-true false b is = cc is
 
@@ -324,17 +324,37 @@ none-of : (o : Option (List ℕ)) → is_some o ≡ false → o ≡ None
 none-of None none = refl
 none-of (Some x) none = cc none
 
+-- a number of a range that passes
+passes-there : (test : ℕ → Bool) (n a d : ℕ) → a ≤ d → d < a + n → test d ≡ true → Contains (filter test (range_with_len a n)) d
+passes-there test zero a d low high passes = absurd (omega (arith, low, high))
+passes-there test (suc n) a d low high passes = by (cases_eq a d) (test a) refl (λ above. passes-there test n (a + 1) d above (omega (arith, high)) passes) where
+  behind : Contains (filter test (range_with_len (a + 1) n)) d → Contains (a ∷ filter test (range_with_len (a + 1) n)) d
+  behind (k, within, is) = (suc k, omega (arith, within), is)
+
+  by : (a ≡ d) ⊎ (a ≢ d) → (b : Bool) → test a ≡ b → (a + 1 ≤ d → Contains (filter test (range_with_len (a + 1) n)) d)
+      → Contains (if b then a ∷ filter test (range_with_len (a + 1) n) else filter test (range_with_len (a + 1) n)) d
+  by (inl same) true here later = (0, omega arith, same)
+  by (inl same) false here later = absurd (cc (here, passes, ap test same))
+  by (inr other) true here later = behind (later (omega (arith, low, other)))
+  by (inr other) false here later = later (omega (arith, low, other))
+
+-- a partition whose data process is known to be dead is lost
+pub lost-there : (s : Dimensions) (p : Process) (d : ℕ) → d < s.k → knows_dead p.known (DataNode d) ≡ true → Contains (lost_of s p) d
+lost-there s p d low dead = passes-there (λ e. knows_dead p.known (DataNode e)) s.k 0 d (omega arith) (omega (arith, low)) dead
+
 -- a call that has to wait for a block
 module _ (s : Dimensions) (p : Process) (b d : ℕ) (low : d < s.k) (missing : is_some (rebuilt_block p.as_leader d b) ≡ false) (rising : Rising (rows_of s p))
-    (many : length (rows_of s p) ≡ length (lost_of s p)) (distinct : IsDistinct p) where
+    (many : length (rows_of s p) ≡ length (lost_of s p)) (distinct : IsDistinct p) (lost : Contains (lost_of s p) d) (fit : Each (λ g. g.lost ≡ lost_of s p) p.as_leader.sessions) where
   ends : (after : World) (y : ProcessId) (q : Process) → process_of after y ≡ q → s.k ≡ after.shape.k → IsDistinct q
-      → ((g : Gathering) × (g.block ≡ b) × Contains q.as_leader.sessions g × (is_some (rebuilt_block q.as_leader d b) ≡ false)) ⊎ ((s.k ≡ 1) × (is_some (rebuilt_block q.as_leader d b) ≡ true))
+      → ((g : Gathering) × (g.block ≡ b) × (g.lost ≡ lost_of s p) × Contains q.as_leader.sessions g × (is_some (rebuilt_block q.as_leader d b) ≡ false))
+      ⊎ ((s.k ≡ 1) × (is_some (rebuilt_block q.as_leader d b) ≡ true))
       → ComesToBe after y b
-  ends after y q is same apart (inl (g, block, there, none)) = inl (subst (λ (x : Process). IsAwaited x b) (sym is) (record {
-    d = d;
-    missing = none-of (rebuilt_block q.as_leader d b) none;
+  ends after y q is same apart (inl (g, block, for_lost, there, none)) = inl (subst (λ (x : Process). IsAwaited x b) (sym is) (record {
     session = g;
     opened = there;
+    d = d;
+    lost = subst (λ (ds : List ℕ). Contains ds d) (sym for_lost) lost;
+    missing = none-of (rebuilt_block q.as_leader d b) none;
     of_block = block;
     alone = λ other among its. same-session q.as_leader.sessions other g apart.0 among there (inr (its ∙ sym block));
   }))
@@ -354,15 +374,17 @@ module _ (s : Dimensions) (p : Process) (b d : ℕ) (low : d < s.k) (missing : i
     where
       told : ((g : Gathering) × Waits s p (parity_number p.name) b (suc p.as_leader.last_session) g × Contains (start_session s b p).process.as_leader.sessions g × (is_some (rebuilt_block (start_session s b p).process.as_leader d b) ≡ false))
           ⊎ ((s.k ≡ 1) × (is_some (rebuilt_block (start_session s b p).process.as_leader d b) ≡ true))
-          → ((g : Gathering) × (g.block ≡ b) × Contains (start_session s b p).process.as_leader.sessions g × (is_some (rebuilt_block (start_session s b p).process.as_leader d b) ≡ false)) ⊎
+          → ((g : Gathering) × (g.block ≡ b) × (g.lost ≡ lost_of s p) × Contains (start_session s b p).process.as_leader.sessions g
+          × (is_some (rebuilt_block (start_session s b p).process.as_leader d b) ≡ false)) ⊎
           ((s.k ≡ 1) × (is_some (rebuilt_block (start_session s b p).process.as_leader d b) ≡ true))
-      told (inl (g, waits, there, none)) = inl (g, waits.block, there, none)
+      told (inl (g, waits, there, none)) = inl (g, waits.block, waits.lost, there, none)
       told (inr both) = inr both
 
   pub comes-to-be : (after : World) (y : ProcessId) → process_of after y ≡ (retry_block s b None p).step.process → s.k ≡ after.shape.k → ComesToBe after y b
   comes-to-be after y is same = by (list_any (λ g. g.block == b) p.as_leader.sessions) refl is where
     there-is : (g : Gathering) × Contains p.as_leader.sessions g × ((g.block == b) ≡ true) → process_of after y ≡ p → ComesToBe after y b
-    there-is (g, there, test) is = let block : g.block ≡ b = grind (arith, common_steps) in ends after y p is same distinct (inl (g, block, there, missing))
+    there-is (g, there, test) is = let block : g.block ≡ b = grind (arith, common_steps) in
+        ends after y p is same distinct (inl (g, block, each-there (λ g. g.lost ≡ lost_of s p) p.as_leader.sessions g fit there, there, missing))
 
     by : (c : Bool) → list_any (λ g. g.block == b) p.as_leader.sessions ≡ c → process_of after y ≡ (when (not c) p (start_session s b p)).process → ComesToBe after y b
     by true some is = there-is (any-there (λ g. g.block == b) p.as_leader.sessions some) is

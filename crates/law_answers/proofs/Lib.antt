@@ -15,6 +15,7 @@ pub mod Oldest
 pub mod OwnMarks
 pub mod Reasons
 pub mod Renumbered
+pub mod Ruled
 pub mod Sending
 pub mod Settling
 pub mod Starting

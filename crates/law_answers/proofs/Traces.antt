@@ -103,8 +103,8 @@ module _ (w : World) (p : ProcessId) (name : (process_of w p).name ≡ p) (calle
   module _ (unlogged : is_in_log caller call (replica_of (process_of w p) d).log ≡ false) where
     kept-fate : (kept : Kept) → kept_at w p d caller ≡ Some kept → (b c : Bool) → (kept.call == call) ≡ b → nat_lt call kept.call ≡ c
         → TraceCause w p caller call d (if b then says.Reply (reply_from kept.outcome) else (if c then says.Stale kept.call else gone_or (is_adopted w.shape (process_of w p) h)))
-    kept-fate kept is true c test less = (up, ready, (kept, is, grind (arith, common_steps), refl))
-    kept-fate kept is false true test less = (up, ready, (kept, is, refl, grind (arith, common_steps)))
+    kept-fate kept is true c test less = (up, ready, (unlogged, (kept, is, grind (arith, common_steps), refl)))
+    kept-fate kept is false true test less = (up, ready, (unlogged, (kept, is, refl, grind (arith, common_steps))))
     kept-fate kept is false false test less =
         let apart : kept.call ≢ call = grind (arith, common_steps) in
         let most : kept.call ≤ call = grind (arith, common_steps) in

@@ -7,6 +7,7 @@
 ghost use Rattle.law_answers.specs.Deliveries.{FewDeadAlways, KindsAlways, OwnMarksAlways};
 ghost use Rattle.law_answers.specs.Laws.{AnswersAlways, AsksAlways, AsksLeaveAlways, ClearAlways, CollectsAlways, DeliveriesAlways, FailuresAlways, FlushesAlways, TracesAlways};
 ghost use Rattle.law_answers.specs.Numbers.{NumbersLowAlways};
+ghost use Rattle.law_answers.specs.Rules.{RulesAlways};
 ghost use Rattle.law_answers.specs.Steps.{AlwaysSendsFew, AlwaysSendsInside, AlwaysSettlesFew};
 ghost use Rattle.law_answers.specs.Tickets.{EntriesAlways, TicketsAlways};
 
@@ -48,6 +49,12 @@ pub fn asks_always()
 /// A call that nothing stands in the way of is served.
 pub fn clear_always()
     ensures { ClearAlways }
+{}
+
+/// An ask at a head that is ready is answered by the rules of a head in their order: each decides the answer where its
+/// premise holds and no earlier one decides.
+pub fn rules_always()
+    ensures { RulesAlways }
 {}
 
 /// Each answer has its cause: the laws above, for every event that may come.

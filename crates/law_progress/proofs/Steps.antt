@@ -201,9 +201,9 @@ module _ (s : Dimensions) (es : List Event) (run : IsRun s es) where
 
     -- its partition's data process is known to be dead
     home-lost : knows_dead ((state_of here).process p).known (DataNode home) ≡ true
-    home-lost = drained-known drained p (DataNode home) pin home-in (λ same. cc (same ∙ causes.2.0.parity.1)) lives (by causes.1.rank causes.1.name causes.1.heads.lowest) where
+    home-lost = drained-known drained p (DataNode home) pin home-in (λ same. cc (same ∙ causes.2.0.misses.parity.1)) lives (by causes.1.rank causes.1.name causes.1.heads.lowest) where
       by : (r : ℕ) → p ≡ of_rank home r → ((q : ℕ) → q < r → (state_of here).dead (of_rank home q) ≡ true) → (state_of here).dead (DataNode home) ≡ true
-      by zero name lowest = cc (sym name ∙ causes.2.0.parity.1)
+      by zero name lowest = cc (sym name ∙ causes.2.0.misses.parity.1)
       by (suc r) name lowest = lowest 0 (omega arith)
 
     quiet : IsQuiet here.world
@@ -211,11 +211,11 @@ module _ (s : Dimensions) (es : List Event) (run : IsRun s es) where
 
     -- the block isn't served yet
     pub not-served : Served s b ((state_of here).process p) → ⊥
-    not-served (inr rebuilt) = cc (sym (not-rebuilt here.world.shape home causes.2.0.run ((state_of here).process p).as_leader b causes.2.0.missing) ∙ rebuilt home home-in home-lost)
+    not-served (inr rebuilt) = cc (sym (not-rebuilt here.world.shape home causes.2.0.run ((state_of here).process p).as_leader b causes.2.0.misses.missing) ∙ rebuilt home home-in home-lost)
     not-served (inl awaits) = cc (sym awaits.opens ∙ ap (λ (gs : List Gathering). find (λ g. g.number == awaits.number) gs) none) where
       none : ((state_of here).process p).as_leader.sessions ≡ []
-      none = subst (λ (y : ProcessId). ((state_of here).process y).as_leader.sessions ≡ []) (sym causes.2.0.parity.1)
-          (quiet.sessions causes.2.0.parity.0 (subst (IsProcess here.world.shape) causes.2.0.parity.1 may.1, ap (state_of here).dead (sym causes.2.0.parity.1) ∙ lives))
+      none = subst (λ (y : ProcessId). ((state_of here).process y).as_leader.sessions ≡ []) (sym causes.2.0.misses.parity.1)
+          (quiet.sessions causes.2.0.misses.parity.0 (subst (IsProcess here.world.shape) causes.2.0.misses.parity.1 may.1, ap (state_of here).dead (sym causes.2.0.misses.parity.1) ∙ lives))
 
     -- it is one of the space
     decided : (h : Head) × (head_at ((state_of here).process p) home ≡ Some h)

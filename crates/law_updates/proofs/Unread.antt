@@ -1,5 +1,5 @@
 -- What the table makes of an op on an item whose bytes a head doesn't read.
-use Rattle.std.proofs.Common.{ℕ, suc, ◌≡◌, ◌+◌, ◌≤◌, nat_lt, Bool, true, false, ◌&&◌, List, length, Option, Some, None, if◌then◌else◌, refl, ap, ◌∙◌, arith}
+use Rattle.std.proofs.Common.{ℕ, suc, ◌≡◌, ◌+◌, ◌≤◌, nat_lt, Bool, true, false, ◌&&◌, List, length, Option, Some, None, if◌then◌else◌, refl, sym, ap, ◌∙◌, arith}
 use Rattle.std.proofs.lemmas.Grind.{common_steps}
 use Rattle.std.proofs.lemmas.List.{length-replicate}
 use Rattle.erasure_code.specs.Spaces.{bytes_at}
@@ -49,6 +49,14 @@ module _ (r : Replica) (store : Store) (op : Asked) where
               → ruling_of op.moment (suc (last_of r)) op.act (if live then Some (held_as slot own) else None) ≡ Refused reply
           by true zeros blind = blind-held slot (unseen (Some slot)) own zeros-long own-long op.moment (suc (last_of r)) op.act reply zeros blind
           by false zeros blind = zeros
+
+    -- and the table's refusal, where it is blind, is one on any bytes
+    pub item-blind : (reply : Reply) → real ≡ Refused reply → is_blind slot.len reply ≡ true → ruling_on slot (unseen (Some slot)) ≡ Refused reply
+    item-blind reply refused blind = by (is_live op.moment slot.until) (sym (real-on slot is) ∙ refused) where
+      by : (live : Bool) → ruling_of op.moment (suc (last_of r)) op.act (if live then Some (held_as slot own) else None) ≡ Refused reply
+          → ruling_of op.moment (suc (last_of r)) op.act (if live then Some (held_as slot (unseen (Some slot))) else None) ≡ Refused reply
+      by true there = blind-held slot own (unseen (Some slot)) own-long zeros-long op.moment (suc (last_of r)) op.act reply there blind
+      by false there = there
 
     -- where no byte is needed, the ruling is alike
     pub unneeded : (reads_it live : Bool) → reads_bytes op.act ≡ reads_it → (reads_it && live && nat_lt 0 slot.len) ≡ false
