@@ -17,3 +17,5 @@ mod frames;
 mod limits;
 #[cfg(test)]
 mod runs;
+#[cfg(test)]
+mod turns;
