@@ -126,7 +126,7 @@ no-run space r (suc len) is = (omega arith, subst (IsPlaced space r (suc len)) i
 
 module _ (h : History) (framed : FramedHistory h) (members : Members h.world.shape (state_of h)) (calls : List Call) (stands : Stands h.world.shape calls (state_of h))
     (ties : Ties h.world.shape h.settled (table_now h.world)) (short : LogsAreShort h.world) (some : 1 ≤ h.world.shape.k) (op : Asked) (p : ProcessId) (pin : IsProcess h.world.shape p)
-    (distinct : IsDistinct (process_of h.world p)) 
+    (distinct : IsDistinct (process_of h.world p))
     (gathered : is_dead h.world p ≡ false → Each (IsFor h.world.shape (process_of h.world p).known) (process_of h.world p).as_leader.sessions) where
   abbrev w : World
   w = h.world
@@ -240,9 +240,9 @@ module _ (h : History) (framed : FramedHistory h) (members : Members h.world.sha
       length-same : item_length r op ≡ bytes_of ((table_now w).items key)
       length-same = ap (λ (xs : List (List ℕ × Slot)). length_of (slot_in xs key)) items ∙ by (slot_in store.items key) (each-slot (λ x. x.at + x.len ≤ space_of w.shape) key store.items fits.inside)
           ∙ sym (ap bytes_of (ties.items key ∙ same-held w.shape calls settled d (process_of w p) y stood op free)) where
-        by : (o : Option Slot) → OfSlot (λ x. x.at + x.len ≤ space_of w.shape) o → length_of o ≡ bytes_of (held_in store.space o)
-        by None within = refl
-        by (Some slot) within = sym (length-bytes_at slot.at slot.len store.space (let long = fits.long in omega (arith, long, within)))
+            by : (o : Option Slot) → OfSlot (λ x. x.at + x.len ≤ space_of w.shape) o → length_of o ≡ bytes_of (held_in store.space o)
+            by None within = refl
+            by (Some slot) within = sym (length-bytes_at slot.at slot.len store.space (let long = fits.long in omega (arith, long, within)))
 
       well : RulesWell (suc (last_of r)) op.act (live_at op.moment (held store key)) real
       well = rules-well op.moment (suc (last_of r)) op.act (live_at op.moment (held store key))

@@ -198,8 +198,7 @@ module _ (space : ℕ) (r : Replica) (store : Store) (op : Asked) (read : Run �
   no-item : slot_in store.items (key_of op.act) ≡ None → slot_in r.items (key_of op.act) ≡ None → (blind : Option Reply) → blind_reply 0 (ruling_of op.moment (suc (last_of r)) op.act None) ≡ blind
       → Caused space r op read real (decide_blind space r op read None blind)
   no-item is own_is (Some reply) blind =
-      let refused = blind-refused 0 (ruling_of op.moment (suc (last_of r)) op.act None) reply blind in
-      (
+      let refused = blind-refused 0 (ruling_of op.moment (suc (last_of r)) op.act None) reply blind in (
         ap (λ (x : Option Slot). ruling_of op.moment (suc (last_of r)) op.act (live_at op.moment (held_in store.space x))) is ∙ refused.0,
         inl (ap (λ (x : Option Slot). is_blind (length_of x) reply) own_is ∙ refused.1),
       )
