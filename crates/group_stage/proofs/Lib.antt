@@ -12,4 +12,6 @@ pub mod Treating
 pub mod Called
 pub mod Pairs
 pub mod Dealing
+pub mod Stacks
+pub mod Deaths
 pub mod Gathering

@@ -11,4 +11,5 @@ pub mod Opened
 pub mod Dealt
 pub mod SeatList
 pub mod Closed
+pub mod Gathered
 pub mod Emptied

@@ -1,13 +1,16 @@
 //! A group whose nodes are shared by threads.
 #![tactic(auto)]
 
+mod all_nodes;
 mod answer;
 mod asking;
 mod closing;
 mod collecting;
 mod delivering;
+mod failing;
 mod finishing;
 mod flushing;
+
 mod opening;
 mod places;
 mod plays;
