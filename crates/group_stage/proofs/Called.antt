@@ -1,9 +1,8 @@
 -- A seat after a call.
-use Rattle.std.proofs.Common.{ℕ, zero, suc, ◌≡◌, ◌≢◌, ◌<◌, ◌≤◌, ◌+◌, Bool, true, false, eqb, List, [], ◌∷◌, ◌++◌, length, refl, sym, ap, subst, ◌∙◌, arith, cond, eq-eqb, ne_eqb, ◌⊎◌, ⊎_elim}
+use Rattle.std.proofs.Common.{ℕ, ◌≡◌, ◌≢◌, ◌<◌, ◌≤◌, ◌+◌, Bool, true, false, eqb, [], ◌∷◌, length, refl, sym, ap, subst, ◌∙◌, arith, cond, eq-eqb, ⊎_elim}
 use Rattle.std.specs.Prelude.{Result, Ok, Err, MatchResult}
 use Rattle.std.proofs.lemmas.Bool.{cases_eq}
 use Rattle.std.specs.declared.alloc.AllocError.{AllocError}
-use Rattle.group_types.specs.Dimensions.{callers}
 use Rattle.group_calls.specs.declared.event.Event.{Event}
 use Rattle.group_stage.specs.Conditions.{IsReady}
 use Rattle.group_stage.specs.Ended.{Ended, HasReturned, IsSeat, IsUnmade}
@@ -14,7 +13,6 @@ use Rattle.group_stage.specs.Steps.{Sat}
 use Rattle.group_stage.specs.Views.{asks_by}
 use Rattle.group_stage.specs.declared.answer.StageAnswer.{StageAnswer}
 use Rattle.group_stage.specs.declared.answer.StageAnswer.TheVariants.{Busy, Made, Worn}
-use Rattle.group_stage.specs.declared.view.Numbered.{Numbered}
 use Rattle.group_stage.specs.declared.view.View.{View}
 use Rattle.group_stage.proofs.Committing.{asks-append}
 

@@ -1,11 +1,11 @@
 -- A call becomes an event: the rule is kept with the schedule one event longer.
-use Rattle.std.proofs.Common.{ℕ, zero, suc, ◌≡◌, ◌≢◌, ◌<◌, ◌≤◌, ◌+◌, ◌-◌, ◌*◌, ◌/◌, ◌%◌, ◌^◌, ◌⊎◌, ⊎_elim, inl, inr, List, [], ◌∷◌, ◌++◌, length, map, get_or, set, refl, sym, ap, subst, ◌∙◌, arith, length-set, get_or-set_other, get_or-set_same, length-append}
+use Rattle.std.proofs.Common.{ℕ, suc, ◌≡◌, ◌≢◌, ◌<◌, ◌≤◌, ◌+◌, ◌%◌, ⊎_elim, List, [], ◌∷◌, ◌++◌, length, map, get_or, set, refl, sym, ap, subst, ◌∙◌, arith, length-set, get_or-set_other, get_or-set_same, length-append}
 use Rattle.std.specs.Prelude as std
 use Rattle.std.proofs.lemmas.Bool.{cases_eq}
-use mathlib.Core.Option.{Option, none, some, some-injective}
+use mathlib.Core.Option.{none, some}
 use lib.ListN.{get_elem?}
-use Rattle.atomic_table.specs.Table.{Act, Allows, State, Valid, carried_after, gives, keeps, rest, step, stepped, takes}
-use Rattle.atomic_table.proofs.Lists.{at_set, set_else, set_here}
+use Rattle.atomic_table.specs.Table.{Allows, keeps, step}
+use Rattle.atomic_table.proofs.Lists.{at_set}
 use Rattle.group_types.specs.Dimensions.{Dimensions, processes_of}
 use Rattle.group_calls.specs.declared.event.Event.{Event}
 use Rattle.group_run.specs.Locality.{times}
@@ -13,25 +13,24 @@ use Rattle.group_run.specs.World.{names}
 use Rattle.group_node.specs.Standing.{Standing}
 use Rattle.group_stage.specs.Conditions.{CanCommit}
 use Rattle.group_stage.specs.Counts.{Each, bit, flag, total}
-use Rattle.group_stage.specs.Kept.{Fits, IsSpent, Kept, most_calls}
-use Rattle.group_stage.specs.Places.{drawing_of, history_of, place_of, slot_of, word_in, word_of}
-use Rattle.group_stage.specs.Schedules.{asked_at, standing_at}
-use Rattle.group_stage.specs.Steps.{Begins, IsTaken, Knows, Releases, Sat, Takes, TakesNext}
-use Rattle.group_stage.specs.Views.{asks_by, begun, cleared_of, drawn, held_rest, holding, met_of, released, tally, with_held, with_met}
+use Rattle.group_stage.specs.Kept.{Fits, Kept}
+use Rattle.group_stage.specs.Places.{history_of, word_in, word_of}
+use Rattle.group_stage.specs.Schedules.{standing_at}
+use Rattle.group_stage.specs.Steps.{Sat}
+use Rattle.group_stage.specs.Views.{asks_by, cleared_of, drawn, holding, met_of}
 use Rattle.group_stage.specs.declared.view.Plan.{Plan}
 use Rattle.group_stage.specs.declared.view.View.{View}
-use Rattle.group_stage.proofs.Sums.{at_within, bit-no, each-weaker, flag-none, flag_le, only_one, term_le, terms_le, times-append, times-else, times-here, times_length, total-set, total_both, total_le, total_scaled}
-use Rattle.group_stage.proofs.Moves.{Homes, Keeps, St, again, changed, knows, next_in, stage, word_bound}
+use Rattle.group_stage.proofs.Sums.{each-weaker, flag_le, term_le, terms_le, times-here, total-set}
+use Rattle.group_stage.proofs.Moves.{St, knows, next_in, stage}
 use Rattle.std.proofs.Common.{append_assoc, append-nil}
-use Rattle.group_types.specs.Lists.{at}
-use Rattle.group_run.specs.Headline.{IsRun, MayCome}
-use Rattle.group_run.specs.World.{World, after}
+use Rattle.group_run.specs.Headline.{IsRun}
+use Rattle.group_run.specs.World.{after}
 use Rattle.group_stage.specs.Kept.{IsAnswered}
-use Rattle.group_stage.specs.Schedules.{StartsWith, answer_at, ask_by}
+use Rattle.group_stage.specs.Schedules.{StartsWith, answer_at}
 use Rattle.group_stage.specs.Steps.{Commits}
 use Rattle.group_stage.specs.Views.{committed, held_at}
 use Rattle.group_stage.specs.declared.view.Numbered.{Numbered}
-use Rattle.group_stage.proofs.Sums.{bit-more, each-both, each-map, each-snoc}
+use Rattle.group_stage.proofs.Sums.{bit-more, each-both, each-snoc}
 use Rattle.group_stage.proofs.Moves.{few_events, owned_asks}
 use Rattle.group_stage.proofs.Runs.{asked-more, last-answered, run-more, shape-after, stands, still-answered}
 use Rattle.group_stage.proofs.Taking.{Goes}

@@ -1,10 +1,9 @@
 -- Seats are dealt, and nodes are laid into slots.
-use Rattle.std.proofs.Common.{ℕ, zero, suc, ◌≡◌, ◌≢◌, ◌<◌, ◌≤◌, ◌+◌, ◌-◌, ◌*◌, ◌⊎◌, ⊎_elim, List, [], ◌∷◌, ◌++◌, length, map, refl, sym, ap, subst, ◌∙◌, arith, length-append}
+use Rattle.std.proofs.Common.{ℕ, zero, suc, ◌≡◌, ◌≢◌, ◌<◌, ◌+◌, ⊎_elim, List, [], ◌∷◌, ◌++◌, length, map, refl, sym, ap, subst, ◌∙◌, arith, length-append}
 use Rattle.std.specs.Prelude as std
 use Rattle.std.specs.List.{range_with_len}
-use Rattle.std.proofs.lemmas.Bool.{cases_eq, cases_lt}
+use Rattle.std.proofs.lemmas.Bool.{cases_eq}
 use mathlib.Core.Option.{some}
-use lib.ListN.{get_elem?}
 use Rattle.atomic_table.proofs.Lists.{at_last, at_longer}
 use Rattle.group_types.specs.Dimensions.{Dimensions, processes_of}
 use Rattle.group_types.specs.Lists.{at}

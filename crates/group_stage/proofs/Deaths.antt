@@ -1,10 +1,9 @@
 -- A process dies among the nodes of all processes in hand, as the machine has it, and they go back.
-use Rattle.std.proofs.Common.{ℕ, zero, suc, ◌≡◌, ◌≢◌, ◌<◌, ◌≤◌, ◌+◌, ◌-◌, List, [], ◌∷◌, ◌++◌, length, map, refl, sym, ap, subst, ◌∙◌, arith}
-use Rattle.std.specs.Prelude.{Option, Some, None}
+use Rattle.std.proofs.Common.{ℕ, suc, ◌≡◌, ◌≢◌, ◌<◌, ◌≤◌, ◌+◌, ◌-◌, List, [], ◌∷◌, ◌++◌, length, refl, sym, ap, subst, ◌∙◌, arith}
+use Rattle.std.specs.Prelude.{Option, None}
 use Rattle.std.proofs.lemmas.List.{length-append, append-nil}
 use Rattle.atomic_table.specs.Table.{rest}
 use Rattle.group_types.specs.Dimensions.{Dimensions, processes_of}
-use Rattle.group_types.specs.Lists.{at}
 use Rattle.group_types.specs.Names.{IsProcess, index_of, process_at}
 use Rattle.group_types.specs.declared.process.ProcessId.{ProcessId}
 use Rattle.group_types.proofs.Names.{index-below, index-process_at}
@@ -12,22 +11,21 @@ use Rattle.group_calls.specs.declared.event.Answer.{Answer}
 use Rattle.group_calls.specs.declared.event.Event.{Event}
 use Rattle.group_calls.specs.declared.event.Event.TheVariants.{Fail}
 use Rattle.group_run.specs.Headline.{IsRun, MayCome}
-use Rattle.group_run.specs.Locality.{times}
 use Rattle.group_run.specs.Process.{Node}
 use Rattle.group_run.specs.World.{GroupStep, World, after, all_change, group_step, node_in, node_of, opening}
 use Rattle.group_node.specs.Standing.{Standing}
-use Rattle.group_core.specs.Seats.{AreOf, AreSeated, nodes_of, seat, seats_of}
+use Rattle.group_core.specs.Seats.{AreSeated, nodes_of, seat, seats_of}
 use Rattle.group_core.proofs.Changed.{many-nodes}
 use Rattle.group_core.proofs.Runs as core_runs
 use Rattle.group_core.proofs.Schedules.{has-run}
 use Rattle.group_stage.specs.Conditions.{CanCommit, HasLast, InHand, IsReady}
 use Rattle.group_stage.specs.Counts.{Each}
-use Rattle.group_stage.specs.Ended.{Ended, HasReturned, IsBusy, IsMade}
+use Rattle.group_stage.specs.Ended.{Ended}
 use Rattle.group_stage.specs.Gathered.{AllFailed, CanFail, Failed, GaveBack, HasAll, NamesAll, OneMet, hand_of, holding_all, sat_with, slots_left}
 use Rattle.group_stage.specs.Places.{slot_of}
-use Rattle.group_stage.specs.Schedules.{answer_at, ask_by, standing_at}
+use Rattle.group_stage.specs.Schedules.{answer_at, ask_by}
 use Rattle.group_stage.specs.Steps.{Knows, Sat}
-use Rattle.group_stage.specs.Views.{begun, cleared_of, committed, held_rest, holding, released, tally, with_held, with_met}
+use Rattle.group_stage.specs.Views.{begun, committed, held_rest, released, tally, with_held, with_met}
 use Rattle.group_stage.specs.declared.answer.StageAnswer.{StageAnswer}
 use Rattle.group_stage.specs.declared.answer.StageAnswer.TheVariants.{Busy, Made, Worn}
 use Rattle.group_stage.specs.declared.view.Plan.{Plan}
@@ -35,7 +33,7 @@ use Rattle.group_stage.specs.declared.view.View.{View}
 use Rattle.group_run.proofs.Locality.{times-range}
 use Rattle.group_stage.proofs.Releasing.{tally-append, tally-else}
 use Rattle.group_stage.proofs.Runs.{after-more, run-more, shape-after, size-after}
-use Rattle.group_stage.proofs.Stacks.{AreRun, all-nodes, all-run, each-run, hand-more, in-stack, run-shapes, run-stack, same-slots, slots-more}
+use Rattle.group_stage.proofs.Stacks.{AreRun, all-nodes, all-run, each-run, hand-more, in-stack, run-shapes, run-stack, same-slots}
 
 -- some went back, and these are still in hand
 pub record GivesBack (m w : Sat) (ys : List Standing) (n : ℕ) : Type 0 where

@@ -1,9 +1,9 @@
 -- Seats are gathered into one, and nodes come out of their slots.
-use Rattle.std.proofs.Common.{ℕ, zero, suc, ◌≡◌, ◌≢◌, ◌<◌, ◌≤◌, ◌+◌, ◌*◌, ◌⊎◌, ⊎_elim, Bool, true, false, List, [], ◌∷◌, ◌++◌, length, map, get_or, set, refl, sym, ap, subst, ◌∙◌, arith, length-append, length-set, get_or-set_other, get_or-set_same}
+use Rattle.std.proofs.Common.{ℕ, zero, suc, ◌≡◌, ◌≢◌, ◌<◌, ◌+◌, ⊎_elim, Bool, false, List, [], ◌∷◌, ◌++◌, length, map, get_or, set, refl, sym, ap, subst, ◌∙◌, arith, length-append, length-set, get_or-set_other, get_or-set_same}
 use Rattle.std.specs.Prelude as std
 use Rattle.std.specs.Prelude.{All, option_to_list, slice_get}
 use Rattle.std.proofs.lemmas.Bool.{cases_eq}
-use mathlib.Core.Option.{Option, some, some-injective}
+use mathlib.Core.Option.{some, some-injective}
 use lib.ListN.{get_elem?}
 use Rattle.group_types.specs.Dimensions.{Dimensions, processes_of}
 use Rattle.group_types.specs.Lists.{at}
@@ -12,9 +12,9 @@ use Rattle.group_calls.specs.declared.event.Event.{Event}
 use Rattle.group_run.specs.Process.{Node}
 use Rattle.group_run.specs.World.{after, opening_node}
 use Rattle.group_node.specs.Standing.{Standing}
-use Rattle.group_core.specs.Seats.{AreSeated, nodes_of}
+use Rattle.group_core.specs.Seats.{nodes_of}
 use Rattle.group_stage.specs.Closed.{HasClosed}
-use Rattle.group_stage.specs.Counts.{Each, bit, total}
+use Rattle.group_stage.specs.Counts.{Each, total}
 use Rattle.group_stage.specs.Emptied.{AreTaken}
 use Rattle.group_stage.specs.Kept.{IsAnswered, IsWhole, Kept}
 use Rattle.group_stage.specs.Places.{slot_of}
@@ -23,7 +23,6 @@ use Rattle.group_stage.specs.Seated.{AreOf, IsOf, view_of}
 use Rattle.group_stage.specs.Views.{drawn, joined}
 use Rattle.group_stage.specs.declared.seat.Seat.{Seat}
 use Rattle.group_stage.specs.declared.stage.Stage.{Stage}
-use Rattle.group_stage.specs.declared.view.Numbered.{Numbered}
 use Rattle.group_stage.specs.declared.view.Plan.{Plan}
 use Rattle.group_stage.specs.declared.view.View.{View}
 use Rattle.group_stage.proofs.Committing.{drawn-append}

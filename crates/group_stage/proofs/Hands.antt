@@ -1,10 +1,10 @@
 -- What a step on a word found, and the node in hand.
-use Rattle.std.proofs.Common.{ℕ, zero, suc, ◌≡◌, ◌<◌, ◌≤◌, List, [], ◌∷◌, get_or, refl, sym, ap, subst, ◌∙◌, arith}
+use Rattle.std.proofs.Common.{ℕ, zero, suc, ◌≡◌, ◌<◌, ◌≤◌, List, ◌∷◌, get_or, refl, sym, ap, subst, ◌∙◌, arith}
 use Rattle.std.specs.Prelude.{Option, Some, None}
 use Rattle.atomic_table.specs.Table.{rest}
 use Rattle.group_calls.specs.declared.event.Event.{Event}
 use Rattle.group_node.specs.Standing.{Standing}
-use Rattle.group_stage.specs.Conditions.{HasLast, InHand, Took}
+use Rattle.group_stage.specs.Conditions.{HasLast, Took}
 use Rattle.group_stage.specs.Places.{place_of, slot_of, word_of}
 use Rattle.group_stage.specs.Schedules.{standing_at}
 use Rattle.group_stage.specs.Steps.{IsTaken, Sat, Takes}

@@ -1,6 +1,6 @@
 -- A delivery: the two nodes in hand treat it as the machine does, and so the call is the event.
-use Rattle.std.proofs.Common.{ℕ, zero, suc, ◌≡◌, ◌≢◌, ◌<◌, ◌≤◌, ◌+◌, ◌-◌, List, [], ◌∷◌, ◌++◌, length, map, refl, sym, ap, subst, ◌∙◌, arith}
-use Rattle.std.specs.Prelude.{Option, Some, None, false}
+use Rattle.std.proofs.Common.{ℕ, ◌≡◌, ◌≢◌, ◌<◌, ◌+◌, ◌-◌, List, [], ◌∷◌, ◌++◌, length, map, refl, sym, ap, subst, ◌∙◌, arith}
+use Rattle.std.specs.Prelude.{Option, None, false}
 use Rattle.group_types.specs.Dimensions.{Dimensions, processes_of}
 use Rattle.group_types.specs.Lists.{at, put}
 use Rattle.group_types.specs.Names.{IsProcess, index_of, process_at}
@@ -14,7 +14,7 @@ use Rattle.group_calls.specs.declared.event.Event.TheVariants.{Deliver}
 use Rattle.group_run.specs.Headline.{IsRun, MayCome}
 use Rattle.group_run.specs.Locality.{times}
 use Rattle.group_run.specs.Process.{Node, Process}
-use Rattle.group_run.specs.World.{DeliveryStep, GroupStep, NodeStep, World, after, deliver_nodes, group_step, names, node_of, opening, opening_node, two_change}
+use Rattle.group_run.specs.World.{DeliveryStep, GroupStep, World, after, deliver_nodes, group_step, names, node_of, opening, opening_node, two_change}
 use Rattle.group_node.specs.Delivering.{Comes}
 use Rattle.group_node.specs.Standing.{Standing}
 use Rattle.group_node.specs.Steps.{made}
@@ -24,11 +24,11 @@ use Rattle.group_core.proofs.Known.{first-comes}
 use Rattle.group_core.proofs.Runs as core_runs
 use Rattle.group_core.proofs.Schedules.{has-run}
 use Rattle.group_stage.specs.Conditions.{CanFinishTwo, InHand, IsReady}
-use Rattle.group_stage.specs.Ended.{Ended, HasReturned, IsMade, IsUnmade}
+use Rattle.group_stage.specs.Ended.{Ended, IsUnmade}
 use Rattle.group_stage.specs.Places.{slot_of}
-use Rattle.group_stage.specs.Schedules.{answer_at, ask_by, asked_at, node_at, standing_at}
+use Rattle.group_stage.specs.Schedules.{answer_at, ask_by, standing_at}
 use Rattle.group_stage.specs.Steps.{Knows, Sat}
-use Rattle.group_stage.specs.Views.{asks_by, begun, cleared_of, committed, released, tally, with_held, with_met}
+use Rattle.group_stage.specs.Views.{asks_by, begun, committed, released, with_held, with_met}
 use Rattle.group_stage.specs.declared.answer.StageAnswer.TheVariants.{Busy, Made}
 use Rattle.group_stage.specs.declared.view.Plan.{Plan}
 use Rattle.group_stage.specs.declared.view.View.{View}

@@ -1,27 +1,25 @@
 -- A node is given back, and its word released.
-use Rattle.std.proofs.Common.{ℕ, zero, suc, ◌≡◌, ◌≢◌, ◌<◌, ◌≤◌, ◌+◌, ◌-◌, ◌*◌, ◌/◌, ◌%◌, ◌^◌, ◌⊎◌, ⊎_elim, inl, inr, List, [], ◌∷◌, ◌++◌, length, map, get_or, set, refl, sym, ap, subst, ◌∙◌, arith, length-set, get_or-set_other, get_or-set_same, length-append, eq-eqb, ne_eqb}
+use Rattle.std.proofs.Common.{ℕ, zero, suc, ◌≡◌, ◌≢◌, ◌<◌, ◌+◌, ◌-◌, ⊎_elim, List, [], ◌∷◌, ◌++◌, map, set, refl, sym, ap, subst, ◌∙◌, arith, length-set, eq-eqb, ne_eqb}
 use Rattle.std.specs.Prelude as std
 use Rattle.std.proofs.lemmas.Bool.{cases_eq}
-use mathlib.Core.Option.{Option, none, some, some-injective}
+use mathlib.Core.Option.{none, some}
 use lib.ListN.{get_elem?}
-use Rattle.atomic_table.specs.Table.{Act, Allows, State, Valid, carried_after, gives, keeps, put_back, rest, step, stepped, takes}
-use Rattle.atomic_table.proofs.Lists.{at_set, set_else, set_here}
-use Rattle.group_types.specs.Dimensions.{Dimensions, processes_of}
-use Rattle.group_calls.specs.declared.event.Event.{Event}
+use Rattle.atomic_table.specs.Table.{Allows, gives, put_back, rest, step}
+use Rattle.atomic_table.proofs.Lists.{set_else, set_here}
+use Rattle.group_types.specs.Dimensions.{processes_of}
 use Rattle.group_run.specs.Locality.{times}
-use Rattle.group_run.specs.World.{names}
 use Rattle.group_node.specs.Standing.{Standing}
 use Rattle.group_stage.specs.Conditions.{HasLast}
-use Rattle.group_stage.specs.Counts.{Each, bit, flag, total}
-use Rattle.group_stage.specs.Kept.{Fits, IsSpent, Kept, most_calls}
-use Rattle.group_stage.specs.Places.{drawing_of, history_of, place_of, slot_of, word_in, word_of}
-use Rattle.group_stage.specs.Schedules.{asked_at, standing_at}
-use Rattle.group_stage.specs.Steps.{Begins, IsTaken, Knows, Releases, Sat, Takes, TakesNext}
-use Rattle.group_stage.specs.Views.{asks_by, begun, cleared_of, drawn, held_rest, holding, met_of, released, tally, with_held, with_met}
+use Rattle.group_stage.specs.Counts.{Each, flag}
+use Rattle.group_stage.specs.Kept.{Kept}
+use Rattle.group_stage.specs.Places.{slot_of, word_in, word_of}
+use Rattle.group_stage.specs.Schedules.{standing_at}
+use Rattle.group_stage.specs.Steps.{Releases, Sat}
+use Rattle.group_stage.specs.Views.{cleared_of, held_rest, holding, met_of, released, tally}
 use Rattle.group_stage.specs.declared.view.Plan.{Plan}
 use Rattle.group_stage.specs.declared.view.View.{View}
-use Rattle.group_stage.proofs.Sums.{at_within, bit-no, each-weaker, flag-none, flag_le, only_one, term_le, terms_le, times-append, times-else, times-here, times_length, total-set, total_both, total_le, total_scaled}
-use Rattle.group_stage.proofs.Moves.{Homes, Keeps, St, again, changed, knows, next_in, stage, word_bound}
+use Rattle.group_stage.proofs.Sums.{term_le, times-else, times-here}
+use Rattle.group_stage.proofs.Moves.{Homes, Keeps, St, changed, stage}
 use Rattle.group_stage.proofs.Taking.{Goes, drawing-else, history-else, place-is, word-else, word-here}
 
 pub tally-append : (p : ℕ) (xs ys : List (ℕ × ℕ)) → tally p (xs ++ ys) ≡ tally p xs + tally p ys

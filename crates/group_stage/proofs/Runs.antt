@@ -1,7 +1,6 @@
 -- What one event more makes of the run of a schedule.
-use Rattle.std.proofs.Common.{ℕ, zero, suc, ◌≡◌, ◌≢◌, ◌<◌, ◌≤◌, ◌+◌, ◌⊎◌, ⊎_elim, Bool, true, false, eqb, eq-eqb, ne_eqb, cond, List, [], ◌∷◌, ◌++◌, length, map, take, refl, sym, ap, subst, ◌∙◌, arith}
-use Rattle.std.specs.Prelude.{slice_get, Option, Some, None}
-use Rattle.std.specs.List.{range_with_len}
+use Rattle.std.proofs.Common.{ℕ, zero, suc, ◌≡◌, ◌≢◌, ◌<◌, ◌+◌, ⊎_elim, Bool, true, false, eqb, eq-eqb, ne_eqb, cond, List, [], ◌∷◌, ◌++◌, length, take, refl, sym, ap, ◌∙◌, arith}
+use Rattle.std.specs.Prelude.{slice_get, Some, None}
 use Rattle.std.proofs.lemmas.Bool.{cases_eq}
 use Rattle.std.proofs.lemmas.List.{length-map}
 use Rattle.std.proofs.lemmas.List.FromFn.{length-map-range_with_len}
@@ -16,7 +15,7 @@ use Rattle.group_calls.specs.declared.event.Event.TheVariants.{Ask, Collect, Del
 use Rattle.group_run.specs.Headline.{IsRun, IsRunFrom, MayCome}
 use Rattle.group_run.specs.Locality.{times}
 use Rattle.group_run.specs.Process.{Node}
-use Rattle.group_run.specs.World.{World, after, all_change, asked_after, call_of, dead_nodes, group_step, names, node_failed, node_of, opening, opening_node, step, with_down, with_node, world_after}
+use Rattle.group_run.specs.World.{World, after, all_change, asked_after, call_of, group_step, names, node_of, opening, opening_node, step, with_node, world_after}
 use Rattle.group_run.proofs.Locality.{others_stay}
 use Rattle.group_stage.specs.Kept.{IsAnswered}
 use Rattle.group_stage.specs.Schedules.{answer_at, ask_by, asked_at, node_at, standing_at}

@@ -1,10 +1,10 @@
 -- The nodes of all processes in hand.
-use Rattle.std.proofs.Common.{ℕ, zero, suc, ◌≡◌, ◌≢◌, ◌<◌, ◌≤◌, ◌+◌, ◌⊎◌, inl, inr, List, [], ◌∷◌, ◌++◌, length, map, drop, refl, sym, ap, subst, ◌∙◌, arith}
+use Rattle.std.proofs.Common.{ℕ, zero, suc, ◌≡◌, ◌≢◌, ◌<◌, ◌≤◌, ◌+◌, ◌⊎◌, inl, inr, List, [], ◌∷◌, ◌++◌, length, map, drop, refl, sym, ap, ◌∙◌, arith}
 use Rattle.std.proofs.lemmas.Bool.{cases_eq}
-use Rattle.std.specs.Prelude.{All, Option, Some, None}
-use Rattle.group_types.specs.Dimensions.{Dimensions, processes_of}
+use Rattle.std.specs.Prelude.{Option, None}
+use Rattle.group_types.specs.Dimensions.{Dimensions}
 use Rattle.group_types.specs.Lists.{at}
-use Rattle.group_types.specs.Names.{IsProcess, index_of, process_at}
+use Rattle.group_types.specs.Names.{process_at}
 use Rattle.group_calls.specs.declared.event.Event.{Event}
 use Rattle.group_run.specs.Locality.{times}
 use Rattle.group_run.specs.Process.{Node}

@@ -1,32 +1,23 @@
 -- The stage at the start, and as it is closed.
-use Rattle.std.proofs.Common.{ℕ, zero, suc, ◌≡◌, ◌≢◌, ◌<◌, ◌≤◌, ◌+◌, ◌-◌, ◌*◌, ◌/◌, ◌%◌, ◌^◌, ◌⊎◌, ⊎_elim, inl, inr, List, [], ◌∷◌, ◌++◌, length, map, get_or, set, replicate, refl, sym, ap, subst, ◌∙◌, arith, eqb, eq-eqb, ne_eqb, length-set, get_or-set_other, get_or-set_same, length-append}
+use Rattle.std.proofs.Common.{ℕ, zero, suc, ◌≡◌, ◌<◌, ◌+◌, List, [], ◌∷◌, length, map, get_or, replicate, refl, sym, ap, subst, ◌∙◌, arith}
 use Rattle.std.specs.Prelude as std
-use Rattle.std.proofs.lemmas.Bool.{cases_eq}
-use mathlib.Core.Option.{Option, none, some, some-injective, some-ne-none}
+use mathlib.Core.Option.{Option, some, some-injective, some-ne-none}
 use lib.ListN.{get_elem?}
-use Rattle.atomic_table.specs.Table.{Act, Allows, Joins, Splits, State, Valid, carried_after, gives, keeps, opening, rest, step, stepped, takes}
-use Rattle.atomic_table.proofs.Lists.{at_set, at_snoc, set_else, set_here}
-use Rattle.group_types.specs.Dimensions.{Dimensions, callers, processes_of}
-use Rattle.group_types.specs.Lists.{at}
-use Rattle.group_types.specs.Shape.{IsShape}
+use Rattle.atomic_table.specs.Table.{opening}
+use Rattle.group_types.specs.Dimensions.{callers, processes_of}
 use Rattle.group_types.proofs.Lists.{at-replicate}
-use Rattle.group_calls.specs.declared.event.Event.{Event}
 use Rattle.group_run.specs.Locality.{times}
-use Rattle.group_run.specs.World.{names}
 use Rattle.group_node.specs.Standing.{Standing}
 use Rattle.group_stage.specs.Conditions.{IsAtStart}
-use Rattle.group_stage.specs.Counts.{Each, bit, flag, total}
-use Rattle.group_stage.specs.Kept.{Fits, IsAnswered, IsSpent, IsWhole, Kept, most_calls}
-use Rattle.group_stage.specs.Places.{drawing_of, history_of, place_of, slot_of, word_in, word_of}
-use Rattle.group_stage.specs.Schedules.{StartsWith, asked_at, standing_at}
-use Rattle.group_stage.specs.Steps.{Draws, Sat}
-use Rattle.group_stage.specs.Views.{asks_by, blank, cleared_of, drawn, holding, joined, kept_part, met_of, new_part, nobody, numbered, tally}
-use Rattle.group_stage.specs.declared.view.Numbered.{Numbered}
+use Rattle.group_stage.specs.Counts.{bit, flag, total}
+use Rattle.group_stage.specs.Kept.{Fits, IsSpent, IsWhole, Kept}
+use Rattle.group_stage.specs.Places.{drawing_of, history_of, slot_of, word_in, word_of}
+use Rattle.group_stage.specs.Schedules.{standing_at}
+use Rattle.group_stage.specs.Views.{blank, drawn, holding}
 use Rattle.group_stage.specs.declared.view.Plan.{Plan}
 use Rattle.group_stage.specs.declared.view.View.{View}
-use Rattle.group_stage.proofs.Sums.{at_within, bit-more, bit-no, each-append, flag-none, only_one, term_le, terms_le, times-append, total-append, total-set, total_le}
-use Rattle.group_stage.proofs.Moves.{Homes, St, next_in, stage}
-use Rattle.group_stage.proofs.Taking.{Goes}
+use Rattle.group_stage.proofs.Sums.{bit-no, flag-none, only_one}
+use Rattle.group_stage.proofs.Moves.{St, next_in}
 
 abbrev pub zeros_of : ℕ → List ℕ
 zeros_of n = replicate n 0

@@ -1,5 +1,5 @@
 -- Sums over the views of all seats, of which one changes.
-use Rattle.std.proofs.Common.{◌≡◌, ℕ, zero, suc, ◌+◌, ◌*◌, ◌<◌, ◌≤◌, ◌≢◌, List, [], ◌∷◌, ◌++◌, map, length, set, sym, refl, ap, ◌∙◌, ◌⊎◌, ⊎_elim, arith, subst, nat_lt, eqb, lt-ltb, le-ltb, eq-eqb, ne_eqb, Bool, true, false, cond}
+use Rattle.std.proofs.Common.{◌≡◌, ℕ, zero, suc, ◌+◌, ◌*◌, ◌<◌, ◌≤◌, ◌≢◌, List, [], ◌∷◌, ◌++◌, map, length, set, sym, refl, ap, ◌∙◌, ⊎_elim, arith, nat_lt, eqb, lt-ltb, le-ltb, eq-eqb, ne_eqb, Bool, true, false, cond}
 use Rattle.std.proofs.lemmas.Bool.{cases_eq, cases_lt}
 use mathlib.Core.Option.{some, some-injective, some-ne-none}
 use lib.ListN.{get_elem?}

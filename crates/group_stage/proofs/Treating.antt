@@ -1,9 +1,8 @@
 -- A call of one process: the node in hand treats it as the machine does, and so the call is the event.
-use Rattle.std.proofs.Common.{ℕ, zero, suc, ◌≡◌, ◌≢◌, ◌<◌, ◌≤◌, ◌+◌, Bool, cond, eqb, List, [], ◌∷◌, ◌++◌, length, map, refl, sym, ap, subst, ◌∙◌, arith}
-use Rattle.std.specs.Prelude.{All, Option, Some, None, false}
+use Rattle.std.proofs.Common.{ℕ, ◌≡◌, ◌<◌, ◌≤◌, List, [], ◌∷◌, ◌++◌, length, map, refl, sym, ap, subst, ◌∙◌, arith}
+use Rattle.std.specs.Prelude.{All, Option, None, false}
 use Rattle.std.proofs.lemmas.List.Elements.{All-weaker}
-use Rattle.atomic_table.specs.Table.{rest}
-use Rattle.group_types.specs.Dimensions.{Dimensions, callers, processes_of}
+use Rattle.group_types.specs.Dimensions.{Dimensions, callers}
 use Rattle.group_types.specs.Lists.{at, put}
 use Rattle.group_types.specs.Names.{IsProcess, index_of, process_at}
 use Rattle.group_types.specs.declared.process.ProcessId.{ProcessId}
@@ -15,7 +14,7 @@ use Rattle.memc_table.specs.Asked.{Asked}
 use Rattle.group_calls.specs.declared.event.Answer.{Answer}
 use Rattle.group_calls.specs.declared.event.Event.{Event}
 use Rattle.group_calls.specs.declared.event.Event.TheVariants.{Ask, Collect, Flush, Trace}
-use Rattle.group_run.specs.Headline.{IsRun, MayCome}
+use Rattle.group_run.specs.Headline.{MayCome}
 use Rattle.group_run.specs.Locality.{times}
 use Rattle.group_run.specs.Meaning.{Lives}
 use Rattle.group_run.specs.Process.{Node}
@@ -26,11 +25,10 @@ use Rattle.group_run.specs.World.{GroupStep, NodeStep, World, after, ask_node, c
 use Rattle.group_node.specs.Standing.{Standing}
 use Rattle.group_node.specs.Steps.{made}
 use Rattle.group_node.specs.declared.node.NodeOut.{NodeOut}
-use Rattle.group_stage.specs.Conditions.{CanCommit, CanFinish, InHand, IsReady}
-use Rattle.group_stage.specs.Counts.{Each}
-use Rattle.group_stage.specs.Ended.{Ended, HasReturned, IsMade}
+use Rattle.group_stage.specs.Conditions.{CanFinish, InHand, IsReady}
+use Rattle.group_stage.specs.Ended.{Ended}
 use Rattle.group_stage.specs.Places.{slot_of}
-use Rattle.group_stage.specs.Schedules.{StartsWith, answer_at, ask_by, asked_at, node_at, standing_at}
+use Rattle.group_stage.specs.Schedules.{answer_at, ask_by, asked_at, node_at, standing_at}
 use Rattle.group_stage.specs.Steps.{Knows, Sat}
 use Rattle.group_stage.specs.Views.{asks_by, begun, committed, released, with_held}
 use Rattle.group_stage.specs.declared.answer.StageAnswer.TheVariants.{Made}

@@ -2,7 +2,7 @@
 use Rattle.std.specs.Prelude.{◌≡◌, ℕ, ◌<◌, List, [], length, Option, Some}
 use mathlib.Core.Option as maybe
 use lib.ListN.{get_elem?}
-use Rattle.group_types.specs.Dimensions.{Dimensions, processes_of}
+use Rattle.group_types.specs.Dimensions.{Dimensions}
 use Rattle.group_node.specs.Standing.{Standing}
 use Rattle.group_stage.specs.Places.{slot_of}
 use Rattle.group_stage.specs.Schedules.{standing_at}

@@ -1,12 +1,9 @@
 -- What each step of a stage tells its seat.
-use Rattle.std.specs.Prelude.{◌≡◌, ℕ, zero, suc, ◌<◌, ◌^◌, List, ◌∷◌, length, Option, Some}
+use Rattle.std.specs.Prelude.{◌≡◌, ℕ, zero, suc, ◌<◌, List, ◌∷◌, length, Option, Some}
 use Rattle.atomic_table.specs.Table.{Me, Step, rest}
-use Rattle.group_types.specs.Dimensions.{Dimensions}
 use Rattle.group_calls.specs.declared.event.Event.{Event}
-use Rattle.group_run.specs.Headline.{IsRun, MayCome}
+use Rattle.group_run.specs.Headline.{IsRun}
 use Rattle.group_run.specs.Locality.{times}
-use Rattle.group_run.specs.World.{World}
-use Rattle.group_types.specs.Lists.{at}
 use Rattle.group_node.specs.Standing.{Standing}
 use Rattle.group_stage.specs.Counts.{Each}
 use Rattle.group_stage.specs.Kept.{IsAnswered}

@@ -1,5 +1,5 @@
 -- What a seat knows, as it changes with the seat's steps.
-use Rattle.std.specs.Prelude.{◌≡◌, ℕ, suc, ◌+◌, ◌-◌, ◌==◌, List, [], ◌∷◌, ◌++◌, length, map, if◌then◌else◌}
+use Rattle.std.specs.Prelude.{ℕ, ◌+◌, ◌-◌, ◌==◌, List, [], ◌∷◌, ◌++◌, length, map, if◌then◌else◌}
 use Rattle.group_types.specs.Dimensions.{Dimensions}
 use Rattle.group_types.specs.declared.process.ProcessId.TheVariants.{DataNode}
 use Rattle.group_calls.specs.declared.event.Event.{Event}

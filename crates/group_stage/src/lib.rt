@@ -1,4 +1,7 @@
-//! A group whose nodes are shared by threads.
+//! A group whose nodes are shared by threads, each call one event of the group's machine. The contract of a call says
+//! what it ended in: its event stands in one schedule, with the machine's answer there, or the word of a process that
+//! it names was held by another seat; and `close` gives the nodes after exactly the schedule of the seats. No call
+//! waits or tries again, which is left to the callers.
 #![tactic(auto)]
 
 mod all_nodes;
@@ -10,7 +13,6 @@ mod delivering;
 mod failing;
 mod finishing;
 mod flushing;
-
 mod opening;
 mod places;
 mod plays;

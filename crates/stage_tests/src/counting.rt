@@ -1,9 +1,9 @@
 // Two threads ask, and count what they are answered.
-ghost use Rattle.std.specs.Prelude.{◌≡◌};
+ghost use Rattle.std.specs.Prelude.{◌≡◌, ◌<◌, length};
 ghost use Rattle.group_types.specs.Names.{IsProcess};
-ghost use Rattle.group_stage.specs.Seated.{IsOf, shape_of};
+ghost use Rattle.group_stage.specs.Seated.{AreOf, IsOf, callers_of, shape_of};
 
-use group_stage::{Seat, Stage, StageAnswer};
+use group_stage::{Seat, Seats, Stage, StageAnswer};
 use group_types::{Key, Payload, ProcessId, Shape};
 use memc_table::{Act, Op};
 use std::alloc::Global;
@@ -69,11 +69,11 @@ fn ask_in_two<R: Threads + Sync>(
         rt,
         move || -> Counted
             requires { IsOf stage.now one × IsProcess (shape_of stage.now) at }
-            ensures { IsOf stage.now result.seat }
+            ensures { IsOf stage.entry.now result.seat }
         { ask_often(stage, one, first, at) },
         move || -> Counted
             requires { IsOf stage.now two × IsProcess (shape_of stage.now) at }
-            ensures { IsOf stage.now result.seat }
+            ensures { IsOf stage.entry.now result.seat }
         { ask_often(stage, two, second, at) },
     )
 }
@@ -86,26 +86,50 @@ fn two_threads_count_as_their_seats_do(rt: HostRuntime) -> Result<(), Fail> {
 
 // Whether each seat has asked as often as its thread counted, and the stage can be closed.
 fn counts_agree<R: Threads + Sync>(rt: &R, alloc: Global) -> Result<bool, Fail> {
-    let (stage, mut seats) = Stage::new(alloc, Shape::new(1, 0, 4, 16)?, 2)?;
-    let set = Op::new(0, set(alloc)?);
-    let get = Op::new(0, get(alloc)?);
+    let shape = Shape::new(1, 0, 4, 16)?;
+    let (set, get) = two_calls(alloc)?;
+    Ok(made_and_asked(rt, alloc, shape, (&set, &get)))
+}
+
+fn made_and_asked<R: Threads + Sync>(rt: &R, alloc: Global, shape: Shape, ops: (&Op, &Op)) -> bool
+    requires { 0 < shape.k }
+{
+    match Stage::new(alloc, shape, 2) {
+        Ok((stage, seats)) => asked_by_two(rt, stage, seats, ops),
+        Err(_) => false,
+    }
+}
+
+fn asked_by_two<R: Threads + Sync>(rt: &R, stage: Stage, all: Seats, ops: (&Op, &Op)) -> bool
+    requires seats { AreOf stage all.seats }
+    requires many { length all.seats ≡ callers_of stage }
+    requires made { length all.seats ≡ all.made }
+    requires process { 0 < (shape_of stage).k }
+{
+    let mut seats = all;
     let Some(one) = seats.take() else {
-        return Ok(false);
+        return false;
     };
     let Some(two) = seats.take() else {
-        return Ok(false);
+        return false;
     };
-    let (first, second) = ask_in_two(rt, &stage, (two, one), (&set, &get), FIRST);
+    let (first, second) = ask_in_two(rt, &stage, (two, one), ops, FIRST);
     let agree = is_counted(&first) && is_counted(&second);
     seats.put(first.seat);
     seats.put(second.seat);
-    Ok(agree && stage.close(seats).is_ok())
+    agree && stage.close(seats).is_ok()
 }
 
 fn is_counted(counted: &Counted) -> bool {
     counted.seat.asks() == counted.made
         && counted.made.wrapping_add(counted.busy) == u64::from(CALLS)
         && counted.other == 0
+}
+
+fn two_calls(alloc: Global) -> Result<(Op, Op), Fail> {
+    let set = set(alloc)?;
+    let get = get(alloc)?;
+    Ok((Op::new(0, set), Op::new(0, get)))
 }
 
 fn set(alloc: Global) -> Result<Act, Fail> {

@@ -1,8 +1,7 @@
-use Rattle.std.proofs.Common.{◌≡◌, ◌+◌, ◌*◌, ◌<◌, ℕ, List, [], ◌∷◌, ◌++◌, length, Bool, false, set, sym, ap, subst, ◌∙◌, arith, length-append, length-set}
-use Rattle.std.specs.Prelude.{Some, slice_get, Option}
+use Rattle.std.proofs.Common.{◌≡◌, ◌+◌, ◌<◌, ℕ, List, [], ◌∷◌, length, Bool, false, set, sym, ap, subst, ◌∙◌, arith, length-append, length-set}
+use Rattle.std.specs.Prelude.{slice_get, Option}
 use Rattle.group_node.specs.Standing.{Standing}
-use Rattle.std.specs.Slots.{slots_filled, slots_items, slots_len}
-use mathlib.Core.Option as maybe
+use Rattle.std.specs.Slots.{slots_filled, slots_items}
 use lib.ListN.{get_elem?}
 use Rattle.group_types.specs.Dimensions.{processes_of}
 use Rattle.group_core.specs.NodeList.{NodeList}

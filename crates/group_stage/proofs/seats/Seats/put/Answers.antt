@@ -1,4 +1,4 @@
-use Rattle.std.proofs.Common.{◌≡◌, [], ◌∷◌, ◌++◌, ap, ◌∙◌}
+use Rattle.std.proofs.Common.{[], ◌∷◌, ◌++◌, ap, ◌∙◌}
 use Rattle.group_stage.specs.SeatList.{SeatList}
 use Rattle.group_stage.proofs.Gathering.{of-stage-more}
 use Rattle.group_stage.proofs.seats.Seats.put.Goals as goal

@@ -1,4 +1,4 @@
-use Rattle.std.proofs.Common.{◌≡◌, sym, ap, ◌∙◌}
+use Rattle.std.proofs.Common.{sym, ap, ◌∙◌}
 use Rattle.group_stage.specs.SeatList.{SeatList}
 use Rattle.group_stage.proofs.Gathering.{of-stage-fewer}
 use Rattle.group_stage.proofs.seats.Seats.take.Goals as goal

@@ -1,4 +1,4 @@
-use Rattle.std.proofs.Common.{◌≡◌, ◌*◌, ◌+◌, ◌<◌, sym, ap, subst, ◌∙◌, arith}
+use Rattle.std.proofs.Common.{sym, ap, subst, ◌∙◌, arith}
 use Rattle.group_stage.specs.Conditions.{CanCommit}
 use Rattle.group_stage.specs.Places.{word_of}
 use Rattle.group_stage.specs.declared.view.Plan.{Plan}

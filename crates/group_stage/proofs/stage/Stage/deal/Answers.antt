@@ -1,9 +1,7 @@
-use Rattle.std.proofs.Common.{◌≡◌, ◌*◌, ◌+◌, ◌-◌, ◌<◌, ◌≤◌, ℕ, List, [], ◌∷◌, ◌++◌, length, sym, ap, subst, ◌∙◌, arith, length-append}
-use Rattle.group_types.specs.Dimensions.{Dimensions}
-use Rattle.group_stage.specs.Dealt.{AreNew, IsNew}
+use Rattle.std.proofs.Common.{◌≡◌, ◌+◌, ◌-◌, ℕ, [], ◌∷◌, length, sym, ap, subst, ◌∙◌, arith, length-append}
+use Rattle.group_stage.specs.Dealt.{AreNew}
 use Rattle.group_stage.specs.Steps.{Sat}
 use Rattle.group_stage.specs.Views.{blank}
-use Rattle.group_stage.specs.declared.seat.Seat.{Seat}
 use Rattle.group_stage.proofs.Dealing.{dealt, new-of-stage}
 use Rattle.group_stage.proofs.stage.Stage.deal.Goals as goal
 

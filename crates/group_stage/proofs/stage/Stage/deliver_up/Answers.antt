@@ -1,10 +1,9 @@
-use Rattle.std.proofs.Common.{◌≡◌, ◌≢◌, ◌<◌, ◌≤◌, ℕ, List, sym, ap, subst, ◌∙◌, refl, arith}
+use Rattle.std.proofs.Common.{◌≡◌, ℕ, List, sym, ap, subst, ◌∙◌, arith}
 use Rattle.group_types.specs.Dimensions.{Dimensions}
 use Rattle.group_types.specs.Names.{IsProcess, index_of}
 use Rattle.group_types.proofs.Names.{index-below, index-one}
 use Rattle.group_calls.specs.declared.event.Event.{Event}
 use Rattle.group_calls.specs.declared.event.Event.TheVariants.{Deliver}
-use Rattle.group_node.specs.Standing.{Standing}
 use Rattle.group_stage.specs.Conditions.{InHand}
 use Rattle.group_stage.specs.Schedules.{standing_at}
 use Rattle.group_stage.specs.Steps.{Sat}

@@ -1,4 +1,4 @@
-use Rattle.std.proofs.Common.{◌≡◌, ◌*◌, ◌+◌, ◌<◌, ℕ, sym, ap, subst, ◌∙◌, arith}
+use Rattle.std.proofs.Common.{◌+◌, ℕ, sym, ap, ◌∙◌, arith}
 use Rattle.group_types.specs.Dimensions.{processes_of}
 use Rattle.group_stage.specs.Places.{word_of}
 use Rattle.group_stage.specs.declared.view.Plan.{Plan}

@@ -1,9 +1,7 @@
-use Rattle.std.proofs.Common.{◌≡◌, ◌++◌, ℕ, List, [], ◌∷◌, length, sym, ap, subst, ◌∙◌}
+use Rattle.std.proofs.Common.{length, sym, ap, subst}
 use Rattle.group_types.specs.Dimensions.{Dimensions}
-use Rattle.group_calls.specs.declared.event.Event.{Event}
 use Rattle.group_run.specs.Headline.{IsRun}
 use Rattle.group_stage.specs.Conditions.{CanCommit}
-use Rattle.group_stage.specs.Gathered.{holding_all}
 use Rattle.group_stage.specs.Steps.{Sat}
 use Rattle.group_stage.proofs.Deaths.{after-commit, all-failed, can-commit, hand-run, named, one-met, seated}
 use Rattle.group_stage.proofs.Stacks.{AreRun}

@@ -1,8 +1,7 @@
-use Rattle.std.proofs.Common.{◌≡◌, List, sym, subst}
+use Rattle.std.proofs.Common.{List, sym, subst}
 use Rattle.group_types.specs.Dimensions.{Dimensions}
 use Rattle.group_types.specs.Names.{IsProcess}
 use Rattle.group_calls.specs.declared.event.Event.{Event}
-use Rattle.group_calls.specs.declared.event.Event.TheVariants.{Fail}
 use Rattle.group_stage.specs.Conditions.{InHand}
 use Rattle.group_stage.specs.Views.{begun}
 use Rattle.group_stage.proofs.Deaths.{can-fail, failed-ended}

@@ -1,9 +1,7 @@
-use Rattle.std.proofs.Common.{◌≡◌, ◌+◌, ◌<◌, ℕ, List, [], ◌∷◌, ◌++◌, length, map, sym, ap, subst, ◌∙◌, arith, length-append}
-use Rattle.group_calls.specs.declared.event.Event.{Event}
+use Rattle.std.proofs.Common.{◌≡◌, ℕ, List, [], ◌∷◌, ◌++◌, length, map, ap, subst, ◌∙◌, arith, length-append}
 use Rattle.group_node.specs.Standing.{Standing}
-use Rattle.group_stage.specs.Conditions.{CanJoin}
 use Rattle.group_stage.specs.Kept.{IsWhole}
-use Rattle.group_stage.specs.Seated.{AreOf, view_of}
+use Rattle.group_stage.specs.Seated.{view_of}
 use Rattle.group_stage.specs.Steps.{Sat}
 use Rattle.group_stage.specs.Views.{joined}
 use Rattle.group_stage.specs.declared.seat.Seat.{Seat}

@@ -1,4 +1,4 @@
-use Rattle.std.proofs.Common.{◌≡◌, ◌+◌, ◌<◌, ℕ, List, [], ◌∷◌, length, map}
+use Rattle.std.proofs.Common.{◌≡◌, ◌+◌, ◌<◌, List, [], ◌∷◌, length, map}
 use Rattle.group_calls.specs.declared.event.Event.{Event}
 use Rattle.group_stage.specs.Kept.{IsWhole}
 use Rattle.group_stage.specs.Seated.{AreOf, view_of}

@@ -1,6 +1,4 @@
-use Rattle.std.proofs.Common.{◌≡◌, ◌*◌, ◌+◌, ◌<◌, ◌≤◌, ℕ, List, [], sym, ap, subst, ◌∙◌, refl, arith, rules}
-use Rattle.group_types.specs.Shape.{IsShape}
-use Rattle.group_stage.specs.Conditions.{IsAtStart}
+use Rattle.std.proofs.Common.{◌*◌, ◌+◌, ℕ, ap, ◌∙◌, rules}
 use Rattle.group_stage.proofs.Starting.{opens, zeros_of}
 use Rattle.group_stage.proofs.stage.Stage.laid.Goals as goal
 

@@ -1,7 +1,6 @@
-use Rattle.std.proofs.Common.{◌≡◌, ◌*◌, ◌+◌, ◌<◌, ◌≤◌, ℕ, List, [], ◌∷◌, length, sym, ap, subst, ◌∙◌, arith}
-use Rattle.group_stage.specs.Conditions.{CanPart}
+use Rattle.std.proofs.Common.{length, ap, ◌∙◌, arith}
 use Rattle.group_stage.specs.Steps.{Sat}
-use Rattle.group_stage.specs.Views.{blank, numbered}
+use Rattle.group_stage.specs.Views.{numbered}
 use Rattle.group_stage.proofs.Parting.{parts}
 use Rattle.group_stage.proofs.stage.Stage.part.Goals as goal
 

@@ -1,9 +1,8 @@
-use Rattle.std.proofs.Common.{◌≡◌, ◌*◌, ◌+◌, ◌<◌, sym, ap, subst, ◌∙◌, arith, Some, None}
-use Rattle.group_types.specs.Dimensions.{processes_of}
+use Rattle.std.proofs.Common.{sym, subst, ◌∙◌, arith, Some, None}
 use Rattle.group_stage.specs.Conditions.{HasLast}
 use Rattle.group_stage.specs.declared.view.Plan.{Plan}
 use Rattle.group_stage.proofs.Releasing.{releases}
-use Rattle.group_stage.proofs.Hands.{given, given-back}
+use Rattle.group_stage.proofs.Hands.{given-back}
 use Rattle.group_stage.proofs.stage.Stage.put_back.Goals as goal
 
 pub swap-found-requires : goal.swap-found-requires

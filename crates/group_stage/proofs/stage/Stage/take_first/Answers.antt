@@ -1,10 +1,9 @@
-use Rattle.std.proofs.Common.{◌≡◌, ◌∙◌, ◌*◌, ◌+◌, ◌<◌, sym, subst, arith}
-use Rattle.group_types.specs.Dimensions.{processes_of}
+use Rattle.std.proofs.Common.{◌∙◌, sym, subst, arith}
 use Rattle.group_stage.specs.Conditions.{CanBegin}
 use Rattle.group_stage.specs.declared.view.Plan.{Plan}
 use Rattle.group_stage.specs.Views.{begun}
 use Rattle.group_stage.proofs.Taking.{begins}
-use Rattle.group_stage.proofs.Hands.{at-place, free-taken, in-hand, met-taken, slot-there}
+use Rattle.group_stage.proofs.Hands.{at-place, free-taken, slot-there}
 use Rattle.group_stage.proofs.stage.Stage.take_first.Goals as goal
 
 pub fetch_add-requires : goal.fetch_add-requires

@@ -1,6 +1,5 @@
-use Rattle.std.proofs.Common.{◌≡◌, ◌<◌, ◌≤◌, ◌+◌, ◌++◌, ℕ, List, [], ◌∷◌, length, refl, sym, ap, subst, ◌∙◌, arith}
+use Rattle.std.proofs.Common.{◌≡◌, ◌<◌, ◌++◌, List, [], ◌∷◌, length, refl, sym, ap, subst, ◌∙◌, arith}
 use Rattle.std.proofs.lemmas.List.{length-append}
-use Rattle.group_calls.specs.declared.event.Event.{Event}
 use Rattle.group_types.specs.Dimensions.{processes_of}
 use Rattle.group_stage.specs.Conditions.{CanTake}
 use Rattle.group_stage.specs.Gathered.{hand_of, holding_all, slots_left}

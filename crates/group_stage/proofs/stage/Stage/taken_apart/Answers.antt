@@ -1,17 +1,10 @@
-use Rattle.std.proofs.Common.{◌≡◌, ◌<◌, ℕ, List, [], ◌∷◌, length, map, sym, ap, subst, ◌∙◌, arith}
-use Rattle.std.specs.Prelude.{Some, slice_get}
+use Rattle.std.proofs.Common.{◌<◌, List, [], ◌∷◌, map, sym, ap, subst, ◌∙◌}
 use Rattle.std.specs.Slots.{slots_items}
-use mathlib.Core.Option as maybe
-use lib.ListN.{get_elem?}
 use Rattle.group_types.specs.Dimensions.{processes_of}
 use Rattle.group_calls.specs.declared.event.Event.{Event}
-use Rattle.group_node.specs.Standing.{Standing}
 use Rattle.group_stage.specs.Closed.{HasClosed}
-use Rattle.group_stage.specs.Emptied.{HaveNodes}
 use Rattle.group_stage.specs.Kept.{IsWhole}
-use Rattle.group_stage.specs.Places.{slot_of}
 use Rattle.group_stage.specs.Seated.{view_of}
-use Rattle.group_stage.specs.declared.seat.Seat.{Seat}
 use Rattle.group_stage.specs.declared.view.Plan.{Plan}
 use Rattle.group_stage.proofs.Gathering.{has-closed, there}
 use Rattle.group_stage.proofs.stage.Stage.taken_apart.Goals as goal

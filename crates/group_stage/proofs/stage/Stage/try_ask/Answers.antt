@@ -1,5 +1,4 @@
-use Rattle.std.proofs.Common.{◌≡◌, ◌+◌, ℕ, sym, ap, subst, ◌∙◌, refl}
-use Rattle.std.specs.Prelude.{Ok}
+use Rattle.std.proofs.Common.{◌+◌, ℕ, sym, subst, ◌∙◌}
 use Rattle.group_calls.specs.declared.event.Event.TheVariants.{Ask}
 use Rattle.group_stage.specs.Ended.{IsSeat}
 use Rattle.group_stage.proofs.Called.{asked-once, not-worn, ready, own-ask}

@@ -1,7 +1,6 @@
-use Rattle.std.proofs.Common.{◌≡◌, ◌+◌, ℕ, sym, ap, subst, ◌∙◌, refl}
+use Rattle.std.proofs.Common.{sym, ◌∙◌, refl}
 use Rattle.std.specs.Prelude.{Ok}
 use Rattle.group_calls.specs.declared.event.Event.TheVariants.{Collect}
-use Rattle.group_stage.specs.Ended.{IsSeat}
 use Rattle.group_stage.proofs.Called.{called, not-worn, ready}
 use Rattle.group_stage.proofs.stage.Stage.try_collect.Goals as goal
 
