@@ -4,3 +4,5 @@
 
 #[cfg(test)]
 mod counting;
+#[cfg(test)]
+mod row;
