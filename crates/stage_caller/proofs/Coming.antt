@@ -14,9 +14,8 @@ use Rattle.group_stage.specs.Seated.{view_of}
 use Rattle.group_stage.specs.Views.{asks_by}
 use Rattle.group_stage.specs.declared.seat.Seat.{Seat}
 use Rattle.group_stage.specs.declared.view.Numbered.{Numbered}
-use Rattle.stage_caller.specs.Calling.{Brings, HasCome, IsCalled, IsOver, IsOwn, IsSame, Wish, asked_to, collected_to, traced_to, wish_of}
-use Rattle.stage_caller.specs.Moving.{HasPaused, HasStepped, IsAsked, Leads}
-use Rattle.stage_caller.specs.Ordering.{HasStopped}
+use Rattle.stage_caller.specs.Calling.{Brings, HasCome, HasStopped, IsCalled, IsIdle, IsOver, IsOwn, IsSame, Wish, asked_to, collected_to, traced_to, wish_of}
+use Rattle.stage_caller.specs.Moving.{HasStepped, IsAsked, Leads}
 use Rattle.stage_caller.specs.declared.phase.Next.{Next}
 use Rattle.stage_caller.specs.declared.phase.Next.TheVariants.{Ends, Goes}
 use Rattle.stage_caller.specs.declared.phase.Phase.{Phase}
@@ -104,12 +103,12 @@ own-in wish n phase (Ask caller op p) a next own time =
     (subst (λ (k : ℕ). InTime (n + k) (asked_to n a)) (sym (ap (λ (c : ℕ). ask_by wish.caller (Ask c op p)) own.1 ∙ own-ask wish.caller op p)) (asked-in n a))
 own-in wish n phase (Collect caller call p) a next own time =
     subst (InTime (n + 0)) (sym own.2) (collected-in (n + 0) call a (low (subst (IsAsked n) own.0 time))) where
-  low : call < n → call < n + 0
-  low is = omega (arith, is)
+      low : call < n → call < n + 0
+      low is = omega (arith, is)
 own-in wish n phase (Trace caller call d p) a next own time =
     subst (InTime (n + 0)) (sym own.3) (traced-in (n + 0) call a (low (subst (IsAsked n) own.0 time))) where
-  low : call < n → call < n + 0
-  low is = omega (arith, is)
+      low : call < n → call < n + 0
+      low is = omega (arith, is)
 own-in wish n phase (Deliver from to) a next own time = subst (InTime (n + 0)) (sym own) (subst (λ (k : ℕ). IsAsked k phase) (omega arith) time)
 own-in wish n phase (Fail p keep) a next own time = absurd own
 own-in wish n phase (Flush p) a next own time = absurd own
@@ -151,7 +150,7 @@ come-more before middle after op phase step come s = record {
       (subst (λ (n : ℕ). Brings (wish_of middle op) n (Goes phase) s.events s.last) (asks-more before middle come.events come.same come.made) s.brings));
 }
 
-pub come-paused : (before middle after : Seat) (op : Asked) (last : Next) → HasCome before op middle last → HasPaused middle after → HasCome before op after last
+pub come-paused : (before middle after : Seat) (op : Asked) (last : Next) → HasCome before op middle last → IsIdle middle after → HasCome before op after last
 come-paused before middle after op last come paused = record {
   same = record { table = paused.same.table ∙ come.same.table; shape = paused.same.shape ∙ come.same.shape; caller = paused.same.caller ∙ come.same.caller };
   events = come.events;

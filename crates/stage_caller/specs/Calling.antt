@@ -76,6 +76,11 @@ pub record IsSame (before after : Seat) : Type 0 where
   pub shape : (view_of after).shape ≡ (view_of before).shape
   pub caller : after.caller ≡ before.caller
 
+-- the seat made no event
+pub record IsIdle (before after : Seat) : Type 0 where
+  pub same : IsSame before after
+  pub made : (view_of after).made ≡ (view_of before).made
+
 -- what a call for an op made of its seat so far
 pub record HasCome (before : Seat) (op : Asked) (after : Seat) (last : Next) : Type 0 where
   pub same : IsSame before after
@@ -88,3 +93,9 @@ pub record IsCalled (before : Seat) (op : Asked) (end : CallEnd) (after : Seat) 
   pub last : Next
   pub come : HasCome before op after last
   pub over : IsOver after last end
+
+-- what stands after want of memory: the events of a call that was cut short
+pub record HasStopped (before after : Seat) : Type 0 where
+  pub op : Asked
+  pub last : Next
+  pub come : HasCome before op after last

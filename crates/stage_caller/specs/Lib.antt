@@ -1,3 +1,4 @@
 pub mod Calling
-pub mod Ordering
+pub mod Failing
 pub mod Moving
+pub mod Ordering

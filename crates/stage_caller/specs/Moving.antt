@@ -62,8 +62,3 @@ pub record HasStepped (wish : Wish) (phase : Phase) (before : Seat) (step : Step
   pub made : (view_of after).made ≡ (view_of before).made ++ events
   pub brings : Brings wish before.asks (Goes phase) events last
   pub leads : Leads before after last step
-
--- one call of the seat, for which there was no memory
-pub record HasPaused (before after : Seat) : Type 0 where
-  pub same : IsSame before after
-  pub made : (view_of after).made ≡ (view_of before).made

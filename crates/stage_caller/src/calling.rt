@@ -1,13 +1,13 @@
 ghost use Rattle.std.specs.Prelude.{◌≡◌, ◌<◌, IfOk, OnErr};
 ghost use Rattle.memc_table.specs.Asked.{Asked};
 ghost use Rattle.group_stage.specs.Seated.{IsOf, shape_of};
-ghost use Rattle.stage_caller.specs.Calling.{IsCalled, wish_of};
-ghost use Rattle.stage_caller.specs.Moving.{CanMake, HasPaused, HasStepped, IsAsked};
-ghost use Rattle.stage_caller.specs.Ordering.{HasStopped};
+ghost use Rattle.stage_caller.specs.Calling.{HasStopped, IsCalled, IsIdle, wish_of};
+ghost use Rattle.stage_caller.specs.Moving.{CanMake, HasStepped, IsAsked};
 
 use crate::asking::ask;
 use crate::collecting::collect;
 use crate::helping::help;
+use crate::pausing::pause;
 use crate::phase::Phase;
 use crate::progress::Progress;
 use crate::route::Route;
@@ -37,6 +37,7 @@ pub(crate) fn make_call(stage: &Stage, seat: &mut Seat, op: &Op) -> Result<CallE
             Step::Goes(to, heard) => {
                 progress = progress.after(next, to, heard);
                 phase = to;
+                pause(progress.rests());
             }
         }
     }
@@ -58,7 +59,7 @@ fn make(
     requires home { partition.0 ≡ (wish_of seat.old op.now).home }
     ensures seat { IsOf stage.now seat.new }
     ensures stepped { IfOk result (λ step. HasStepped (wish_of seat.old op.now) phase seat.old step seat.new) }
-    ensures paused { OnErr result (HasPaused seat.old seat.new) }
+    ensures paused { OnErr result (IsIdle seat.old seat.new) }
 {
     match next {
         Move::Ask(at) => ask(stage, seat, op, at),

@@ -3,8 +3,8 @@ ghost use Rattle.memc_table.specs.Asked.{Asked};
 ghost use Rattle.group_types.specs.Names.{IsProcess};
 ghost use Rattle.group_calls.specs.declared.event.Answer.{Answer};
 ghost use Rattle.group_stage.specs.Seated.{IsOf, shape_of};
-ghost use Rattle.stage_caller.specs.Calling.{wish_of};
-ghost use Rattle.stage_caller.specs.Moving.{Gives, HasPaused, HasStepped};
+ghost use Rattle.stage_caller.specs.Calling.{IsIdle, wish_of};
+ghost use Rattle.stage_caller.specs.Moving.{Gives, HasStepped};
 
 use crate::phase::{Next, Phase};
 use crate::step::{Step, heard_of};
@@ -27,7 +27,7 @@ pub(crate) fn help(
     requires apart { from ≢ to }
     ensures seat { IsOf stage.now seat.new }
     ensures stepped { IfOk result (λ step. (op : Asked) → HasStepped (wish_of seat.old op) phase seat.old step seat.new) }
-    ensures paused { OnErr result (HasPaused seat.old seat.new) }
+    ensures paused { OnErr result (IsIdle seat.old seat.new) }
 {
     let ended = stage.try_deliver(seat, from, to)?;
     Ok(help_step(phase, ended))

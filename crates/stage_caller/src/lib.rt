@@ -4,14 +4,18 @@
 #![tactic(auto)]
 
 mod asking;
+mod caller;
 mod calling;
 mod collecting;
+mod failing;
 mod helping;
 mod link;
+mod pausing;
 mod phase;
 mod progress;
 mod route;
 mod step;
 mod tracing;
 
+pub use caller::StageCaller;
 pub use phase::{Next, Phase};

@@ -44,9 +44,12 @@ impl Progress {
         }
     }
 
-    /// How many rounds nothing has moved, once a round is over.
-    pub(crate) fn idle(&self) -> u32 {
-        self.idle
+    /// How many rounds nothing has moved, where a round begins.
+    pub(crate) fn rests(&self) -> u32 {
+        match self.round {
+            Round::Over | Round::Near(0) | Round::All(0) => self.idle,
+            Round::Near(_) | Round::All(_) => 0,
+        }
     }
 
     /// The next move: a link of the round, or else the call's own.

@@ -2,8 +2,8 @@ ghost use Rattle.std.specs.Prelude.{◌≡◌, ◌<◌, IfOk, OnErr};
 ghost use Rattle.memc_table.specs.Asked.{Asked};
 ghost use Rattle.group_types.specs.Names.{IsProcess};
 ghost use Rattle.group_stage.specs.Seated.{IsOf, shape_of};
-ghost use Rattle.stage_caller.specs.Calling.{traced_to, wish_of};
-ghost use Rattle.stage_caller.specs.Moving.{Gives, HasPaused, HasStepped};
+ghost use Rattle.stage_caller.specs.Calling.{IsIdle, traced_to, wish_of};
+ghost use Rattle.stage_caller.specs.Moving.{Gives, HasStepped};
 
 use crate::phase::{Phase, after_trace};
 use crate::step::{Step, heard_of, step_to};
@@ -26,7 +26,7 @@ pub(crate) fn trace(
     requires partition { partition.0 < (shape_of stage.now).k }
     ensures seat { IsOf stage.now seat.new }
     ensures stepped { IfOk result (λ step. (op : Asked) → partition.0 ≡ (wish_of seat.old op).home → HasStepped (wish_of seat.old op) (Phase.Waits call) seat.old step seat.new) }
-    ensures paused { OnErr result (HasPaused seat.old seat.new) }
+    ensures paused { OnErr result (IsIdle seat.old seat.new) }
 {
     let ended = stage.try_trace(seat, call, partition, at)?;
     Ok(trace_step(call, ended))
