@@ -36,7 +36,8 @@ impl<'a> StageCaller<'a> {
 
     /// The seat, as the calls left it.
     pub fn into_seat(self) -> Seat
-        ensures { result ≡ self.entry.seat }
+        ensures seat { result ≡ self.entry.seat }
+        ensures of { IsOf self.entry.stage.now result }
     {
         let StageCaller {
             stage: _,
