@@ -8,11 +8,13 @@ use Rattle.group_calls.specs.declared.event.Answer.{Answer}
 use Rattle.group_stage.specs.Seated.{view_of}
 use Rattle.group_stage.specs.declared.answer.StageAnswer.{StageAnswer}
 use Rattle.group_stage.specs.declared.answer.StageAnswer.TheVariants as did
+use Rattle.group_stage.specs.declared.looking.Looked.{Looked}
+use Rattle.group_stage.specs.declared.looking.Looked.TheVariants as look
 use Rattle.group_stage.specs.declared.seat.Seat.{Seat}
 use Rattle.group_stage.specs.declared.view.Numbered.{Numbered}
 use Rattle.stage_caller.specs.Calling.{Brings, IsOver, IsSame, Wish, wish_of}
 use Rattle.stage_caller.specs.declared.step.Move.{Move}
-use Rattle.stage_caller.specs.declared.step.Move.TheVariants.{Ask, Collect, Deliver, Trace}
+use Rattle.stage_caller.specs.declared.step.Move.TheVariants.{Ask, Collect, Deliver, Look, Trace}
 use Rattle.stage_caller.specs.declared.phase.Next.{Next}
 use Rattle.stage_caller.specs.declared.phase.Next.TheVariants.{Goes, Ends}
 use Rattle.stage_caller.specs.declared.phase.Phase.{Phase}
@@ -31,6 +33,7 @@ abbrev pub CanMake : Dimensions → Phase → Move → Type 0
 CanMake s phase (Ask p) = (phase ≡ Asks) × IsProcess s p
 CanMake s phase (Collect call p) = (phase ≡ Waits call) × IsProcess s p
 CanMake s phase (Trace call p) = (phase ≡ Waits call) × IsProcess s p
+CanMake s phase (Look from to) = IsLink s from to
 CanMake s phase (Deliver from to) = IsLink s from to
 
 -- what is waited for was asked before
@@ -48,6 +51,13 @@ abbrev pub Gives : (Answer → Next) → Phase → StageAnswer → Step → Type
 Gives to phase (did.Made answer) step = Says (to answer) step
 Gives to phase (did.Busy p) step = Says (Goes phase) step
 Gives to phase did.Worn step = step ≡ steps.Ends ends.Worn
+
+-- what a step says by what a look showed
+abbrev pub Shows : Phase → Looked → Step → Type 0
+Shows phase look.Worn step = step ≡ steps.Ends ends.Worn
+Shows phase look.Waits step = Says (Goes phase) step
+Shows phase look.Empty step = Says (Goes phase) step
+Shows phase look.Busy step = Says (Goes phase) step
 
 -- a step that says so led there
 abbrev pub Leads : Seat → Seat → Next → Step → Type 0

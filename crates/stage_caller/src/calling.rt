@@ -7,6 +7,7 @@ ghost use Rattle.stage_caller.specs.Moving.{CanMake, HasStepped, IsAsked};
 use crate::asking::ask;
 use crate::collecting::collect;
 use crate::helping::help;
+use crate::looking::look;
 use crate::pausing::pause;
 use crate::phase::Phase;
 use crate::progress::Progress;
@@ -65,6 +66,7 @@ fn make(
         Move::Ask(at) => ask(stage, seat, op, at),
         Move::Collect(call, at) => collect(stage, seat, call, at),
         Move::Trace(call, at) => trace(stage, seat, call, partition, at),
+        Move::Look(from, to) => Ok(look(stage, seat, phase, from, to)),
         Move::Deliver(from, to) => help(stage, seat, phase, from, to),
     }
 }

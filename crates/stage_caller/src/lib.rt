@@ -10,6 +10,7 @@ mod collecting;
 mod failing;
 mod helping;
 mod link;
+mod looking;
 mod pausing;
 mod phase;
 mod progress;

@@ -25,6 +25,7 @@ pub(crate) struct Progress {
     pub(crate) route: Route,
     caller: u32,
     round: Round,
+    waits: bool,
     moved: bool,
     idle: u32,
     traces: bool,
@@ -38,6 +39,7 @@ impl Progress {
             route,
             caller,
             round: Round::Over,
+            waits: false,
             moved: true,
             idle: 0,
             traces: false,
@@ -52,12 +54,13 @@ impl Progress {
         }
     }
 
-    /// The next move: a link of the round, or else the call's own.
+    /// The next move: a look at a link of the round, a delivery where a message waits there, or else the call's own.
     pub(crate) fn next(&self, phase: Phase) -> Move
         ensures { CanMake self.now.route.shape phase result }
     {
         match self.link() {
-            Some(link) => Move::Deliver(link.from, link.to),
+            Some(link) if self.waits => Move::Deliver(link.from, link.to),
+            Some(link) => Move::Look(link.from, link.to),
             None => self.own(phase, self.route.server()),
         }
     }
@@ -89,7 +92,11 @@ impl Progress {
         ensures partition { result.route.partition ≡ self.now.route.partition }
     {
         match made {
-            Move::Deliver(..) => self.after_link(heard),
+            Move::Look(..) if heard == Heard::Moves => Progress {
+                waits: true,
+                ..*self
+            },
+            Move::Look(..) | Move::Deliver(..) => self.after_link(heard),
             Move::Ask(_) => self.after_ask(phase, heard),
             Move::Collect(..) => self.after_collect(heard),
             Move::Trace(..) => self.after_trace(phase, heard),
@@ -106,6 +113,7 @@ impl Progress {
         };
         Progress {
             round,
+            waits: false,
             moved: self.moved || heard == Heard::Moves,
             ..*self
         }

@@ -13,13 +13,14 @@ pub(crate) enum Move {
     Ask(ProcessId),
     Collect(u64, ProcessId),
     Trace(u64, ProcessId),
+    Look(ProcessId, ProcessId),
     Deliver(ProcessId, ProcessId),
 }
 
 /// What was heard of the group, as far as it says which move is next.
 #[derive(Clone, Copy, Debug, PartialEq, Eq)]
 pub(crate) enum Heard {
-    /// A message was received, or a ticket given.
+    /// A message waits or was received, or a ticket was given.
     Moves,
     /// Nothing moved.
     Nothing,
