@@ -1,35 +1,45 @@
+use front_end::Caller;
 use group_types::{Key, Payload};
 use memc_proto::CallEnd;
 use memc_table::{Act, Op, Reply};
+use stage_caller::StageCaller;
 use std::alloc::Global;
-use std::test::Fail;
 
-/// A set of a value on a key.
-pub(crate) fn set(alloc: Global, key: &[u8], value: &[u8]) -> Result<Op, Fail> {
-    let act = Act::Set {
-        key: Key::read(alloc, key)?,
-        flags: 0,
-        expiry: 0,
-        value: Payload::of(alloc, value)?,
+/// Whether a set of a value on a key is acknowledged.
+pub(crate) fn stores(
+    alloc: Global,
+    caller: &mut StageCaller<'_>,
+    key: &[u8],
+    value: &[u8],
+) -> bool {
+    let Some(op) = set(alloc, key, value) else {
+        return false;
     };
-    Ok(Op::new(0, act))
+    matches!(caller.call(&op), Ok(CallEnd::Reply(Reply::Stored)))
 }
 
-/// A get of a key.
-pub(crate) fn get(alloc: Global, key: &[u8]) -> Result<Op, Fail> {
-    let key = Key::read(alloc, key)?;
-    Ok(Op::new(0, Act::Get { key }))
-}
-
-/// Whether a set was acknowledged.
-pub(crate) fn is_stored(end: &CallEnd) -> bool {
-    matches!(end, CallEnd::Reply(Reply::Stored))
-}
-
-/// Whether a get found this value.
-pub(crate) fn has_value(end: &CallEnd, value: &[u8]) -> bool {
-    match end {
-        CallEnd::Reply(Reply::Value(item)) => item.value.bytes() == value,
+/// Whether a get of a key finds this value.
+pub(crate) fn reads(alloc: Global, caller: &mut StageCaller<'_>, key: &[u8], value: &[u8]) -> bool {
+    let Some(op) = get(alloc, key) else {
+        return false;
+    };
+    match caller.call(&op) {
+        Ok(CallEnd::Reply(Reply::Value(item))) => item.value.bytes() == value,
         _ => false,
     }
+}
+
+fn set(alloc: Global, key: &[u8], value: &[u8]) -> Option<Op> {
+    let act = Act::Set {
+        key: Key::read(alloc, key).ok()?,
+        flags: 0,
+        expiry: 0,
+        value: Payload::of(alloc, value).ok()?,
+    };
+    Some(Op::new(0, act))
+}
+
+fn get(alloc: Global, key: &[u8]) -> Option<Op> {
+    let key = Key::read(alloc, key).ok()?;
+    Some(Op::new(0, Act::Get { key }))
 }

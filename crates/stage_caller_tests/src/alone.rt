@@ -1,5 +1,5 @@
 // One caller, which sets and gets while processes fail.
-use crate::acts::{get, has_value, is_stored, set};
+use crate::acts::{reads, stores};
 use front_end::Caller;
 use group_stage::Stage;
 use group_types::{ProcessId, Shape};
@@ -14,6 +14,12 @@ fn one_caller_reads_what_it_sets(rt: HostRuntime) -> Result<(), Fail> {
     Ok(())
 }
 
+#[test]
+fn orders_are_judged(rt: HostRuntime) -> Result<(), Fail> {
+    assert!(rt; judges(rt.alloc())?);
+    Ok(())
+}
+
 // Whether what was set is read, before two data processes fail and after it.
 fn reads_back(alloc: Global) -> Result<bool, Fail> {
     let (stage, mut seats) = Stage::new(alloc, Shape::new(4, 2, 64, 64)?, 1)?;
@@ -21,33 +27,58 @@ fn reads_back(alloc: Global) -> Result<bool, Fail> {
         return Ok(false);
     };
     let mut caller = StageCaller::new(&stage, seat, true);
-    let good = sets_and_gets(alloc, &mut caller, b"first".as_slice())?
-        && caller.fail(ProcessId::DataNode(0), 0)? == FailEnd::Made
-        && gets(alloc, &mut caller, b"first".as_slice())?
-        && sets_and_gets(alloc, &mut caller, b"second".as_slice())?
-        && caller.fail(ProcessId::DataNode(1), 0)? == FailEnd::Made
-        && gets(alloc, &mut caller, b"second".as_slice())?
-        && sets_and_gets(alloc, &mut caller, b"third".as_slice())?;
-    seats.put(caller.into_seat());
-    Ok(good && stage.close(seats).is_ok())
+    Ok(
+        sets_and_gets(alloc, &mut caller, b"first".as_slice())
+            && ends(&mut caller, ProcessId::DataNode(0), FailEnd::Made)
+            && gets(alloc, &mut caller, b"first".as_slice())
+            && sets_and_gets(alloc, &mut caller, b"second".as_slice())
+            && ends(&mut caller, ProcessId::DataNode(1), FailEnd::Made)
+            && gets(alloc, &mut caller, b"second".as_slice())
+            && sets_and_gets(alloc, &mut caller, b"third".as_slice()),
+    )
+}
+
+// Whether an order ends as it should: where none is taken, of no process, and of a dead one.
+fn judges(alloc: Global) -> Result<bool, Fail> {
+    let (stage, mut seats) = Stage::new(alloc, Shape::new(2, 1, 4, 16)?, 1)?;
+    let Some(seat) = seats.take() else {
+        return Ok(false);
+    };
+    let mut off = StageCaller::new(&stage, seat, false);
+    if !ends(&mut off, ProcessId::DataNode(0), FailEnd::Off) {
+        return Ok(false);
+    }
+    let mut on = StageCaller::new(&stage, off.into_seat(), true);
+    Ok(
+        ends(&mut on, ProcessId::DataNode(2), FailEnd::NoProcess)
+            && ends(&mut on, ProcessId::ParityNode(1), FailEnd::NoProcess)
+            && ends(&mut on, ProcessId::ParityNode(0), FailEnd::Made)
+            && ends(&mut on, ProcessId::ParityNode(0), FailEnd::AlreadyDead),
+    )
+}
+
+// Whether an order that a process fail ends so.
+fn ends(caller: &mut StageCaller<'_>, at: ProcessId, wanted: FailEnd) -> bool {
+    match caller.fail(at, 0) {
+        Ok(end) => end == wanted,
+        Err(_) => false,
+    }
 }
 
 // Whether each key is set to the value, and read.
-fn sets_and_gets(alloc: Global, caller: &mut StageCaller<'_>, value: &[u8]) -> Result<bool, Fail> {
+fn sets_and_gets(alloc: Global, caller: &mut StageCaller<'_>, value: &[u8]) -> bool {
+    let mut good = true;
     for letter in b'a'..b'e' {
-        if !is_stored(&caller.call(&set(alloc, [letter].as_slice(), value)?)?) {
-            return Ok(false);
-        }
+        good &= stores(alloc, caller, [letter].as_slice(), value);
     }
-    gets(alloc, caller, value)
+    good && gets(alloc, caller, value)
 }
 
 // Whether each key has the value.
-fn gets(alloc: Global, caller: &mut StageCaller<'_>, value: &[u8]) -> Result<bool, Fail> {
+fn gets(alloc: Global, caller: &mut StageCaller<'_>, value: &[u8]) -> bool {
+    let mut good = true;
     for letter in b'a'..b'e' {
-        if !has_value(&caller.call(&get(alloc, [letter].as_slice())?)?, value) {
-            return Ok(false);
-        }
+        good &= reads(alloc, caller, [letter].as_slice(), value);
     }
-    Ok(true)
+    good
 }

@@ -6,3 +6,5 @@
 mod acts;
 #[cfg(test)]
 mod alone;
+#[cfg(test)]
+mod losing;
