@@ -40,15 +40,18 @@ fn reads_back(alloc: Global) -> Result<bool, Fail> {
 
 // Whether an order ends as it should: where none is taken, of no process, and of a dead one.
 fn judges(alloc: Global) -> Result<bool, Fail> {
-    let (stage, mut seats) = Stage::new(alloc, Shape::new(2, 1, 4, 16)?, 1)?;
-    let Some(seat) = seats.take() else {
+    let (stage, mut seats) = Stage::new(alloc, Shape::new(2, 1, 4, 16)?, 2)?;
+    let Some(one) = seats.take() else {
         return Ok(false);
     };
-    let mut off = StageCaller::new(&stage, seat, false);
+    let Some(other) = seats.take() else {
+        return Ok(false);
+    };
+    let mut off = StageCaller::new(&stage, one, false);
     if !ends(&mut off, ProcessId::DataNode(0), FailEnd::Off) {
         return Ok(false);
     }
-    let mut on = StageCaller::new(&stage, off.into_seat(), true);
+    let mut on = StageCaller::new(&stage, other, true);
     Ok(
         ends(&mut on, ProcessId::DataNode(2), FailEnd::NoProcess)
             && ends(&mut on, ProcessId::ParityNode(1), FailEnd::NoProcess)

@@ -3,7 +3,7 @@ ghost use Rattle.group_stage.specs.Seated.{IsOf};
 
 use crate::acts::{reads, stores};
 use front_end::Caller;
-use group_stage::{Seat, Seats, Stage};
+use group_stage::{Seat, Stage};
 use group_types::{ProcessId, Shape};
 use memc_proto::FailEnd;
 use stage_caller::StageCaller;
@@ -30,13 +30,19 @@ fn nothing_is_lost<R: Threads + Sync>(rt: &R, alloc: Global) -> Result<bool, Fai
     let Some(reader) = seats.take() else {
         return Ok(false);
     };
-    let Some(left) = two(&mut seats) else {
+    let Some(one) = seats.take() else {
         return Ok(false);
     };
-    let Some(right) = two(&mut seats) else {
+    let Some(two) = seats.take() else {
         return Ok(false);
     };
-    let (first, second) = in_four(rt, alloc, &stage, left, right);
+    let Some(three) = seats.take() else {
+        return Ok(false);
+    };
+    let Some(four) = seats.take() else {
+        return Ok(false);
+    };
+    let (first, second) = in_four(rt, alloc, &stage, (one, two), (three, four));
     let mut reader = StageCaller::new(&stage, reader, false);
     Ok(
         first.0
@@ -48,13 +54,6 @@ fn nothing_is_lost<R: Threads + Sync>(rt: &R, alloc: Global) -> Result<bool, Fai
             && is_kept(alloc, &mut reader, b'c')
             && is_kept(alloc, &mut reader, b'd'),
     )
-}
-
-// Two seats of those that are left.
-fn two(seats: &mut Seats) -> Option<(Seat, Seat)> {
-    let one = seats.take()?;
-    let other = seats.take()?;
-    Some((one, other))
 }
 
 fn in_four<R: Threads + Sync>(
