@@ -1,0 +1,73 @@
+ghost use Rattle.std.specs.Prelude.{◌≡◌};
+ghost use Rattle.group_stage.specs.Seated.{IsOf};
+
+use crate::calling::make_call;
+use crate::failing::{fail_process, has};
+use front_end::Caller;
+use group_stage::{Seat, Stage};
+use group_types::ProcessId;
+use memc_proto::{CallEnd, FailEnd};
+use memc_table::Op;
+use std::alloc::AllocError;
+
+/// Makes the calls of a connection over a group that threads share, from a seat of its own.
+#[derive(Drop)]
+pub struct StageCaller<'a> {
+    stage: &'a Stage,
+    seat: Seat,
+    control: bool,
+    ghost of: { IsOf stage.now seat },
+}
+
+impl<'a> StageCaller<'a> {
+    /// A caller from this seat, which takes orders that a process fail where `control` is on.
+    pub fn new(stage: &'a Stage, seat: Seat, control: bool) -> StageCaller<'a>
+        requires { IsOf stage.now seat }
+        ensures stage { result.stage.now ≡ stage.now }
+        ensures seat { result.seat ≡ seat }
+        ensures control { result.control ≡ control }
+    {
+        StageCaller {
+            stage,
+            seat,
+            control,
+        }
+    }
+
+    /// The seat, as the calls left it.
+    pub fn into_seat(self) -> Seat
+        ensures seat { result ≡ self.entry.seat }
+        ensures of { IsOf self.entry.stage.now result }
+    {
+        let StageCaller {
+            stage: _,
+            seat,
+            control: _,
+        } = self;
+        seat
+    }
+}
+
+impl<'a> Caller for StageCaller<'a> {
+    ghost use Rattle.stage_caller.specs.Ordering.{HasCalled, HasGone, IsOrdered};
+
+    ghost made = { HasCalled };
+
+    ghost failed = { IsOrdered };
+
+    ghost kept = { HasGone };
+
+    fn call(&mut self, op: &Op) -> Result<CallEnd, AllocError> {
+        make_call(self.stage, &mut self.seat, op)
+    }
+
+    fn fail(&mut self, at: ProcessId, keep: u32) -> Result<FailEnd, AllocError> {
+        if !self.control {
+            return Ok(FailEnd::Off);
+        }
+        if !has(self.stage.shape(), at) {
+            return Ok(FailEnd::NoProcess);
+        }
+        fail_process(self.stage, &mut self.seat, at, keep)
+    }
+}
