@@ -6,6 +6,7 @@ pub mod Killed
 pub mod Known
 pub mod Paired
 pub mod Runs
+pub mod Schedules
 pub mod Settles
 pub mod Stepped
 pub mod Told

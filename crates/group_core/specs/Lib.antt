@@ -1,4 +1,6 @@
 pub mod Links
+pub mod NodeList
 pub mod Pairs
 pub mod Runs
+pub mod Schedules
 pub mod Seats

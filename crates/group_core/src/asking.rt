@@ -6,7 +6,7 @@ ghost use Rattle.head_service.specs.Acting.{name_of};
 ghost use Rattle.group_node.specs.Steps.{IsRefusal};
 ghost use Rattle.group_core.specs.Seats.{IsKnownLow, made, one_changed, seat};
 
-use crate::nodes::Nodes;
+use crate::members::Members;
 use group_node::{NodeOut, index_of};
 use group_types::{Partition, ProcessId};
 use head_service::Call;
@@ -14,7 +14,7 @@ use memc_table::Op;
 use std::alloc::AllocError;
 
 // What a call makes of the node that it is asked at.
-impl Nodes {
+impl Members {
     pub(crate) fn ask(&mut self, at: ProcessId, call: Call, op: &Op) -> Result<NodeOut, AllocError>
         requires process { IsProcess self.old.shape at }
         requires caller { call.caller < callers }

@@ -8,12 +8,12 @@ ghost use Rattle.group_node.specs.Delivering.{Comes};
 ghost use Rattle.group_core.specs.Pairs.{CanCome, Exchanged};
 ghost use Rattle.group_core.specs.Seats.{AreSeated, made, seat, seats_of, two_changed};
 
-use crate::nodes::Nodes;
+use crate::members::Members;
 use group_node::{Node, NodeOut, deliver_between, index_of};
 use group_types::{ProcessId, Shape};
 use std::alloc::AllocError;
 
-impl Nodes {
+impl Members {
     /// The first message from one process to another is received.
     pub(crate) fn deliver(&mut self, from: ProcessId, to: ProcessId) -> Result<NodeOut, AllocError>
         requires from { IsProcess self.old.shape from }

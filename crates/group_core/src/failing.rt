@@ -4,12 +4,13 @@ ghost use Rattle.group_types.specs.Names.{IsProcess};
 ghost use Rattle.group_run.specs.World.{all_change, dead_nodes, with_down};
 ghost use Rattle.group_core.specs.Seats.{AreOf, AreSeated, made, nodes_of, seat, seats_of};
 
+use crate::members::Members;
 use crate::nodes::Nodes;
 use group_calls::Answer;
 use group_node::{Node, NodeOut, index_of};
 use group_types::{ProcessId, Shape};
 
-impl Nodes {
+impl Members {
     /// A process dies, and all nodes are told whether the group is down. It takes no memory.
     pub(crate) fn fail(&mut self, at: ProcessId, keep: u32) -> NodeOut
         requires process { IsProcess self.old.shape at }
@@ -20,6 +21,20 @@ impl Nodes {
         let answer = kill(self.shape, &mut self.nodes, at, keep);
         NodeOut::only(self.alloc, answer)
     }
+}
+
+/// A process dies among the nodes of all processes, and all of them are told whether the group is down. It takes no
+/// memory.
+pub fn fail_at(shape: Shape, nodes: &mut Nodes, at: ProcessId, keep: u32) -> Answer
+    requires seated { AreSeated shape nodes.old.nodes }
+    requires process { IsProcess shape at }
+    requires name { (seat (seats_of shape nodes.old.nodes) at).process.name ≡ at }
+    ensures room { nodes.new.room ≡ nodes.old.room }
+    ensures seated { AreSeated shape nodes.new.nodes }
+    ensures step { all_change (seat (seats_of shape nodes.old.nodes) at).dead shape (nodes_of nodes.old.nodes) at keep
+        ≡ record { nodes = nodes_of nodes.new.nodes; answer = result; settled = [] } }
+{
+    kill(shape, &mut nodes.nodes, at, keep)
 }
 
 fn kill(shape: Shape, nodes: &mut [Node], at: ProcessId, keep: u32) -> Answer

@@ -8,10 +8,13 @@ mod coming;
 mod delivering;
 mod draining;
 mod failing;
+mod members;
 mod nodes;
 mod reading;
 mod turning;
 mod world;
 
 pub use coming::values_are_bytes;
+pub use failing::fail_at;
+pub use nodes::Nodes;
 pub use world::World;

@@ -9,7 +9,7 @@ ghost use Rattle.group_core.specs.Runs.{HasRun, group_of};
 ghost use Rattle.group_node.specs.Steps.{IsRefusal};
 ghost use Rattle.group_core.specs.Seats.{made};
 
-use crate::nodes::Nodes;
+use crate::members::Members;
 use group_calls::Event;
 use group_ledger::entering::refusal;
 use group_ledger::{Ledger, NewCall};
@@ -26,7 +26,7 @@ pub(crate) struct Turn {
     pub(crate) out: NodeOut,
 }
 
-impl Nodes {
+impl Members {
     /// What an event makes of the nodes. After want of memory nothing but room has changed.
     pub(crate) fn turn(&mut self, ledger: &Ledger, event: &Event) -> Result<Turn, AllocError>
         requires run { HasRun (group_of self.old ledger.now.books) }

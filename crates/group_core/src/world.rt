@@ -2,7 +2,7 @@ ghost use Rattle.std.specs.Prelude.{◌≡◌, ◌≤◌, ◌<◌, ◌+◌, ◌^
 ghost use Rattle.group_run.specs.Headline.{MayCome};
 ghost use Rattle.group_run.specs.World.{group_step, opening, step};
 
-use crate::nodes::Nodes;
+use crate::members::Members;
 use group_calls::{Event, Out};
 use group_ledger::Ledger;
 use group_types::Shape;
@@ -12,7 +12,7 @@ use std::marker::Model;
 /// A group that a run of events led to.
 #[derive(Drop)]
 pub struct World {
-    pub(crate) nodes: Nodes,
+    pub(crate) nodes: Members,
     pub(crate) ledger: Ledger,
 }
 
@@ -33,7 +33,7 @@ impl World {
         ensures { IfOk result (λ world. world ≡ opening shape) }
     {
         Ok(World {
-            nodes: Nodes::new(alloc, shape)?,
+            nodes: Members::new(alloc, shape)?,
             ledger: Ledger::new(alloc, shape)?,
         })
     }

@@ -1,0 +1,67 @@
+-- What a step on a word found, and the node in hand.
+use Rattle.std.proofs.Common.{ℕ, zero, suc, ◌≡◌, ◌<◌, ◌≤◌, List, [], ◌∷◌, get_or, refl, sym, ap, subst, ◌∙◌, arith}
+use Rattle.std.specs.Prelude.{Option, Some, None}
+use Rattle.atomic_table.specs.Table.{rest}
+use Rattle.group_calls.specs.declared.event.Event.{Event}
+use Rattle.group_node.specs.Standing.{Standing}
+use Rattle.group_stage.specs.Conditions.{HasLast, InHand, Took}
+use Rattle.group_stage.specs.Places.{place_of, slot_of, word_of}
+use Rattle.group_stage.specs.Schedules.{standing_at}
+use Rattle.group_stage.specs.Steps.{IsTaken, Sat, Takes}
+use Rattle.group_stage.specs.Views.{released, with_met}
+use Rattle.group_stage.specs.declared.view.Plan.{Plan}
+use Rattle.group_stage.specs.declared.view.View.{View}
+use Rattle.group_stage.proofs.Taking.{place-is}
+
+pub free-taken : (v : View) (p : ℕ) (slots : List (ℕ × Option Standing)) (found : ℕ) (w : Sat) → Takes v p slots found w → found ≤ 0 → (es : List Event) × IsTaken v p slots w es
+free-taken v p slots zero w takes low = takes
+free-taken v p slots (suc n) w takes low = absurd (omega (arith, low))
+
+pub met-taken : (v : View) (p : ℕ) (slots : List (ℕ × Option Standing)) (found : ℕ) (w : Sat) → Takes v p slots found w → 0 < found → w ≡ (with_met v p, slots)
+met-taken v p slots zero w takes low = absurd (omega (arith, low))
+met-taken v p slots (suc n) w takes low = takes
+
+-- the word is the process's
+pub at-place : (v : View) (p i : ℕ) (slots : List (ℕ × Option Standing)) (found : ℕ) (w : Sat) → i ≡ word_of p → Takes v (place_of i) slots found w → Takes v p slots found w
+at-place v p i slots found w here takes = subst (λ (q : ℕ). Takes v q slots found w) (ap place_of here ∙ place-is p) takes
+
+-- what the slot had is in hand
+pub in-hand : (v : View) (p : ℕ) (slots : List (ℕ × Option Standing)) (m : Sat) → (es : List Event) × IsTaken v p slots m es → (slot : ℕ) → slot ≡ slot_of p → (r : Option Standing) (w : Sat)
+    → m.1 ≡ (slot, r) ∷ rest m.1 → w ≡ (m.0, (slot, None) ∷ rest m.1) → Took v p slots r w
+in-hand v p slots m taken slot here r w had has =
+    let es = taken.0 in
+    let is = taken.1 in
+    let y : Standing = standing_at v.shape es p in
+    let front : (slot, r) ∷ rest m.1 ≡ (slot_of p, Some y) ∷ slots = sym had ∙ ap (λ (x : Sat). x.1) is.seat in
+    let r-is : r ≡ Some y = ap (λ (l : List (ℕ × Option Standing)). (get_or l 0 (slot, r)).1) front in
+    let rest-is : rest m.1 ≡ slots = ap (λ (x : Sat). rest x.1) is.seat in
+    subst (λ (x : Option Standing). Took v p slots x w) (sym r-is) (
+      es,
+      record {
+        node = refl;
+        knows = is.knows;
+        seat = has ∙ (λ i. ((is.seat i).0, (here i, None) ∷ rest-is i));
+      },
+    )
+
+pub slot-there : (v : View) (p : ℕ) (slots : List (ℕ × Option Standing)) (m : Sat) → (es : List Event) × IsTaken v p slots m es → (slot : ℕ) → slot ≡ slot_of p
+    → (old : Option Standing) × (m.1 ≡ (slot, old) ∷ rest m.1)
+slot-there v p slots m taken slot here =
+    let y : Standing = standing_at v.shape taken.0 p in
+    let front : m.1 ≡ (slot_of p, Some y) ∷ slots = ap (λ (x : Sat). x.1) taken.1.seat in
+    (Some y, front ∙ (λ i. ((sym here) i, Some y) ∷ (sym (ap rest front)) i))
+
+-- the node that is given back is the one that was taken last
+pub given-back : (plan : Plan) (m w : Sat) (p : ℕ) (y : Standing) (there : Option Standing) (slot : ℕ) → HasLast plan m p y there → slot ≡ slot_of p → w ≡ (m.0, (slot, Some y) ∷ rest m.1) → HasLast plan w p y (Some y)
+given-back plan m w p y there slot last here is =
+    let F : Sat → Type 0 = λ x. HasLast plan x p y (Some y) in
+    subst F (sym is) (record { part = last.part; within = last.within; held = last.held; slot = λ i. (here i, Some y) ∷ rest m.1 })
+
+pub given : (m w x : Sat) (p i found : ℕ) (y : Standing) (slot : ℕ) → w ≡ (m.0, (slot, Some y) ∷ rest m.1) → i ≡ word_of p → x ≡ (released w.0 (place_of i) found, rest w.1) → x ≡ (released m.0 p found, rest m.1)
+given m w x p i found y slot is here has =
+    has ∙ ap (λ (q : ℕ). (released w.0 q found, rest w.1)) (ap place_of here ∙ place-is p) ∙ ap (λ (z : Sat). (released z.0 p found, rest z.1)) is
+
+-- no node was taken
+pub none-took : (v : View) (p : ℕ) (slots : List (ℕ × Option Standing)) (r : Option Standing) (w : Sat) → ((x : Standing) → r ≡ Some x → ⊥) → Took v p slots r w → w ≡ (with_met v p, slots)
+none-took v p slots None w not took = took
+none-took v p slots (Some y) w not took = absurd (not y refl)

@@ -1,0 +1,17 @@
+pub mod Sums
+pub mod Runs
+pub mod Moves
+pub mod Taking
+pub mod Releasing
+pub mod Committing
+pub mod Drawing
+pub mod Parting
+pub mod Starting
+pub mod Hands
+pub mod Treating
+pub mod Called
+pub mod Pairs
+pub mod Dealing
+pub mod Stacks
+pub mod Deaths
+pub mod Gathering

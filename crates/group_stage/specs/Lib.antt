@@ -1,0 +1,15 @@
+pub mod Places
+pub mod Schedules
+pub mod Views
+pub mod Counts
+pub mod Kept
+pub mod Steps
+pub mod Conditions
+pub mod Ended
+pub mod Seated
+pub mod Opened
+pub mod Dealt
+pub mod SeatList
+pub mod Closed
+pub mod Gathered
+pub mod Emptied

@@ -1,0 +1,37 @@
+-- The machine's run of a schedule, as the rule of a stage reads it.
+use Rattle.std.specs.Prelude.{◌≡◌, ℕ, ◌+◌, ◌==◌, List, [], ◌∷◌, ◌++◌, take, slice_get, Some, if◌then◌else◌}
+use Rattle.group_types.specs.Dimensions.{Dimensions}
+use Rattle.group_types.specs.Lists.{at}
+use Rattle.group_types.specs.Names.{process_at}
+use Rattle.group_calls.specs.declared.event.Answer.{Answer}
+use Rattle.group_calls.specs.declared.event.Event.{Event}
+use Rattle.group_calls.specs.declared.event.Event.TheVariants.{Ask}
+use Rattle.group_run.specs.Process.{Node}
+use Rattle.group_run.specs.World.{after, group_step, opening_node}
+use Rattle.group_node.specs.Standing.{Standing}
+
+-- the machine's node of the process at an index, after a schedule
+abbrev pub node_at : Dimensions → List Event → ℕ → Node
+node_at s es p = at (opening_node s (process_at s p)) (after s es).nodes p
+
+-- the same, as a node is seen
+abbrev pub standing_at : Dimensions → List Event → ℕ → Standing
+standing_at s es p = record { shape = s; node = node_at s es p }
+
+-- the machine's answer to an event after a schedule
+abbrev pub answer_at : Dimensions → List Event → Event → Answer
+answer_at s es e = (group_step (after s es) e).answer
+
+-- how many calls a caller asked, after a schedule
+abbrev pub asked_at : Dimensions → List Event → ℕ → ℕ
+asked_at s es caller = at 0 (after s es).asked caller
+
+-- 1 for an ask of this caller
+abbrev pub ask_by : ℕ → Event → ℕ
+ask_by c (Ask caller op p) = if caller == c then 1 else 0
+ask_by c _ = 0
+
+-- the first events of the list are these
+pub record StartsWith (all first : List Event) : Type 0 where
+  pub rest : List Event
+  pub whole : all ≡ first ++ rest

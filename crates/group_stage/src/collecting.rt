@@ -1,0 +1,67 @@
+ghost use Rattle.std.specs.Prelude.{◌≡◌, ◌<◌, ℕ, [], ◌∷◌, List, All, IfOk, MatchResult};
+ghost use Rattle.group_calls.specs.declared.event.Event.TheVariants as happens;
+ghost use Rattle.group_types.specs.Dimensions.{callers};
+ghost use Rattle.group_types.specs.Names.{IsProcess};
+ghost use Rattle.group_stage.specs.Conditions.{CanFinish, IsReady};
+ghost use Rattle.group_stage.specs.Ended.{Ended, IsUnmade, IsWorn};
+ghost use Rattle.group_stage.specs.Seated.{IsOf, shape_of, view_of};
+ghost use Rattle.group_stage.specs.Steps.{Knows};
+ghost use Rattle.group_stage.specs.Views.{asks_by, committed, released};
+
+use crate::answer::StageAnswer;
+use crate::plays::Calls;
+use crate::seat::Seat;
+use crate::stage::{RawSeat, Stage};
+use group_node::index_of;
+use group_types::ProcessId;
+use std::alloc::AllocError;
+use std::marker::Brand;
+
+impl Stage {
+    /// What became of a call of the seat, at the process that issued its update.
+    pub fn try_collect(
+        &self,
+        seat: &mut Seat,
+        call: u64,
+        at: ProcessId,
+    ) -> Result<StageAnswer, AllocError>
+        requires seat { IsOf self.now seat.old }
+        requires process { IsProcess (shape_of self.now) at }
+        ensures seat { IsOf self.now seat.new }
+        ensures caller { seat.new.caller ≡ seat.old.caller }
+        ensures ended { MatchResult result (λ a. Ended (happens.Collect seat.old.caller call at) (view_of seat.old) a (view_of seat.new)) (λ _. IsUnmade (view_of seat.old) (view_of seat.new)) }
+    {
+        if seat.is_worn() {
+            return Ok(StageAnswer::Worn);
+        }
+        let ended = self.collect_as::<Brand>(&mut seat.raw, seat.caller, call, at);
+        seat.calls += 1;
+        Ok(ended)
+    }
+
+    fn collect_as<J: Calls>(
+        &self,
+        seat: &mut RawSeat,
+        caller: u32,
+        call: u64,
+        at: ProcessId,
+    ) -> StageAnswer
+        requires table { seat.old.table_id ≡ self.now.table.shared.table_id }
+        requires event { J.event ≡ happens.Collect caller call at }
+        requires process { IsProcess (shape_of self.now) at }
+        requires shape { seat.old.me.0.shape ≡ self.now.plan.shape }
+        requires ready { IsReady seat.old.me }
+        requires caller { caller < callers }
+        ensures table { seat.new.table_id ≡ seat.old.table_id }
+        ensures slots { seat.new.me.1 ≡ [] }
+        ensures ended { Ended (happens.Collect caller call at) seat.old.me.0 result seat.new.me.0 }
+    {
+        let place = index_of(self.plan.shape, at) as usize;
+        let Some(mut node) = self.take_first::<J>(seat, place) else {
+            return StageAnswer::Busy(at);
+        };
+        let answer = node.collect(caller, call);
+        self.finish(seat, place, node);
+        StageAnswer::Made(answer)
+    }
+}
