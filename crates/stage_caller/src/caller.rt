@@ -1,0 +1,87 @@
+ghost use Rattle.std.specs.Prelude.{◌≡◌};
+ghost use Rattle.group_stage.specs.Seated.{IsOf};
+
+use front_end::Caller;
+use group_calls::Answer;
+use group_stage::{Seat, Stage, StageAnswer};
+use group_types::{ProcessId, home};
+use memc_proto::{CallEnd, FailEnd};
+use memc_table::Op;
+use std::alloc::AllocError;
+use std::thread;
+
+/// How often a held process is asked again.
+const TURNS: u32 = 100_000_000;
+
+/// A caller over a group that threads share, from a seat of its own.
+#[derive(Drop)]
+pub struct StageCaller<'a> {
+    stage: &'a Stage,
+    seat: Seat,
+    control: bool,
+    ghost of_stage: { IsOf stage.now seat },
+}
+
+impl<'a> StageCaller<'a> {
+    /// A caller from this seat, which takes orders that a process fail where `control` is on.
+    pub fn new(stage: &'a Stage, seat: Seat, control: bool) -> StageCaller<'a>
+        requires { IsOf stage.now seat }
+    {
+        StageCaller {
+            stage,
+            seat,
+            control,
+        }
+    }
+
+    /// The seat, as the calls left it.
+    pub fn into_seat(self) -> Seat
+        ensures { result ≡ self.seat }
+    {
+        let StageCaller {
+            stage: _,
+            seat,
+            control: _,
+        } = self;
+        seat
+    }
+}
+
+impl Caller for StageCaller<'_> {
+    ghost use Rattle.std.specs.Prelude.{⊤};
+
+    ghost made = { λ _ _ _ _. ⊤ };
+
+    ghost failed = { λ _ _ _ _ _. ⊤ };
+
+    ghost kept = { λ _ _. ⊤ };
+
+    fn call(&mut self, op: &Op) -> Result<CallEnd, AllocError> {
+        let data = home(op.act().key(), self.stage.shape().k());
+        let at = ProcessId::DataNode(data.0);
+        'turns: for _ in 0..TURNS {
+            match self.stage.try_ask(&mut self.seat, op, at)? {
+                StageAnswer::Made(answer) => return Ok(end_of(answer)),
+                StageAnswer::Busy(_) => thread::yield_now(),
+                StageAnswer::Worn => return Ok(CallEnd::Worn),
+            }
+        }
+        Ok(CallEnd::Worn)
+    }
+
+    fn fail(&mut self, _at: ProcessId, _keep: u32) -> Result<FailEnd, AllocError> {
+        Ok(if self.control {
+            FailEnd::Worn
+        } else {
+            FailEnd::Off
+        })
+    }
+}
+
+/// The end of a call that was answered so.
+fn end_of(answer: Answer) -> CallEnd {
+    match answer {
+        Answer::Reply(reply) => CallEnd::Reply(reply),
+        _ => CallEnd::Worn,
+    }
+}
