@@ -1,4 +1,4 @@
-ghost use Rattle.std.specs.Prelude.{◌≢◌, ◌<◌};
+ghost use Rattle.std.specs.Prelude.{◌≡◌, ◌≢◌, ◌<◌};
 ghost use Rattle.group_stage.specs.Seated.{IsOf, shape_of};
 ghost use Rattle.group_types.specs.Dimensions.{processes_of};
 
@@ -79,6 +79,7 @@ impl<'a> Deliverer<'a> {
         requires from { from < processes_of (shape_of self.old.stage.now) }
         requires to { to < processes_of (shape_of self.old.stage.now) }
         requires apart { from ≢ to }
+        ensures { self.new.stage ≡ self.old.stage }
     {
         let shape = self.stage.shape();
         let (from, to) = (process_at(shape, from), process_at(shape, to));

@@ -1,24 +1,76 @@
-// A caller beside the server reads what a connection stored.
-ghost use Rattle.std.specs.Prelude.{◌≡◌, length};
+ghost use Rattle.group_stage.specs.Seated.{IsOf};
 
+// A caller beside the server reads what a connection stored.
 use crate::stages::{STORED, STORES, listener};
-use edge_io::FixedClock;
+use edge_io::{FixedClock, MemoryListener};
 use front_end::Caller;
 use group_server::serve_group;
-use group_stage::Stage;
+use group_stage::{Seat, Stage};
 use group_types::{Key, Shape};
 use memc_proto::CallEnd;
 use memc_table::{Act, Op, Reply};
-use node_worker::OpenGate;
+use node_worker::{OpenGate, ServeFault};
 use stage_caller::StageCaller;
-use std::alloc::{AllocError, Global};
+use std::alloc::Global;
+use std::sync::Wait;
 use std::test::Fail;
+use std::thread::Threads;
 
-fn get(alloc: Global, key: &[u8]) -> Result<Op, Fail> {
+/// The key that the client stores.
+fn get(alloc: Global) -> Result<Op, Fail> {
     Ok(Op::new(
         0,
         Act::Get {
-            key: Key::read(alloc, key)?,
+            key: Key::read(alloc, b"a".as_slice())?,
         },
     ))
+}
+
+/// What a caller reads from a seat beside those of the server.
+fn read(alloc: Global, stage: &Stage, seat: Seat) -> Result<Option<u8>, Fail>
+    requires { IsOf stage.now seat }
+{
+    let mut caller = StageCaller::new(stage, seat, false);
+    match caller.call(&get(alloc)?)? {
+        CallEnd::Reply(Reply::Value(item)) => Ok(item.value.bytes().first().copied()),
+        _ => Ok(None),
+    }
+}
+
+/// Serves a client with four seats, and reads from a fifth.
+fn serve_and_read<R: Threads + Wait + Sync>(
+    rt: &R,
+    alloc: Global,
+    clients: &mut MemoryListener,
+    shape: Shape,
+) -> Result<(Result<u64, ServeFault>, Option<u8>), Fail> {
+    let (stage, mut seats) = Stage::new(alloc, shape, 5)?;
+    let Some(spare) = seats.take() else {
+        unreachable!()
+    };
+    let served = serve_group(
+        rt,
+        alloc,
+        clients,
+        &OpenGate,
+        &stage,
+        seats,
+        false,
+        1,
+        &FixedClock::new(0),
+    );
+    let found = read(alloc, &stage, spare)?;
+    Ok((served, found))
+}
+
+#[test]
+fn a_spare_caller_reads_what_a_connection_stored(rt: HostRuntime) -> Result<(), Fail> {
+    for shape in [Shape::new(1, 0, 16, 1024)?, Shape::new(4, 2, 1024, 1024)?] {
+        let mut clients = listener(rt.alloc(), &[STORES], &[])?;
+        let (served, found) = serve_and_read(&rt, rt.alloc(), &mut clients, shape)?;
+        assert_eq!(rt; served, Ok(1));
+        assert_eq!(rt; clients.held(rt.alloc(), 1)?.as_slice(), STORED);
+        assert_eq!(rt; found, Some(b'A'));
+    }
+    Ok(())
 }

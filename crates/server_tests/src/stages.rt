@@ -1,12 +1,9 @@
 // Groups to serve, and what their clients say.
-ghost use Rattle.std.specs.Prelude.{◌≤◌, ◌≡◌, ◌+◌, length, IfOk, IfSome};
-ghost use Rattle.group_server.specs.Serving.{CanServe};
-ghost use Rattle.group_stage.specs.Seated.{AreOf, IsOf};
-ghost use Rattle.group_types.specs.Dimensions as limits;
+ghost use Rattle.std.specs.Prelude.{◌≤◌};
 
 use edge_io::{FixedClock, MemoryListener};
 use group_server::serve_group;
-use group_stage::{Seats, Stage};
+use group_stage::Stage;
 use group_types::Shape;
 use node_worker::{Gate, ServeFault};
 use std::alloc::{AllocError, Global};

@@ -36,7 +36,7 @@ impl<'a> StageCaller<'a> {
 
     /// The seat, as the calls left it.
     pub fn into_seat(self) -> Seat
-        ensures { result ≡ self.seat }
+        ensures { result ≡ self.entry.seat }
     {
         let StageCaller {
             stage: _,
@@ -44,6 +44,13 @@ impl<'a> StageCaller<'a> {
             control: _,
         } = self;
         seat
+    }
+
+    // Asks the data process of the key's partition.
+    fn ask(&mut self, op: &Op) -> Result<StageAnswer, AllocError> {
+        let data = home(op.act().key(), self.stage.shape().k());
+        let at = ProcessId::DataNode(data.0);
+        self.stage.try_ask(&mut self.seat, op, at)
     }
 }
 
@@ -57,10 +64,8 @@ impl Caller for StageCaller<'_> {
     ghost kept = { λ _ _. ⊤ };
 
     fn call(&mut self, op: &Op) -> Result<CallEnd, AllocError> {
-        let data = home(op.act().key(), self.stage.shape().k());
-        let at = ProcessId::DataNode(data.0);
         'turns: for _ in 0..TURNS {
-            match self.stage.try_ask(&mut self.seat, op, at)? {
+            match self.ask(op)? {
                 StageAnswer::Made(answer) => return Ok(end_of(answer)),
                 StageAnswer::Busy(_) => thread::yield_now(),
                 StageAnswer::Worn => return Ok(CallEnd::Worn),
