@@ -3,6 +3,8 @@
 #![tactic(auto)]
 
 #[cfg(test)]
+mod delivering;
+#[cfg(test)]
 mod ending;
 #[cfg(test)]
 mod gates;

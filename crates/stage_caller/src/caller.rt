@@ -52,6 +52,25 @@ impl<'a> StageCaller<'a> {
         let at = ProcessId::DataNode(data.0);
         self.stage.try_ask(&mut self.seat, op, at)
     }
+
+    // Collects a ticket until it is settled. It leaves all deliveries to others.
+    fn wait(&mut self, op: &Op, call: u64) -> Result<CallEnd, AllocError> {
+        'turns: for _ in 0..TURNS {
+            match self.collect(op, call)? {
+                StageAnswer::Made(Answer::NotYet) | StageAnswer::Busy(_) => thread::yield_now(),
+                StageAnswer::Made(answer) => return Ok(end_of(answer)),
+                StageAnswer::Worn => return Ok(CallEnd::Worn),
+            }
+        }
+        Ok(CallEnd::Worn)
+    }
+
+    // Collects a ticket at the data process of the key's partition.
+    fn collect(&mut self, op: &Op, call: u64) -> Result<StageAnswer, AllocError> {
+        let data = home(op.act().key(), self.stage.shape().k());
+        let at = ProcessId::DataNode(data.0);
+        self.stage.try_collect(&mut self.seat, call, at)
+    }
 }
 
 impl Caller for StageCaller<'_> {
@@ -65,7 +84,9 @@ impl Caller for StageCaller<'_> {
 
     fn call(&mut self, op: &Op) -> Result<CallEnd, AllocError> {
         'turns: for _ in 0..TURNS {
+            let call = self.seat.asks();
             match self.ask(op)? {
+                StageAnswer::Made(Answer::Ticket(_)) => return self.wait(op, call),
                 StageAnswer::Made(answer) => return Ok(end_of(answer)),
                 StageAnswer::Busy(_) => thread::yield_now(),
                 StageAnswer::Worn => return Ok(CallEnd::Worn),
