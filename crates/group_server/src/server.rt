@@ -1,0 +1,140 @@
+ghost use Rattle.std.specs.Prelude.{◌≡◌, ℕ, Err, IfErr, IfOk, OnErr};
+ghost use Rattle.edge_io.specs.Faults.{HasCauseOf};
+ghost use Rattle.group_server.specs.Serving.{CanServe};
+ghost use Rattle.node_worker.specs.Served.{HasAccepted, IsDone};
+ghost use Rattle.node_worker.specs.declared.fault.ServeFault.{ServeFault};
+
+use crate::bell::Bell;
+use crate::deliverer::Deliverer;
+use crate::desk::Desk;
+use edge_io::{Clock, Listener};
+use group_stage::{Seats, Stage};
+use node_worker::{Gate, ServeFault, serve_all};
+use std::alloc::Global;
+use std::sync::Wait;
+use std::thread;
+use std::thread::Threads;
+
+/// Serves the connections of a listener over a group, by so many workers as there are seats but two: until
+/// `connections` of them were accepted, where that isn't 0, or the listener says that none comes. It returns once all
+/// are served. There is want of memory only before the first is accepted.
+pub fn serve_group<R: Threads + Wait + Sync, L: Listener, G: Gate, T: Clock>(
+    rt: &R,
+    alloc: Global,
+    listener: &mut L,
+    gate: &G,
+    stage: &Stage,
+    seats: Seats,
+    control: bool,
+    connections: u64,
+    clock: &T,
+) -> Result<u64, ServeFault>
+where
+    L::Incoming: Drop,
+    L::Outgoing: Drop,
+    requires { CanServe stage.now seats.seats }
+    ensures accepted { IfOk result (λ n. HasAccepted (L.accepted listener.old) (L.accepted listener.new) connections n) }
+    ensures done { IfOk result (λ n. IsDone connections n (L.over listener.new)) }
+    ensures fault { HasCauseOf (L.faults listener.old) (L.faults listener.new) result ServeFault.AcceptFault }
+    ensures at_fault { OnErr result ((n : ℕ) × HasAccepted (L.accepted listener.old) (L.accepted listener.new) connections n) }
+    ensures want { result ≡ Err ServeFault.Want → listener.new ≡ listener.old }
+{
+    let mut rest = seats;
+    let Some(own) = rest.take() else {
+        unreachable!()
+    };
+    let workers = rest.count() - 1;
+    let mut deliverer = Deliverer::new(stage, own);
+    match Desk::new(rt, alloc, stage, rest, control) {
+        Ok(desk) => serve_beside(
+            rt,
+            alloc,
+            listener,
+            gate,
+            &mut deliverer,
+            &desk,
+            workers,
+            connections,
+            clock,
+        ),
+        Err(_) => Err(ServeFault::Want),
+    }
+}
+
+/// Serves the connections over the callers of a desk, while a thread of its own delivers.
+fn serve_beside<R: Threads + Wait + Sync, L: Listener, G: Gate, T: Clock>(
+    rt: &R,
+    alloc: Global,
+    listener: &mut L,
+    gate: &G,
+    deliverer: &mut Deliverer<'_>,
+    desk: &Desk<'_, '_, R>,
+    workers: u32,
+    connections: u64,
+    clock: &T,
+) -> Result<u64, ServeFault>
+where
+    L::Incoming: Drop,
+    L::Outgoing: Drop,
+    ensures accepted { IfOk result (λ n. HasAccepted (L.accepted listener.old) (L.accepted listener.new) connections n) }
+    ensures done { IfOk result (λ n. IsDone connections n (L.over listener.new)) }
+    ensures fault { HasCauseOf (L.faults listener.old) (L.faults listener.new) result ServeFault.AcceptFault }
+    ensures at_fault { OnErr result ((n : ℕ) × HasAccepted (L.accepted listener.old) (L.accepted listener.new) connections n) }
+    ensures only { IfErr result (λ fault. fault ≡ ServeFault.AcceptFault) }
+{
+    let bell = Bell::new();
+    // Where no thread can be made the first of the two runs last, and the bell has rung.
+    let ((), end) = thread::join_mut(
+        rt,
+        &mut || deliverer.run(rt, &bell),
+        &mut || {
+            serve_and_ring(
+                rt,
+                alloc,
+                listener,
+                gate,
+                &bell,
+                desk,
+                workers,
+                connections,
+                clock,
+            )
+        },
+    );
+    end
+}
+
+/// Serves the connections over the callers of a desk, and rings the bell behind the last.
+fn serve_and_ring<R: Threads + Wait + Sync, L: Listener, G: Gate, T: Clock>(
+    rt: &R,
+    alloc: Global,
+    listener: &mut L,
+    gate: &G,
+    bell: &Bell,
+    desk: &Desk<'_, '_, R>,
+    workers: u32,
+    connections: u64,
+    clock: &T,
+) -> Result<u64, ServeFault>
+where
+    L::Incoming: Drop,
+    L::Outgoing: Drop,
+    ensures accepted { IfOk result (λ n. HasAccepted (L.accepted listener.old) (L.accepted listener.new) connections n) }
+    ensures done { IfOk result (λ n. IsDone connections n (L.over listener.new)) }
+    ensures fault { HasCauseOf (L.faults listener.old) (L.faults listener.new) result ServeFault.AcceptFault }
+    ensures at_fault { OnErr result ((n : ℕ) × HasAccepted (L.accepted listener.old) (L.accepted listener.new) connections n) }
+    ensures only { IfErr result (λ fault. fault ≡ ServeFault.AcceptFault) }
+{
+    let end = serve_all(
+        rt,
+        alloc,
+        listener,
+        desk,
+        gate,
+        workers,
+        connections,
+        clock,
+    );
+    bell.ring();
+    end
+}

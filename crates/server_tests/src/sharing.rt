@@ -1,0 +1,84 @@
+ghost use Rattle.group_stage.specs.Seated.{IsOf};
+
+// A caller beside the server reads what a connection stored.
+use crate::stages::{STORED, STORES, listener};
+use edge_io::{FixedClock, MemoryListener};
+use front_end::Caller;
+use group_server::serve_group;
+use group_stage::{Seat, Stage};
+use group_types::{Key, Shape};
+use memc_proto::CallEnd;
+use memc_table::{Act, Op, Reply};
+use node_worker::{OpenGate, ServeFault};
+use stage_caller::StageCaller;
+use std::alloc::Global;
+use std::sync::Wait;
+use std::test::Fail;
+use std::thread::Threads;
+
+/// The key that the client stores.
+fn get(alloc: Global) -> Result<Op, Fail> {
+    Ok(Op::new(
+        0,
+        Act::Get {
+            key: Key::read(alloc, b"a".as_slice())?,
+        },
+    ))
+}
+
+/// What a caller reads from a seat beside those of the server.
+fn read(alloc: Global, stage: &Stage, seat: Seat) -> Result<Option<u8>, Fail>
+    requires { IsOf stage.now seat }
+{
+    let mut caller = StageCaller::new(stage, seat, false);
+    match caller.call(&get(alloc)?)? {
+        CallEnd::Reply(Reply::Value(item)) => Ok(item.value.bytes().first().copied()),
+        _ => Ok(None),
+    }
+}
+
+/// Serves a client with four seats, and reads from a fifth.
+fn serve_and_read<R: Threads + Wait + Sync>(
+    rt: &R,
+    alloc: Global,
+    clients: &mut MemoryListener,
+    shape: Shape,
+) -> Result<(Result<u64, ServeFault>, Option<u8>), Fail> {
+    let (stage, mut seats) = Stage::new(alloc, shape, 5)?;
+    let Some(spare) = seats.take() else {
+        unreachable!()
+    };
+    let served = serve_group(
+        rt,
+        alloc,
+        clients,
+        &OpenGate,
+        &stage,
+        seats,
+        false,
+        1,
+        &FixedClock::new(0),
+    );
+    let found = read(alloc, &stage, spare)?;
+    Ok((served, found))
+}
+
+/// Whether a spare caller reads what a connection stored.
+fn is_shared<R: Threads + Wait + Sync>(rt: &R, alloc: Global, shape: Shape) -> Result<bool, Fail> {
+    let mut clients = listener(alloc, &[STORES], &[])?;
+    let (served, found) = serve_and_read(rt, alloc, &mut clients, shape)?;
+    let held = clients.held(alloc, 1)?;
+    Ok(served == Ok(1) && held.as_slice() == STORED && found == Some(b'A'))
+}
+
+#[test]
+fn a_spare_caller_reads_what_a_connection_stored(rt: HostRuntime) -> Result<(), Fail> {
+    assert!(rt; is_shared(&rt, rt.alloc(), Shape::new(1, 0, 16, 1024)?)?);
+    Ok(())
+}
+
+#[test]
+fn it_does_in_a_coded_group(rt: HostRuntime) -> Result<(), Fail> {
+    assert!(rt; is_shared(&rt, rt.alloc(), Shape::new(4, 2, 1024, 1024)?)?);
+    Ok(())
+}
