@@ -1,0 +1,3 @@
+pub mod Cutting
+pub mod Histories
+pub mod Parted

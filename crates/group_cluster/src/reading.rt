@@ -1,0 +1,41 @@
+ghost use Rattle.std.specs.Prelude.{◌≡◌, ◌<◌, false, length};
+ghost use Rattle.group_types.specs.Lists.{at};
+ghost use Rattle.group_layout.specs.Cluster.{world_in};
+ghost use Rattle.group_cluster.specs.Promise.{HasPromise};
+
+use crate::cluster::Cluster;
+use crate::groups::ClusterEntries;
+use group_core::World;
+
+impl Cluster {
+    /// Events led to the cluster, some of them cut short, and all holds of it that is promised of them.
+    pub fn run(&self)
+        ensures { HasPromise self.now }
+    {
+        let _failed = &self.failed;
+    }
+
+    /// The groups, and their log.
+    pub fn log(&self) -> &ClusterEntries
+        ensures log { result.now ≡ self.now.groups }
+        ensures promise { HasPromise self.now }
+    {
+        &self.groups
+    }
+
+    /// One of the groups.
+    pub fn world(&self, group: u32) -> &World
+        requires { group < length self.now.groups.worlds }
+        ensures { result.now ≡ world_in self.now.groups group }
+    {
+        &self.groups.worlds[group as usize]
+    }
+
+    /// Whether a node has failed.
+    pub fn has_failed(&self, node: u32) -> bool
+        requires { node < length self.now.failed }
+        ensures { result ≡ at false self.now.failed node }
+    {
+        self.failed[node as usize]
+    }
+}
