@@ -1,7 +1,7 @@
 -- Moves of which the first were made, and what the failure of a node logs.
-use Rattle.std.proofs.Common.{ℕ, ◌≡◌, ◌≢◌, ◌+◌, Bool, true, false, List, [], ◌∷◌, ◌++◌, length, take, Option, Some, None, refl, sym, ap, ◌∙◌}
+use Rattle.std.proofs.Common.{ℕ, ◌≡◌, ◌≢◌, ◌<◌, ◌≤◌, ◌+◌, ◌-◌, suc, Bool, true, false, List, [], ◌∷◌, ◌++◌, length, take, Option, Some, None, refl, sym, ap, subst, ◌∙◌, arith}
 use Rattle.std.proofs.Math.Seq.{take-append_seam}
-use Rattle.std.proofs.lemmas.List.{append_assoc}
+use Rattle.std.proofs.lemmas.List.{append-nil, append_assoc}
 use Rattle.std.specs.List.{range_with_len}
 use Rattle.group_types.specs.Dimensions.{Dimensions}
 use Rattle.group_types.specs.Names.{process_at}
@@ -15,6 +15,7 @@ use Rattle.group_layout.specs.Cluster.{ClusterEntry, Groups, MayAllMove, Move, a
 use Rattle.group_layout.specs.Layout.{process_on}
 use Rattle.group_layout.proofs.Happening.{moved-append}
 use Rattle.group_layout.proofs.Moves.{other-world}
+use Rattle.group_cluster.specs.Begun.{Begun}
 
 -- nothing that is settled logs nothing
 nothing-new : (tickets : List Ticket) (ds : List ℕ) (ledger : Ledger) → ledger.logged ≡ [] → (ledger_after tickets [] ds ledger).logged ≡ []
@@ -86,3 +87,65 @@ pub begun-on : (g h : Groups) (moves here rest : List Move) (first : List Move) 
     → (moves ≡ (first ++ here) ++ rest) × (all_moved h here ≡ all_moved g (first ++ here))
 begun-on g h moves here rest first whole is =
     (whole ∙ sym (append_assoc first here rest), ap (λ (v : Groups). all_moved v here) is ∙ sym (moved-append g first here))
+
+-- the failures of a node's processes in groups below j are made, and the groups from j on are as they were
+pub record Started (g h : Groups) (n node keep count j : ℕ) : Type 0 where
+  pub made : List Move
+  pub whole : failures g.shape n node keep (range_with_len 0 count) ≡ made ++ failures g.shape n node keep (range_with_len j (count - j))
+  pub is : h ≡ all_moved g made
+  pub behind : (i : ℕ) → j ≤ i → world_in h i ≡ world_in g i
+
+pub not-started : (g : Groups) (n node keep count : ℕ) → Started g g n node keep count 0
+not-started g n node keep count =
+    let same : count ≡ count - 0 = omega arith in
+    record { made = []; whole = ap (λ (m : ℕ). failures g.shape n node keep (range_with_len 0 m)) same; is = refl; behind = λ i le. refl }
+
+module _ (g h : Groups) (n node keep count j : ℕ) (was : Started g h n node keep count j) where
+  abbrev here-in : Dimensions → List Move
+  here-in s = failure_of s keep j (process_on n (s.k + s.m) node j)
+
+  abbrev here : List Move
+  here = here-in g.shape
+
+  abbrev rest : List Move
+  rest = failures g.shape n node keep (range_with_len (j + 1) (count - (j + 1)))
+
+  pub same-shape : h.shape ≡ g.shape
+  same-shape = ap (λ (v : Groups). v.shape) was.is ∙ shape-stays g was.made
+
+  parts : j < count → failures g.shape n node keep (range_with_len 0 count) ≡ was.made ++ (here ++ rest)
+  parts low =
+      let more : count - j ≡ suc (count - (j + 1)) = omega (arith, low) in
+      was.whole ∙ ap (λ (m : ℕ). was.made ++ failures g.shape n node keep (range_with_len j m)) more
+
+  pub next-started : (v : Groups) → j < count → v ≡ all_moved h (here-in h.shape) → Started g v n node keep count (j + 1)
+  next-started v low is =
+      let on = begun-on g h (failures g.shape n node keep (range_with_len 0 count)) here rest was.made (parts low) was.is in
+      let made : v ≡ all_moved h here = is ∙ ap (λ (s : Dimensions). all_moved h (here-in s)) same-shape in
+      record {
+        made = was.made ++ here;
+        whole = on.0;
+        is = made ∙ on.1;
+        behind = λ i le. ap (λ (x : Groups). world_in x i) made
+            ∙ others-stay g.shape h keep j i (process_on n (g.shape.k + g.shape.m) node j) (λ same. omega (arith, same, le))
+            ∙ was.behind i (omega (arith, le));
+      }
+
+  pub cut-there : (v : Groups) → v ≡ h → Begun g (failures g.shape n node keep (range_with_len 0 count)) v
+  cut-there v same = record { made = was.made; left = failures g.shape n node keep (range_with_len j (count - j)); whole = was.whole; is = same ∙ was.is }
+
+  pub all-made : count ≤ j → h ≡ all_moved g (failures g.shape n node keep (range_with_len 0 count))
+  all-made done =
+      let none : count - j ≡ 0 = omega (arith, done) in
+      was.is ∙ ap (all_moved g) (sym (was.whole ∙ ap (λ (m : ℕ). was.made ++ failures g.shape n node keep (range_with_len j m)) none ∙ append-nil was.made))
+
+  module _ (may : MayAllMove g (failures g.shape n node keep (range_with_len 0 count))) where
+    pub same-many : length h.worlds ≡ length g.worlds
+    same-many =
+        ap (λ (v : Groups). length v.worlds) was.is
+        ∙ many-stay g was.made (may-first g was.made (failures g.shape n node keep (range_with_len j (count - j))) (subst (MayAllMove g) was.whole may))
+
+    pub may-here : j < count → MayAllMove h (here-in h.shape)
+    may-here low =
+        subst (λ (s : Dimensions). MayAllMove h (here-in s)) (sym same-shape)
+        (may-first h here rest (subst (λ (v : Groups). MayAllMove v (here ++ rest)) (sym was.is) (may-rest g was.made (here ++ rest) (subst (MayAllMove g) (parts low) may))))
