@@ -1,3 +1,4 @@
 pub mod Cutting
+pub mod Downed
 pub mod Histories
 pub mod Parted
