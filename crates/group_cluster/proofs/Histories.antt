@@ -3,11 +3,12 @@ use Rattle.std.proofs.Common.{ℕ, zero, suc, ◌≡◌, ◌<◌, ◌≤◌, ◌
 use Rattle.group_types.specs.Dimensions.{Dimensions}
 use Rattle.group_types.specs.Shape.{IsShape}
 use Rattle.group_types.proofs.Lists.{length-put}
-use Rattle.group_run.specs.World.{World, opening}
-use Rattle.group_layout.specs.Cluster.{Cluster, GroupTurn, Groups, IsLayout, MayAllMove, MayHappen, Move, all_moved, failed_after, moved, moves_of, opening_cluster, turn_of, turns_made}
+use Rattle.group_calls.specs.declared.event.Event.{Event}
+use Rattle.group_run.specs.World.{opening}
+use Rattle.group_layout.specs.Cluster.{Cluster, GroupTurn, Groups, IsLayout, MayAllMove, MayHappen, Move, all_moved, failed_after, move_unless, moved, moves_of, opening_cluster, other_group, turns_made}
 use Rattle.group_layout.specs.declared.event.ClusterEvent.{ClusterEvent}
 use Rattle.group_layout.specs.declared.event.ClusterEvent.TheVariants.{FailNode, InGroup}
-use Rattle.group_layout.proofs.Happening.{Even, even-after, even-start, may-append, moved-append, moves-may}
+use Rattle.group_layout.proofs.Happening.{Even, even-after, even-start, may-append, moved-append, moves-may, turns-append}
 use Rattle.group_cluster.specs.History.{Happening, HasHistory, MayAll, all_happened, all_turns, failed_by, first_made, happened, moves_made}
 
 may-take : (g : Groups) (ms : List Move) (n : ℕ) → MayAllMove g ms → MayAllMove g (take n ms)
@@ -70,6 +71,14 @@ goes-on c h led may =
       many = even.many;
     }
 
+-- an event of its own group is one more
+pub step-history : (c : Cluster) (j : ℕ) (event : Event) → HasHistory c → MayHappen c (InGroup j event) → other_group c.groups j event ≡ None
+    → (g : Groups) → g ≡ moved c.groups (record { group = j; event = event }) → HasHistory (record { failed = c.failed; groups = g })
+step-history c j event led may own g is =
+    let move : Move = record { group = j; event = event } in
+    let same : g ≡ all_moved c.groups (move_unless (other_group c.groups j event) move) = is ∙ ap (λ (o : Option ℕ). all_moved c.groups (move_unless o move)) (sym own) in
+    subst (λ (x : Groups). HasHistory (record { failed = c.failed; groups = x })) (sym same) (goes-on c (record { event = InGroup j event; made = None }) led may)
+
 long : {X : Type 0} (n : ℕ) (x : X) → length (replicate n x) ≡ n
 long zero x = refl
 long (suc n) x = ap suc (long n x)
@@ -98,10 +107,6 @@ all_made c (h ∷ hs) = moves_made c h ++ all_made (happened c h) hs
 pub groups-made : (c : Cluster) (hs : List Happening) → (all_happened c hs).groups ≡ all_moved c.groups (all_made c hs)
 groups-made c [] = refl
 groups-made c (h ∷ hs) = groups-made (happened c h) hs ∙ sym (moved-append c.groups (moves_made c h) (all_made (happened c h) hs))
-
-turns-append : (g : Groups) (ms ns : List Move) → turns_made g (ms ++ ns) ≡ turns_made g ms ++ turns_made (all_moved g ms) ns
-turns-append g [] ns = refl
-turns-append g (m ∷ ms) ns = ap (λ (ts : List GroupTurn). record { group = m.group; turn = turn_of g m } ∷ ts) (turns-append (moved g m) ms ns)
 
 pub turns-of-made : (c : Cluster) (hs : List Happening) → all_turns c hs ≡ turns_made c.groups (all_made c hs)
 turns-of-made c [] = refl

@@ -2,3 +2,4 @@ pub mod Cutting
 pub mod Downed
 pub mod Histories
 pub mod Parted
+pub mod Promised
