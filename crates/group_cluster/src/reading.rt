@@ -28,7 +28,7 @@ impl Cluster {
         requires { group < length self.now.groups.worlds }
         ensures { result.now ≡ world_in self.now.groups group }
     {
-        &self.groups.worlds[group as usize]
+        self.groups.world(group)
     }
 
     /// Whether a node has failed.
@@ -37,5 +37,15 @@ impl Cluster {
         ensures { result ≡ at false self.now.failed node }
     {
         self.failed[node as usize]
+    }
+}
+
+impl ClusterEntries {
+    /// One of the groups.
+    pub fn world(&self, group: u32) -> &World
+        requires { group < length self.now.worlds }
+        ensures { result.now ≡ world_in self.now group }
+    {
+        &self.worlds[group as usize]
     }
 }
