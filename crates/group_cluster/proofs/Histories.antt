@@ -41,7 +41,7 @@ nodes-after : (c : Cluster) (e : ClusterEvent) → MayHappen c e → length (fai
 nodes-after c (InGroup j event) may = refl
 nodes-after c (FailNode node keep) may = length-put false c.failed node true may
 
-nodes-by : (made : Option ℕ) (c : Cluster) (e : ClusterEvent) → MayHappen c e → length (failed_by made c.failed e) ≡ length c.failed
+pub nodes-by : (made : Option ℕ) (c : Cluster) (e : ClusterEvent) → MayHappen c e → length (failed_by made c.failed e) ≡ length c.failed
 nodes-by None c e may = nodes-after c e may
 nodes-by (Some n) c e may = refl
 

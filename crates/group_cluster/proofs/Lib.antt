@@ -3,3 +3,5 @@ pub mod Downed
 pub mod Histories
 pub mod Parted
 pub mod Promised
+pub mod Borne
+pub mod Places

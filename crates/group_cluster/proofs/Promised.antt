@@ -1,8 +1,9 @@
 -- What is promised of a history.
-use Rattle.std.proofs.Common.{ℕ, zero, suc, ◌≡◌, List, [], ◌∷◌, ◌++◌, All, Option, Some, None, take, refl, sym, ap, subst, ◌∙◌}
+use Rattle.std.proofs.Common.{ℕ, zero, suc, ◌≡◌, List, [], ◌∷◌, ◌++◌, All, Option, Some, None, replicate, false, take, refl, sym, ap, subst, ◌∙◌}
 use Rattle.std.specs.Prelude.{slice_get, slice_index_or}
 use Rattle.std.proofs.lemmas.Option.{slice_get-get_or}
 use Rattle.group_types.specs.Dimensions.{Dimensions}
+use Rattle.group_types.specs.Each.{Each}
 use Rattle.memc_table.specs.Contents.{empty_table}
 use Rattle.group_calls.specs.Log.{IsLegal}
 use Rattle.group_calls.specs.Within.{AnswersWithin}
@@ -18,7 +19,8 @@ use Rattle.group_layout.proofs.Owning.{AreOwn, AsksOwn, TurnsOwn, each-append, m
 use Rattle.group_layout.proofs.Runs.{makes-a-run, moves_are_runs}
 use Rattle.group_layout.proofs.Tables.{each-of}
 use Rattle.group_cluster.specs.History.{Happening, HasHistory, MayAll, all_turns, first_made, happened, moves_made}
-use Rattle.group_cluster.specs.Promise.{HasPromise, turns_to}
+use Rattle.group_cluster.specs.Promise.{HasPromise, nodes_touched, turns_to}
+use Rattle.group_cluster.proofs.Borne.{all-failed, borne}
 use Rattle.group_cluster.proofs.Histories.{all_made, all-may-made, even-happened, groups-made, turns-of-made}
 
 -- moves of own calls, and the first of them
@@ -85,5 +87,8 @@ module _ (c : Cluster) (led : HasHistory c) where
       (each-of (IsOwn s.k led.count) c.groups.log own)
       (λ j. subst (λ (g : Groups). IsLegal s.k (entries_in j g.log)) (sym groups-are) ((run-of j).legal))
 
+  failed : Each (λ h. h.made ≡ None) led.history → c.failed ≡ nodes_touched c led
+  failed whole = ap (λ (x : Cluster). x.failed) led.is ∙ all-failed (replicate led.n false) start led.history refl whole
+
   pub promised : HasPromise c
-  promised = record { led = led; runs = runs; legal = legal; own = own; within = within }
+  promised = record { led = led; runs = runs; legal = legal; own = own; within = within; borne = borne c led; failed = failed }

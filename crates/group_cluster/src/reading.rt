@@ -1,10 +1,11 @@
-ghost use Rattle.std.specs.Prelude.{◌≡◌, ◌<◌, false, length};
+ghost use Rattle.std.specs.Prelude.{◌≡◌, ◌<◌, false, length, slice_get, Some, None, MatchOption};
 ghost use Rattle.group_types.specs.Lists.{at};
 ghost use Rattle.group_layout.specs.Cluster.{world_in};
 ghost use Rattle.group_cluster.specs.Promise.{HasPromise};
 
 use crate::cluster::Cluster;
 use crate::groups::ClusterEntries;
+use group_calls::Entry;
 use group_core::World;
 
 impl Cluster {
@@ -47,5 +48,21 @@ impl ClusterEntries {
         ensures { result.now ≡ world_in self.now group }
     {
         &self.worlds[group as usize]
+    }
+
+    /// The entry at a place of the log, with its group; none behind the end.
+    pub fn get(&self, place: usize) -> Option<(u32, &Entry)>
+        ensures { MatchOption result (slice_get self.now.log place ≡ None) (λ e. slice_get self.now.log place ≡ Some (e.0, e.1.now)) }
+    {
+        let mut left = place as u64;
+        'parts: for i in 0..self.parts.len() {
+            let part = &self.parts[i];
+            if left < part.many {
+                let log = self.worlds[part.group as usize].log();
+                return Some((part.group, &log[part.from + left as usize]));
+            }
+            left -= part.many;
+        }
+        None
     }
 }
