@@ -19,7 +19,7 @@ use Rattle.group_layout.specs.Cluster.{Cluster, Groups, IsFailure, MayAllMove, M
 use Rattle.group_layout.specs.Layout.{first_on, node_of, process_on}
 use Rattle.group_layout.specs.declared.event.ClusterEvent.{ClusterEvent}
 use Rattle.group_layout.specs.declared.event.ClusterEvent.TheVariants.{FailNode, InGroup}
-use Rattle.group_layout.proofs.Deaths.{fail-dead, none-dead-at, same-dead}
+use Rattle.group_layout.proofs.Deaths.{fail-dead, one-if, none-dead-at, same-dead}
 use Rattle.group_layout.proofs.Happening.{Even, even-after, even-start}
 use Rattle.group_layout.proofs.Moves.{IsOrNot, is-or-not, other-world, own-world}
 use Rattle.group_layout.proofs.Owning.{each-append}
@@ -31,7 +31,7 @@ use Rattle.group_cluster.proofs.Histories.{even-happened, even-has, made-may, no
 -- words of which each dead node has a true one of its own are no fewer
 one-less : (ts : List Bool) (i : ℕ) → at false ts i ≡ true → count_dead ts ≡ suc (count_dead (put false ts i false))
 one-less [] i is = absurd (cc is)
-one-less (true ∷ ts) zero is = refl
+one-less (true ∷ ts) zero is = omega arith
 one-less (false ∷ ts) zero is = absurd (cc is)
 one-less (t ∷ ts) (suc i) is = let rest = one-less ts i is in omega (arith, rest)
 
@@ -42,17 +42,21 @@ record Apart (d : Node) (xs : List Node) (f : ℕ → ℕ) (ts : List Bool) : Ty
 
 few : (d : Node) (xs : List Node) (f : ℕ → ℕ) (ts : List Bool) → Apart d xs f ts → dead_nodes xs ≤ count_dead ts
 few d [] f ts apart = omega arith
-few d (x ∷ xs) f ts apart = by x.dead refl where
+few d (x ∷ xs) f ts apart = by x.dead refl (λ us on. few d xs (λ k. f (suc k)) us on) where
   later : (us : List Bool) → ((k : ℕ) → (at d xs k).dead ≡ true → at false us (f (suc k)) ≡ true) → Apart d xs (λ k. f (suc k)) us
   later us there = record { there = there; own = λ a b da db same. (let one = apart.own (suc a) (suc b) da db same in omega (arith, one)) }
 
-  by : (b : Bool) → x.dead ≡ b → (if b then 1 else 0) + dead_nodes xs ≤ count_dead ts
-  by false is = let rest = few d xs (λ k. f (suc k)) ts (later ts (λ k dk. apart.there (suc k) dk)) in omega (arith, rest)
-  by true is =
+  by : (b : Bool) → x.dead ≡ b → ((us : List Bool) → Apart d xs (λ k. f (suc k)) us → dead_nodes xs ≤ count_dead us) → dead_nodes (x ∷ xs) ≤ count_dead ts
+  by false is on =
+      let none : one-if x.dead ≡ 0 = ap one-if is in
+      let rest = on ts (later ts (λ k dk. apart.there (suc k) dk)) in
+      omega (arith, none, rest)
+  by true is on =
+      let one : one-if x.dead ≡ 1 = ap one-if is in
       let less : count_dead ts ≡ suc (count_dead (put false ts (f 0) false)) = one-less ts (f 0) (apart.there 0 is) in
-      let rest = few d xs (λ k. f (suc k)) (put false ts (f 0) false)
+      let rest = on (put false ts (f 0) false)
       (later (put false ts (f 0) false) (λ k dk. at-put-other false ts (f 0) (f (suc k)) false (λ same. nonzero k (apart.own (suc k) 0 dk is same)) ∙ apart.there (suc k) dk)) in
-      omega (arith, less, rest)
+      omega (arith, one, less, rest)
     where
       nonzero : (k : ℕ) → suc k ≡ 0 → ⊥
       nonzero k same = omega (arith, same)
@@ -127,7 +131,7 @@ module _ (s : Dimensions) (n count : ℕ) where
   failure-stands ts node keep j None there on = tt
   failure-stands ts node keep j (Some q) there on =
       let stands = on q refl in
-      ((q, refl, stands.0, ap (at false ts) stands.1 ∙ there), tt)
+      ((q, refl, (stands.0, ap (at false ts) stands.1 ∙ there)), tt)
 
   failures-stand : (ts : List Bool) (node keep : ℕ) (js : List ℕ) → at false ts node ≡ true → Stands ts (failures s n node keep js)
   failures-stand ts node keep [] there = tt
