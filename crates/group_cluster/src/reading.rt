@@ -1,12 +1,14 @@
 ghost use Rattle.std.specs.Prelude.{◌≡◌, ◌<◌, false, length, slice_get, Some, None, MatchOption};
 ghost use Rattle.group_types.specs.Lists.{at};
 ghost use Rattle.group_layout.specs.Cluster.{world_in};
+ghost use Rattle.group_cluster.specs.Parts.{AreWithin, log_in};
 ghost use Rattle.group_cluster.specs.Promise.{HasPromise};
 
 use crate::cluster::Cluster;
-use crate::groups::ClusterEntries;
+use crate::groups::{ClusterEntries, Part};
 use group_calls::Entry;
 use group_core::World;
+use group_types::Shape;
 
 impl Cluster {
     /// Events led to the cluster, some of them cut short, and all holds of it that is promised of them.
@@ -54,15 +56,29 @@ impl ClusterEntries {
     pub fn get(&self, place: usize) -> Option<(u32, &Entry)>
         ensures { MatchOption result (slice_get self.now.log place ≡ None) (λ e. slice_get self.now.log place ≡ Some (e.0, e.1.now)) }
     {
-        let mut left = place as u64;
-        'parts: for i in 0..self.parts.len() {
-            let part = &self.parts[i];
-            if left < part.many {
-                let log = self.worlds[part.group as usize].log();
-                return Some((part.group, &log[part.from + left as usize]));
-            }
-            left -= part.many;
-        }
-        None
+        entry_at(self.shape, &self.worlds, &self.parts, place)
     }
+}
+
+// The same of a log that is made of parts.
+fn entry_at<'a>(
+    shape: Shape,
+    worlds: &'a [World],
+    parts: &[Part],
+    place: usize,
+) -> Option<(u32, &'a Entry)>
+    requires { AreWithin shape worlds.now parts.now }
+    ensures { MatchOption result (slice_get (log_in shape worlds.now parts.now) place ≡ None)
+        (λ e. slice_get (log_in shape worlds.now parts.now) place ≡ Some (e.0, e.1.now)) }
+{
+    let mut left = place as u64;
+    'parts: for i in 0..parts.len() {
+        let part = &parts[i];
+        if left < part.many {
+            let log = worlds[part.group as usize].log();
+            return Some((part.group, &log[part.from + left as usize]));
+        }
+        left -= part.many;
+    }
+    None
 }

@@ -1,9 +1,9 @@
 use Rattle.std.proofs.Common.{◌≡◌, drop}
 use Rattle.std.specs.Prelude.{slice_get}
 use Rattle.group_cluster.specs.Parts.{log_in}
-use Rattle.group_cluster.proofs.groups.ClusterEntries.get.Given as goal
+use Rattle.group_cluster.proofs.reading.entry_at.Given as goal
 
 abbrev pub invariant-parts : goal.invariant-parts
 invariant-parts l = record {
-  left : slice_get l.fn.self.log l.fn.place ≡ slice_get (log_in l.fn.self.shape l.fn.self.worlds (drop l.i l.fn.self.parts)) l.left;
+  left : slice_get (log_in l.fn.shape l.fn.worlds l.fn.parts) l.fn.place ≡ slice_get (log_in l.fn.shape l.fn.worlds (drop l.i l.fn.parts)) l.left;
 }
