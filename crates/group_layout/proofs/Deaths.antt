@@ -1,5 +1,5 @@
 -- Only a failure adds a dead process to a group, and it adds one at most.
-use Rattle.std.proofs.Common.{ℕ, zero, suc, ◌≡◌, ◌≤◌, ◌+◌, Bool, true, false, List, [], ◌∷◌, map, if◌then◌else◌, refl, sym, ap, ◌∙◌, arith}
+use Rattle.std.proofs.Common.{ℕ, zero, suc, ◌≡◌, ◌≢◌, ◌≤◌, ◌+◌, Bool, true, false, List, [], ◌∷◌, map, if◌then◌else◌, refl, sym, ap, ◌∙◌, arith}
 use Rattle.std.specs.List.{range_with_len}
 use Rattle.group_types.specs.Dimensions.{Dimensions}
 use Rattle.group_types.specs.Lists.{at, put}
@@ -128,3 +128,56 @@ dead-fail w p keep = by (node_of w p).dead where
       let few : dead_nodes cut ≤ suc (dead_nodes w.nodes) = dead-put-any (opening_node w.shape p) refl w.nodes (index_of w.shape p) (node_failed w.shape p keep (node_of w p)) in
       let told : dead_nodes (nodes_told w.shape.m cut) ≡ dead_nodes cut = dead-told _ cut in
       omega (arith, few, told)
+
+-- an event that is no failure leaves each node as dead as it was
+pub same-dead : (w : World) (e : Event) → ¬ (IsFailure e) → (d : Node) → d.dead ≡ false → (k : ℕ) → (at d (step w e).world.nodes k).dead ≡ (at d w.nodes k).dead
+same-dead w (Fail p keep) other d lives k = absurd (other tt)
+same-dead w (Ask caller op p) other d lives k = dead-at (opening_node w.shape p) d refl lives w.nodes (index_of w.shape p) k _
+    (treated-dead w.shape (node_of w p).down (node_of w p).dead (node_of w p) (ask_process w.shape (next_name w caller) op (node_of w p).process))
+same-dead w (Collect caller call p) other d lives k = dead-at (opening_node w.shape p) d refl lives w.nodes (index_of w.shape p) k _
+    (treated-dead w.shape (node_of w p).down (node_of w p).dead (node_of w p) (collect_from caller call (node_of w p).process (range_with_len 0 w.shape.k)))
+same-dead w (Flush p) other d lives k = dead-at (opening_node w.shape p) d refl lives w.nodes (index_of w.shape p) k _
+    (treated-dead w.shape (node_of w p).down (node_of w p).dead (node_of w p) (flush_process w.shape (node_of w p).process))
+same-dead w (Trace caller call x p) other d lives k = dead-at (opening_node w.shape p) d refl lives w.nodes (index_of w.shape p) k _
+    (unchanged-dead (node_of w p).down (node_of w p).dead (node_of w p) (fate_of w.shape caller call x.0 (node_of w p).process (head_at (node_of w p).process x.0)))
+same-dead w (Deliver from to) other d lives k =
+    let a : Node = node_of w from in
+    let b : Node = node_of w to in
+    let link : List Message = at [] a.links (index_of w.shape to) in
+    let both : DeliveryStep = deliver_nodes w.shape from to a b in
+    let sends : both.sender.dead ≡ a.dead = sender-dead w.shape b.down b.dead from to a b link in
+    let takes : both.receiver.node.dead ≡ b.dead = receiver-dead w.shape b.down b.dead from to a b link in
+    let nodes : List Node = with_node w.shape from both.sender w.nodes in
+    dead-at (opening_node w.shape to) d refl lives nodes (index_of w.shape to) k both.receiver.node
+    (takes ∙ sym (dead-at (opening_node w.shape from) (opening_node w.shape to) refl refl w.nodes (index_of w.shape from) (index_of w.shape to) both.sender sends))
+    ∙ dead-at (opening_node w.shape from) d refl lives w.nodes (index_of w.shape from) k both.sender sends
+
+-- a failure leaves the others so
+told-at : (down : Bool) (d : Node) (nodes : List Node) (k : ℕ) → (at d (map (with_down down) nodes) k).dead ≡ (at d nodes k).dead
+told-at down d [] k = refl
+told-at down d (x ∷ xs) zero = refl
+told-at down d (x ∷ xs) (suc k) = told-at down d xs k
+
+other-at : (d e : Node) → d.dead ≡ false → e.dead ≡ false → (nodes : List Node) (i k : ℕ) (x : Node) → k ≢ i → (at e (put d nodes i x) k).dead ≡ (at e nodes k).dead
+other-at d e dl el [] zero zero x apart = absurd (apart refl)
+other-at d e dl el [] zero (suc k) x apart = refl
+other-at d e dl el [] (suc i) zero x apart = dl ∙ sym el
+other-at d e dl el [] (suc i) (suc k) x apart = other-at d e dl el [] i k x (λ same. apart (ap suc same))
+other-at d e dl el (y ∷ ys) zero zero x apart = absurd (apart refl)
+other-at d e dl el (y ∷ ys) zero (suc k) x apart = refl
+other-at d e dl el (y ∷ ys) (suc i) zero x apart = refl
+other-at d e dl el (y ∷ ys) (suc i) (suc k) x apart = other-at d e dl el ys i k x (λ same. apart (ap suc same))
+
+pub fail-dead : (w : World) (p : ProcessId) (keep : ℕ) (d : Node) → d.dead ≡ false → (k : ℕ) → k ≢ index_of w.shape p → (at d (step w (Fail p keep)).world.nodes k).dead ≡ (at d w.nodes k).dead
+fail-dead w p keep d lives k apart = by (node_of w p).dead where
+  cut : List Node
+  cut = with_node w.shape p (node_failed w.shape p keep (node_of w p)) w.nodes
+
+  by : (dead : Bool) → (at d (all_change dead w.shape w.nodes p keep).nodes k).dead ≡ (at d w.nodes k).dead
+  by true = refl
+  by false = told-at _ d cut k ∙ other-at (opening_node w.shape p) d refl lives w.nodes (index_of w.shape p) k (node_failed w.shape p keep (node_of w p)) apart
+
+pub none-dead-at : (s : Dimensions) (d : Node) → d.dead ≡ false → (xs : List ℕ) (k : ℕ) → (at d (map (λ x. opening_node s (process_at s x)) xs) k).dead ≡ false
+none-dead-at s d lives [] k = lives
+none-dead-at s d lives (x ∷ xs) zero = refl
+none-dead-at s d lives (x ∷ xs) (suc k) = none-dead-at s d lives xs k

@@ -24,7 +24,7 @@ pub moved-append : (g : Groups) (ms ns : List Move) → all_moved g (ms ++ ns) �
 moved-append g [] ns = refl
 moved-append g (m ∷ ms) ns = moved-append (moved g m) ms ns
 
-turns-append : (g : Groups) (ms ns : List Move) → turns_made g (ms ++ ns) ≡ turns_made g ms ++ turns_made (all_moved g ms) ns
+pub turns-append : (g : Groups) (ms ns : List Move) → turns_made g (ms ++ ns) ≡ turns_made g ms ++ turns_made (all_moved g ms) ns
 turns-append g [] ns = refl
 turns-append g (m ∷ ms) ns = ap (λ (ts : List GroupTurn). record { group = m.group; turn = turn_of g m } ∷ ts) (turns-append (moved g m) ms ns)
 

@@ -14,7 +14,7 @@ use Rattle.group_calls.specs.declared.event.Event.{Event}
 use Rattle.group_calls.specs.declared.event.Event.TheVariants.{Ask, Collect, Deliver, Fail, Flush, Trace}
 use Rattle.group_layout.specs.Cluster.{Cluster, ClusterEntry, GroupTurn, Groups, MayAllHappen, Move, cluster_after, cluster_step, cluster_turns, failure_of, failures, logged_in, move_unless, moved, moves_of, node_failure, opening_cluster, tagged, turns_made, unless_own}
 use Rattle.group_layout.specs.Layout.{group_of, process_on}
-use Rattle.group_layout.specs.Promise.{AreRuns, EntriesAreOwn}
+use Rattle.group_layout.specs.Promise.{AreRuns, EntriesAreOwn, IsOwn}
 use Rattle.group_layout.specs.Within.{ClusterAnswersWithin}
 use Rattle.group_layout.specs.declared.event.ClusterEvent.{ClusterEvent}
 use Rattle.group_layout.specs.declared.event.ClusterEvent.TheVariants.{FailNode, InGroup}
@@ -37,11 +37,11 @@ AreOwn k count moves = Each (λ m. AsksOwn k count m.group m.event) moves
 abbrev pub TurnsOwn : ℕ → ℕ → List GroupTurn → Type 0
 TurnsOwn k count turns = Each (λ t. AsksOwn k count t.group t.turn.event) turns
 
-turns-own : (k count : ℕ) (g : Groups) (ms : List Move) → AreOwn k count ms → TurnsOwn k count (turns_made g ms)
+pub turns-own : (k count : ℕ) (g : Groups) (ms : List Move) → AreOwn k count ms → TurnsOwn k count (turns_made g ms)
 turns-own k count g [] own = tt
 turns-own k count g (m ∷ ms) own = (own.0, turns-own k count (moved g m) ms own.1)
 
-each-append : {X : Type 0} (P : X → Type 0) (xs ys : List X) → Each P xs → Each P ys → Each P (xs ++ ys)
+pub each-append : {X : Type 0} (P : X → Type 0) (xs ys : List X) → Each P xs → Each P ys → Each P (xs ++ ys)
 each-append P [] ys first rest = rest
 each-append P (x ∷ xs) ys first rest = (first.0, each-append P xs ys first.1 rest)
 
@@ -69,7 +69,7 @@ ask-own k count j own caller op p is = by (own == j) refl where
   by true word = (sym is ∙ eqb-true own j word, tt)
   by false word = tt
 
-moves-own : (s : Dimensions) (count : ℕ) (c : Cluster) (e : ClusterEvent) → Even s count c.groups → AreOwn s.k count (moves_of c e)
+pub moves-own : (s : Dimensions) (count : ℕ) (c : Cluster) (e : ClusterEvent) → Even s count c.groups → AreOwn s.k count (moves_of c e)
 moves-own s count c (InGroup j (Ask caller op p)) even =
     ask-own s.k count j (group_of (key_of op.act) c.groups.shape.k (length c.groups.worlds)) caller op p
     (λ i. group_of (key_of op.act) (even.shape i).k (even.many i))
@@ -118,17 +118,19 @@ turned (t ∷ ts) i x is = by (in-tagged t.group t.turn.logged (logged_in ts) i 
       let was : Turned ts x = rest n there in
       record { at = suc was.at; turn = was.turn; there = was.there; own = was.own; logged = was.logged }
 
+-- an entry is of its key's group where the calls are
+pub own-entry : (k count : ℕ) (turns : List GroupTurn) (i : ℕ) (x : ClusterEntry) → TurnsOwn k count turns → ClusterAnswersWithin k turns → slice_get (logged_in turns) i ≡ Some x → IsOwn k count x
+own-entry k count turns i x all within there =
+    let was : Turned turns x = turned turns i x there in
+    let ask = within.asked was.at was.turn x.1 was.there was.logged in
+    let own : AsksOwn k count ask.1.group ask.1.turn.event = each-get (λ t. AsksOwn k count t.group t.turn.event) turns ask.0 ask.1 all ask.4.there in
+    subst (AsksOwn k count ask.1.group) ask.4.event own ∙ ask.3 ∙ was.own
+
 pub entries_are_own : EntriesAreOwn
 entries_are_own s n count es limits layout may i d below =
     let c : Cluster = opening_cluster s n count in
     let turns : List GroupTurn = cluster_turns c es in
     let log : List ClusterEntry = (cluster_after c es).groups.log in
     let runs : AreRuns s count (cluster_after c es).groups turns = clusters_are_runs s n count es limits layout may in
-    let x : ClusterEntry = slice_index_or log i d in
-    let there : slice_get (logged_in turns) i ≡ Some x = ap (λ (l : List ClusterEntry). slice_get l i) (sym runs.log) ∙ slice_get-get_or log i d below in
-    let was : Turned turns x = turned turns i x there in
-    let within : ClusterAnswersWithin s.k turns = answers_are_within s n count es limits layout may in
-    let ask = within.asked was.at was.turn x.1 was.there was.logged in
-    let event = ask.4.event in
-    let own : AsksOwn s.k count ask.1.group ask.1.turn.event = each-get (λ t. AsksOwn s.k count t.group t.turn.event) turns ask.0 ask.1 (all-own s count c es (even-start s count) may) ask.4.there in
-    subst (AsksOwn s.k count ask.1.group) event own ∙ ask.3 ∙ was.own
+    own-entry s.k count turns i (slice_index_or log i d) (all-own s count c es (even-start s count) may) (answers_are_within s n count es limits layout may)
+    (ap (λ (l : List ClusterEntry). slice_get l i) (sym runs.log) ∙ slice_get-get_or log i d below)

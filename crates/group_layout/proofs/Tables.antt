@@ -11,7 +11,7 @@ use Rattle.group_layout.proofs.Legals.{legal-from}
 use Rattle.group_layout.proofs.Owning.{entries_are_own}
 use Rattle.group_layout.proofs.Runs.{makes-a-run}
 
-each-of : {X : Type 0} (P : X → Type 0) (xs : List X) → All P xs → Each P xs
+pub each-of : {X : Type 0} (P : X → Type 0) (xs : List X) → All P xs → Each P xs
 each-of P [] all = tt
 each-of P (x ∷ xs) all = (all 0 x (omega arith), each-of P xs (λ i d below. all (suc i) d (omega (arith, below))))
 

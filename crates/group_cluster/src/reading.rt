@@ -1,0 +1,84 @@
+ghost use Rattle.std.specs.Prelude.{◌≡◌, ◌<◌, false, length, slice_get, Some, None, MatchOption};
+ghost use Rattle.group_types.specs.Lists.{at};
+ghost use Rattle.group_layout.specs.Cluster.{world_in};
+ghost use Rattle.group_cluster.specs.Parts.{AreWithin, log_in};
+ghost use Rattle.group_cluster.specs.Promise.{HasPromise};
+
+use crate::cluster::Cluster;
+use crate::groups::{ClusterEntries, Part};
+use group_calls::Entry;
+use group_core::World;
+use group_types::Shape;
+
+impl Cluster {
+    /// Events led to the cluster, some of them cut short, and all holds of it that is promised of them.
+    pub fn run(&self)
+        ensures { HasPromise self.now }
+    {
+        let _failed = &self.failed;
+    }
+
+    /// The groups, and their log.
+    pub fn log(&self) -> &ClusterEntries
+        ensures log { result.now ≡ self.now.groups }
+        ensures promise { HasPromise self.now }
+    {
+        &self.groups
+    }
+
+    /// One of the groups.
+    pub fn world(&self, group: u32) -> &World
+        requires { group < length self.now.groups.worlds }
+        ensures { result.now ≡ world_in self.now.groups group }
+    {
+        self.groups.world(group)
+    }
+
+    /// Whether a node has failed.
+    pub fn has_failed(&self, node: u32) -> bool
+        requires { node < length self.now.failed }
+        ensures { result ≡ at false self.now.failed node }
+    {
+        self.failed[node as usize]
+    }
+}
+
+impl ClusterEntries {
+    /// One of the groups.
+    pub fn world(&self, group: u32) -> &World
+        requires { group < length self.now.worlds }
+        ensures { result.now ≡ world_in self.now group }
+    {
+        &self.worlds[group as usize]
+    }
+
+    /// The entry at a place of the log, with its group; none behind the end.
+    pub fn get(&self, place: usize) -> Option<(u32, &Entry)>
+        ensures { MatchOption result (slice_get self.now.log place ≡ None) (λ e. slice_get self.now.log place ≡ Some (e.0, e.1.now)) }
+    {
+        entry_at(self.shape, &self.worlds, &self.parts, place)
+    }
+}
+
+// The same of a log that is made of parts.
+fn entry_at<'a>(
+    shape: Shape,
+    worlds: &'a [World],
+    parts: &[Part],
+    place: usize,
+) -> Option<(u32, &'a Entry)>
+    requires { AreWithin shape worlds.now parts.now }
+    ensures { MatchOption result (slice_get (log_in shape worlds.now parts.now) place ≡ None)
+        (λ e. slice_get (log_in shape worlds.now parts.now) place ≡ Some (e.0, e.1.now)) }
+{
+    let mut left = place as u64;
+    'parts: for i in 0..parts.len() {
+        let part = &parts[i];
+        if left < part.many {
+            let log = worlds[part.group as usize].log();
+            return Some((part.group, &log[part.from + left as usize]));
+        }
+        left -= part.many;
+    }
+    None
+}
