@@ -20,9 +20,3 @@ mod tracing;
 
 pub use caller::StageCaller;
 pub use phase::{Next, Phase};
-//! Makes the calls of a connection over a group that threads share.
-#![tactic(auto)]
-
-mod caller;
-
-pub use caller::StageCaller;
