@@ -15,3 +15,4 @@ pub mod Dealing
 pub mod Stacks
 pub mod Deaths
 pub mod Gathering
+pub mod Peeking

@@ -13,3 +13,4 @@ pub mod SeatList
 pub mod Closed
 pub mod Gathered
 pub mod Emptied
+pub mod Looked

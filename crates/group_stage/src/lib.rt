@@ -10,7 +10,7 @@ mod delivering;
 mod failing;
 mod finishing;
 mod flushing;
-
+mod looking;
 mod opening;
 mod places;
 mod plays;
@@ -22,6 +22,7 @@ mod view;
 
 pub use answer::StageAnswer;
 pub use closing::Unclosed;
+pub use looking::Looked;
 pub use seat::Seat;
 pub use seats::Seats;
 pub use stage::Stage;

@@ -1,0 +1,4 @@
+pub mod Calling
+pub mod Failing
+pub mod Moving
+pub mod Ordering

@@ -1,0 +1,38 @@
+-- A caller of a group that threads share, and what its calls and orders make of it.
+use Rattle.std.specs.Prelude.{ℕ, ◌≡◌, ◌++◌, true, false, [], ◌∷◌}
+use Rattle.group_types.specs.Names.{IsProcess}
+use Rattle.group_types.specs.declared.process.ProcessId.{ProcessId}
+use Rattle.memc_table.specs.Asked.{Asked}
+use Rattle.memc_proto.specs.declared.end.CallEnd.{CallEnd}
+use Rattle.memc_proto.specs.declared.end.FailEnd.{FailEnd}
+use Rattle.memc_proto.specs.declared.end.FailEnd.TheVariants as ends
+use Rattle.group_stage.specs.Seated.{shape_of}
+use Rattle.stage_caller.specs.Calling.{HasStopped, IsCalled}
+use Rattle.stage_caller.specs.Failing.{IsFailed}
+use Rattle.stage_caller.specs.declared.caller.StageCaller.{StageCaller}
+
+-- it is the same caller of the same group, under the same rule
+pub record IsKept (before after : StageCaller) : Type 0 where
+  pub stage : after.stage ≡ before.stage
+  pub control : after.control ≡ before.control
+
+-- a call that was made
+pub record HasCalled (before : StageCaller) (op : Asked) (end : CallEnd) (after : StageCaller) : Type 0 where
+  pub same : IsKept before after
+  pub called : IsCalled before.seat op end after.seat
+
+-- what stands after want of memory: the events that were made before it
+pub record HasGone (before after : StageCaller) : Type 0 where
+  pub same : IsKept before after
+  pub stopped : HasStopped before.seat after.seat
+
+-- such orders are taken, and the group has the process
+pub record IsTaken (c : StageCaller) (p : ProcessId) : Type 0 where
+  pub control : c.control ≡ true
+  pub process : IsProcess (shape_of c.stage.now) p
+
+-- an order that a process fail, by its end
+abbrev pub IsOrdered : StageCaller → ProcessId → ℕ → FailEnd → StageCaller → Type 0
+IsOrdered before p keep ends.Off after = (before.control ≡ false) × (after ≡ before)
+IsOrdered before p keep ends.NoProcess after = (before.control ≡ true) × (¬ (IsProcess (shape_of before.stage.now) p)) × (after ≡ before)
+IsOrdered before p keep end after = IsTaken before p × IsKept before after × IsFailed before.seat p keep end after.seat

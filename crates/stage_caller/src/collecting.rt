@@ -1,0 +1,42 @@
+ghost use Rattle.std.specs.Prelude.{IfOk, OnErr};
+ghost use Rattle.memc_table.specs.Asked.{Asked};
+ghost use Rattle.group_types.specs.Names.{IsProcess};
+ghost use Rattle.group_stage.specs.Seated.{IsOf, shape_of};
+ghost use Rattle.stage_caller.specs.Calling.{IsIdle, collected_to, wish_of};
+ghost use Rattle.stage_caller.specs.Moving.{Gives, HasStepped};
+
+use crate::phase::{Phase, after_collect};
+use crate::step::{Step, heard_of, step_to};
+use group_stage::{Seat, Stage, StageAnswer};
+use group_types::ProcessId;
+use memc_proto::CallEnd;
+use std::alloc::AllocError;
+
+/// Collects a ticket at a process.
+pub(crate) fn collect(
+    stage: &Stage,
+    seat: &mut Seat,
+    call: u64,
+    at: ProcessId,
+) -> Result<Step, AllocError>
+    requires seat { IsOf stage.now seat.old }
+    requires process { IsProcess (shape_of stage.now) at }
+    ensures seat { IsOf stage.now seat.new }
+    ensures stepped { IfOk result (λ step. (op : Asked) → HasStepped (wish_of seat.old op) (Phase.Waits call) seat.old step seat.new) }
+    ensures paused { OnErr result (IsIdle seat.old seat.new) }
+{
+    let ended = stage.try_collect(seat, call, at)?;
+    Ok(collect_step(call, ended))
+}
+
+// What a collect came to.
+fn collect_step(call: u64, ended: StageAnswer) -> Step
+    ensures { Gives (collected_to call) (Phase.Waits call) ended result }
+{
+    let heard = heard_of(&ended);
+    match ended {
+        StageAnswer::Made(answer) => step_to(after_collect(call, answer), heard),
+        StageAnswer::Busy(_) => Step::Goes(Phase::Waits { call }, heard),
+        StageAnswer::Worn => Step::Ends(CallEnd::Worn),
+    }
+}

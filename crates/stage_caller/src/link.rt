@@ -1,0 +1,64 @@
+ghost use Rattle.std.specs.Prelude.{◌≡◌, ◌≢◌, ◌<◌, IfSome};
+ghost use Rattle.group_types.specs.Dimensions.{Dimensions};
+ghost use Rattle.group_types.specs.Names.{IsProcess};
+ghost use Rattle.stage_caller.specs.Moving.{IsLink};
+
+use crate::route::Route;
+use group_node::process_at;
+use group_types::{ProcessId, Shape};
+
+/// From one process to another.
+#[derive(Clone, Copy, Debug, PartialEq, Eq)]
+pub(crate) struct Link {
+    pub from: ProcessId,
+    pub to: ProcessId,
+}
+
+/// The links between the process that is asked and the others of its partition, to and fro, beginning at one by the
+/// caller's number.
+pub(crate) fn near_link(route: &Route, caller: u32, place: u32) -> Option<Link>
+    ensures { IfSome result (λ link. IsLink route.now.shape link.from link.to) }
+{
+    let others = route.shape.m();
+    let i = place / 2;
+    if others <= i {
+        return None;
+    }
+    let head = route.server();
+    let other = route.further(1 + caller.wrapping_add(i) % others).server();
+    if place.is_multiple_of(2) {
+        between(head, other)
+    } else {
+        between(other, head)
+    }
+}
+
+/// All links of the group.
+pub(crate) fn any_link(shape: Shape, place: u32) -> Option<Link>
+    ensures { IfSome result (λ link. IsLink shape link.from link.to) }
+{
+    let all = shape.k() + shape.m();
+    let others = all - 1;
+    if others == 0 {
+        return None;
+    }
+    let from = place / others;
+    if all <= from {
+        return None;
+    }
+    let to = (from + 1 + place % others) % all;
+    between(process_at(shape, from), process_at(shape, to))
+}
+
+// The link between two processes that differ.
+fn between(from: ProcessId, to: ProcessId) -> Option<Link>
+    ensures from { IfSome result (λ link. link.from ≡ from) }
+    ensures to { IfSome result (λ link. link.to ≡ to) }
+    ensures apart { IfSome result (λ link. link.from ≢ link.to) }
+{
+    if from == to {
+        None
+    } else {
+        Some(Link { from, to })
+    }
+}

@@ -1,0 +1,211 @@
+ghost use Rattle.std.specs.Prelude.{◌≡◌, IfSome};
+ghost use Rattle.group_types.specs.Names.{IsProcess};
+ghost use Rattle.stage_caller.specs.Moving.{CanMake, IsLink};
+
+use crate::link::{Link, any_link, near_link};
+use crate::phase::Phase;
+use crate::route::Route;
+use crate::step::{Heard, Move};
+use group_types::ProcessId;
+
+/// After so many rounds in which nothing moved all links are helped.
+const IDLE_ROUNDS: u32 = 4;
+
+/// Which links are helped before the call's own move, and the place of the next.
+#[derive(Clone, Copy, Debug, PartialEq, Eq)]
+enum Round {
+    Over,
+    Near(u32),
+    All(u32),
+}
+
+/// What a call knows of where to go and whom to help. No promise depends on it.
+#[derive(Clone, Copy)]
+pub(crate) struct Progress {
+    pub(crate) route: Route,
+    caller: u32,
+    round: Round,
+    waits: bool,
+    moved: bool,
+    idle: u32,
+    traces: bool,
+}
+
+impl Progress {
+    pub(crate) fn new(route: Route, caller: u32) -> Progress
+        ensures { result.route ≡ route }
+    {
+        Progress {
+            route,
+            caller,
+            round: Round::Over,
+            waits: false,
+            moved: true,
+            idle: 0,
+            traces: false,
+        }
+    }
+
+    /// How many rounds nothing has moved, where a round begins.
+    pub(crate) fn rests(&self) -> u32 {
+        match self.round {
+            Round::Over | Round::Near(0) | Round::All(0) => self.idle,
+            Round::Near(_) | Round::All(_) => 0,
+        }
+    }
+
+    /// The next move: a look at a link of the round, a delivery where a message waits there, or else the call's own.
+    pub(crate) fn next(&self, phase: Phase) -> Move
+        ensures { CanMake self.now.route.shape phase result }
+    {
+        match self.link() {
+            Some(link) if self.waits => Move::Deliver(link.from, link.to),
+            Some(link) => Move::Look(link.from, link.to),
+            None => self.own(phase, self.route.server()),
+        }
+    }
+
+    fn link(&self) -> Option<Link>
+        ensures { IfSome result (λ link. IsLink self.now.route.shape link.from link.to) }
+    {
+        match self.round {
+            Round::Over => None,
+            Round::Near(place) => near_link(&self.route, self.caller, place),
+            Round::All(place) => any_link(self.route.shape, place),
+        }
+    }
+
+    fn own(&self, phase: Phase, at: ProcessId) -> Move
+        requires { IsProcess self.now.route.shape at }
+        ensures { CanMake self.now.route.shape phase result }
+    {
+        match phase {
+            Phase::Asks => Move::Ask(at),
+            Phase::Waits { call } if self.traces => Move::Trace(call, at),
+            Phase::Waits { call } => Move::Collect(call, at),
+        }
+    }
+
+    /// What is known after a move that led to this phase.
+    pub(crate) fn after(&self, made: Move, phase: Phase, heard: Heard) -> Progress
+        ensures shape { result.route.shape ≡ self.now.route.shape }
+        ensures partition { result.route.partition ≡ self.now.route.partition }
+    {
+        match made {
+            Move::Look(..) if heard == Heard::Moves => Progress {
+                waits: true,
+                ..*self
+            },
+            Move::Look(..) | Move::Deliver(..) => self.after_link(heard),
+            Move::Ask(_) => self.after_ask(phase, heard),
+            Move::Collect(..) => self.after_collect(heard),
+            Move::Trace(..) => self.after_trace(phase, heard),
+        }
+    }
+
+    fn after_link(&self, heard: Heard) -> Progress
+        ensures { result.route ≡ self.now.route }
+    {
+        let round = match self.round {
+            Round::Over => Round::Over,
+            Round::Near(place) => Round::Near(place.saturating_add(1)),
+            Round::All(place) => Round::All(place.saturating_add(1)),
+        };
+        Progress {
+            round,
+            waits: false,
+            moved: self.moved || heard == Heard::Moves,
+            ..*self
+        }
+    }
+
+    fn after_ask(&self, phase: Phase, heard: Heard) -> Progress
+        ensures shape { result.route.shape ≡ self.now.route.shape }
+        ensures partition { result.route.partition ≡ self.now.route.partition }
+    {
+        if phase != Phase::Asks {
+            return self.helps(Round::Near(0));
+        }
+        match heard {
+            Heard::Elsewhere => self.goes_on(),
+            Heard::Block => self.helps(Round::All(0)),
+            Heard::Busy => self.helps(Round::Over),
+            Heard::Moves | Heard::Nothing => self.waits(),
+        }
+    }
+
+    fn after_collect(&self, heard: Heard) -> Progress
+        ensures shape { result.route.shape ≡ self.now.route.shape }
+        ensures partition { result.route.partition ≡ self.now.route.partition }
+    {
+        if heard != Heard::Elsewhere {
+            return self.waits();
+        }
+        Progress {
+            route: self.route.first(),
+            round: Round::Over,
+            traces: true,
+            ..*self
+        }
+    }
+
+    fn after_trace(&self, phase: Phase, heard: Heard) -> Progress
+        ensures shape { result.route.shape ≡ self.now.route.shape }
+        ensures partition { result.route.partition ≡ self.now.route.partition }
+    {
+        if phase == Phase::Asks {
+            return Progress {
+                round: Round::Over,
+                traces: false,
+                ..*self
+            };
+        }
+        if heard == Heard::Elsewhere {
+            self.goes_on()
+        } else {
+            self.helps(Round::All(0))
+        }
+    }
+
+    // To the process of the next rank, and round all links once none is left.
+    fn goes_on(&self) -> Progress
+        ensures shape { result.route.shape ≡ self.now.route.shape }
+        ensures partition { result.route.partition ≡ self.now.route.partition }
+    {
+        let route = self.route.further(1);
+        let round = if route.rank == 0 {
+            Round::All(0)
+        } else {
+            Round::Over
+        };
+        Progress { route, ..*self }.helps(round)
+    }
+
+    // Round the links of the call's own update, and then round all.
+    fn waits(&self) -> Progress
+        ensures { result.route ≡ self.now.route }
+    {
+        if self.idle < IDLE_ROUNDS {
+            self.helps(Round::Near(0))
+        } else {
+            self.helps(Round::All(0))
+        }
+    }
+
+    // A round begins.
+    fn helps(&self, round: Round) -> Progress
+        ensures { result.route ≡ self.now.route }
+    {
+        let idle = if self.moved {
+            0
+        } else {
+            self.idle.saturating_add(1)
+        };
+        Progress {
+            round,
+            idle,
+            moved: false,
+            ..*self
+        }
+    }
+}

@@ -1,0 +1,10 @@
+//! Callers over a group that threads share. They are tests of public calls alone, and stand apart from the crate that
+//! they are about since a crate is proved once more with its tests.
+#![tactic(auto)]
+
+#[cfg(test)]
+mod acts;
+#[cfg(test)]
+mod alone;
+#[cfg(test)]
+mod losing;
