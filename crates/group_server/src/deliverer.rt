@@ -5,7 +5,7 @@ ghost use Rattle.group_types.specs.Dimensions.{processes_of};
 use crate::bell::Bell;
 use group_calls::Answer;
 use group_node::process_at;
-use group_stage::{Seat, Stage, StageAnswer};
+use group_stage::{Looked, Seat, Stage, StageAnswer};
 use std::sync::Wait;
 use std::thread;
 use std::time::Duration;
@@ -59,7 +59,7 @@ impl<'a> Deliverer<'a> {
         LONGEST.max(processes * processes * FOR_LINK)
     }
 
-    // Tries each link once, and says whether anything was received.
+    // Looks at each link once, and says whether anything was received.
     fn go_round(&mut self) -> bool {
         let shape = self.stage.shape();
         let processes = shape.k() + shape.m();
@@ -74,7 +74,7 @@ impl<'a> Deliverer<'a> {
         moved
     }
 
-    // Tries the link between the processes with these indices, and says whether a message was received.
+    // Delivers over the link between the processes with these indices if it holds a message, and says whether one came.
     fn deliver(&mut self, from: u32, to: u32) -> bool
         requires from { from < processes_of (shape_of self.old.stage.now) }
         requires to { to < processes_of (shape_of self.old.stage.now) }
@@ -83,6 +83,9 @@ impl<'a> Deliverer<'a> {
     {
         let shape = self.stage.shape();
         let (from, to) = (process_at(shape, from), process_at(shape, to));
+        if self.stage.try_look(&mut self.seat, from, to) != Looked::Waits {
+            return false;
+        }
         match self.stage.try_deliver(&mut self.seat, from, to) {
             Ok(StageAnswer::Made(answer)) => answer != Answer::Idle,
             _ => false,

@@ -125,16 +125,7 @@ where
     ensures at_fault { OnErr result ((n : ℕ) × HasAccepted (L.accepted listener.old) (L.accepted listener.new) connections n) }
     ensures only { IfErr result (λ fault. fault ≡ ServeFault.AcceptFault) }
 {
-    let end = serve_all(
-        rt,
-        alloc,
-        listener,
-        desk,
-        gate,
-        workers,
-        connections,
-        clock,
-    );
+    let end = serve_all(rt, alloc, listener, desk, gate, workers, connections, clock);
     bell.ring();
     end
 }
