@@ -1,4 +1,4 @@
-use Rattle.std.proofs.Common.{◌≡◌, ◌<◌, ◌≤◌, ◌+◌, List, length, slice_index_or, ap, ◌∙◌, arith}
+use Rattle.std.proofs.Common.{◌≡◌, ◌≤◌, ◌+◌, List, length, slice_index_or, ap, ◌∙◌, arith}
 use Rattle.group_calls.specs.declared.entry.Entry.{Entry}
 use Rattle.group_cluster.specs.declared.groups.Part.{Part}
 use Rattle.group_cluster.proofs.Places.{found, left-behind, reached}

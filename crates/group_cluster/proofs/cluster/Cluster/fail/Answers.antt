@@ -1,10 +1,9 @@
 use Rattle.std.proofs.Common.{ℕ, ◌≡◌, ◌<◌, true, false, length, ◌∙◌, sym, ap, subst, arith}
 use Rattle.std.specs.List.{range_with_len}
 use Rattle.group_types.specs.Lists.{at}
-use Rattle.group_layout.specs.Cluster.{Cluster, Groups, MayAllMove, all_moved, cluster_step, failures, logged_in}
+use Rattle.group_layout.specs.Cluster.{Cluster, MayAllMove, all_moved, cluster_step, failures, logged_in}
 use Rattle.group_layout.specs.declared.event.ClusterEvent.TheVariants.{FailNode}
 use Rattle.group_cluster.specs.Begun.{Begun}
-use Rattle.group_cluster.specs.History.{HasHistory, IsCutShort}
 use Rattle.group_cluster.proofs.Downed.{cut-alike, cut-history, cut-step, dead-answer, dead-logged, dead-step, lives-answer, lives-history, lives-logged, lives-may, lives-step, on-err-any, read-failed}
 use Rattle.group_cluster.proofs.cluster.Cluster.fail.Goals as goal
 
