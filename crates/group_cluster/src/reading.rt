@@ -90,7 +90,8 @@ impl ClusterEntries {
 
     /// The entry at a place of the log, with its group; none behind the end.
     pub fn get(&self, place: usize) -> Option<(u32, &Entry)>
-        ensures { MatchOption result (slice_get self.now.log place ≡ None) (λ e. slice_get self.now.log place ≡ Some (e.0, e.1.now)) }
+        ensures { MatchOption result (slice_get self.now.log place ≡ None)
+            (λ e. slice_get self.now.log place ≡ Some (e.0, e.1.now)) }
     {
         entry_at(self.shape, &self.worlds, &self.parts, place)
     }
