@@ -11,9 +11,12 @@ use Rattle.group_layout.specs.declared.event.ClusterEvent.TheVariants.{FailNode,
 abbrev pub HasFewEvents : Groups → ℕ → Type 0
 HasFewEvents g j = (world_in g j).events < 2 ^ 62
 
+abbrev pub AllHaveFew : Groups → Type 0
+AllHaveFew g = (j : ℕ) → j < length g.worlds → HasFewEvents g j
+
 abbrev pub HaveFewEvents : Cluster → ClusterEvent → Type 0
 HaveFewEvents c (InGroup j event) = HasFewEvents c.groups j
-HaveFewEvents c (FailNode node keep) = (j : ℕ) → j < length c.groups.worlds → HasFewEvents c.groups j
+HaveFewEvents c (FailNode node keep) = AllHaveFew c.groups
 
 -- an event of a group
 abbrev pub move_of : ℕ → Event → Move

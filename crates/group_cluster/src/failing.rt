@@ -1,7 +1,7 @@
 ghost use Rattle.std.specs.Prelude.{◌≡◌, ◌<◌, ◌≤◌, ◌+◌, length, IfOk, OnErr, OnOk};
 ghost use Rattle.group_layout.specs.Cluster.{MayAllMove, all_moved};
 ghost use Rattle.group_cluster.specs.Begun.{Begun, group_moves, node_moves};
-ghost use Rattle.group_cluster.specs.History.{HasFewEvents};
+ghost use Rattle.group_cluster.specs.History.{AllHaveFew, HasFewEvents};
 
 use crate::groups::ClusterEntries;
 use group_calls::Event;
@@ -16,7 +16,7 @@ impl ClusterEntries {
         requires nodes { 1 ≤ nodes }
         requires count { length self.old.worlds ≤ 16 }
         requires processes { self.old.shape.k + self.old.shape.m ≤ 64 }
-        requires few { (j : _) → j < length self.old.worlds → HasFewEvents self.old j }
+        requires few { AllHaveFew self.old }
         requires may { MayAllMove self.old (node_moves self.old nodes node keep) }
         ensures ok { OnOk result (self.new ≡ all_moved self.old (node_moves self.old nodes node keep)) }
         ensures err { OnErr result (Begun self.old (node_moves self.old nodes node keep) self.new) }

@@ -2,6 +2,7 @@ ghost use Rattle.std.specs.Prelude.{◌≡◌, ◌<◌, ◌↔◌, IsTrue, false
 ghost use Rattle.group_types.specs.Lists.{at};
 ghost use Rattle.group_layout.specs.Cluster.{IsFailure, MayHappen, world_in};
 ghost use Rattle.group_run.specs.Headline.{MayCome};
+ghost use Rattle.group_cluster.specs.History.{AllHaveFew, HasFewEvents, HaveFewEvents};
 ghost use Rattle.group_cluster.specs.Parts.{AreWithin, log_in};
 ghost use Rattle.group_cluster.specs.Promise.{HasPromise};
 
@@ -68,6 +69,37 @@ impl Cluster {
         ensures { IsTrue result ↔ MayCome (world_in self.now.groups group) event.now }
     {
         self.world(group).may_come(event)
+    }
+
+    /// Whether fewer than 2^62 events were made in the worlds in which an event is made.
+    pub fn has_few_events(&self, event: &ClusterEvent) -> bool
+        requires { MayHappen self.now event.now }
+        ensures { IsTrue result ↔ HaveFewEvents self.now event.now }
+    {
+        match event {
+            ClusterEvent::InGroup { group, .. } => self.has_few(*group),
+            ClusterEvent::FailNode { .. } => self.all_have_few(),
+        }
+    }
+
+    // Whether fewer were made in one group.
+    fn has_few(&self, group: u32) -> bool
+        requires { group < length self.now.groups.worlds }
+        ensures { IsTrue result ↔ HasFewEvents self.now.groups group }
+    {
+        self.world(group).events() < 1 << 62
+    }
+
+    // The same of all groups.
+    fn all_have_few(&self) -> bool
+        ensures { IsTrue result ↔ AllHaveFew self.now.groups }
+    {
+        'groups: for group in 0..self.groups() {
+            if !self.has_few(group) {
+                return false;
+            }
+        }
+        true
     }
 
     /// Whether a node has failed.
