@@ -1,5 +1,6 @@
 -- The dead processes of each group stand on nodes whose failure happened or began, each on one of its own.
-use Rattle.std.proofs.Common.{ℕ, zero, suc, ◌≡◌, ◌≢◌, ◌<◌, ◌≤◌, ◌+◌, ◌==◌, Bool, true, false, List, [], ◌∷◌, ◌++◌, length, map, replicate, take, Option, Some, None, ◌⊎◌, inl, inr, if◌then◌else◌, refl, sym, ap, subst, ◌∙◌, arith}
+use Rattle.std.proofs.Common.{ℕ, zero, suc, ◌≡◌, ◌≢◌, ◌<◌, ◌≤◌, ◌+◌, ◌==◌, Bool, true, false, List, [], ◌∷◌}
+use Rattle.std.proofs.Common.{length, replicate, take, Option, Some, None, ◌⊎◌, inl, inr, if◌then◌else◌, refl, sym, ap, subst, ◌∙◌, arith}
 use Rattle.std.specs.List.{range_with_len}
 use Rattle.std.proofs.lemmas.Bool.{cases_eq, eqb-true}
 use Rattle.group_types.specs.Dimensions.{Dimensions}
@@ -15,7 +16,8 @@ use Rattle.group_calls.specs.declared.event.Event.TheVariants.{Ask, Collect, Del
 use Rattle.group_run.specs.Meaning.{IsDown}
 use Rattle.group_run.specs.Process.{Node}
 use Rattle.group_run.specs.World.{World, dead_nodes, opening, opening_node, step}
-use Rattle.group_layout.specs.Cluster.{Cluster, Groups, IsFailure, MayAllMove, MayHappen, Move, all_moved, failed_after, failure_of, failures, move_unless, moved, moves_of, node_failure, opening_cluster, other_group, world_in}
+use Rattle.group_layout.specs.Cluster.{Cluster, Groups, IsFailure, MayAllMove, MayHappen, Move, all_moved, failed_after}
+use Rattle.group_layout.specs.Cluster.{failure_of, failures, move_unless, moved, moves_of, node_failure, opening_cluster, other_group, world_in}
 use Rattle.group_layout.specs.Layout.{first_on, node_of, process_on}
 use Rattle.group_layout.specs.declared.event.ClusterEvent.{ClusterEvent}
 use Rattle.group_layout.specs.declared.event.ClusterEvent.TheVariants.{FailNode, InGroup}
@@ -185,7 +187,8 @@ module _ (s : Dimensions) (n count : ℕ) where
   stand-after ts g (InGroup j event) old = old
   stand-after ts g (FailNode node keep) old = λ j k dead. (let was = old j k dead in (was.0, still-true ts node (node_of n j k) was.1))
 
-  stand-history : (ts : List Bool) (c : Cluster) (hs : List Happening) → Even s count c.groups → length c.failed ≡ n → MayAll c hs → DeadStand ts c.groups → DeadStand (touched ts hs) (all_happened c hs).groups
+  stand-history : (ts : List Bool) (c : Cluster) (hs : List Happening) → Even s count c.groups → length c.failed ≡ n → MayAll c hs → DeadStand ts c.groups
+      → DeadStand (touched ts hs) (all_happened c hs).groups
   stand-history ts c [] even long may old = old
   stand-history ts c (h ∷ hs) even long may old =
       stand-history (failed_after ts h.event) (happened c h) hs (even-happened s count c h even may.0) (nodes-by h.made c h.event may.0 ∙ long) may.1

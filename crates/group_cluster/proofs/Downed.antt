@@ -1,17 +1,16 @@
 -- The failure of a node, as an event of the cluster.
-use Rattle.std.proofs.Common.{ℕ, ◌≡◌, ◌<◌, Bool, true, false, List, [], ◌++◌, length, take, Some, None, set, Result, Ok, Err, if◌then◌else◌, refl, sym, ap, subst, ◌∙◌}
+use Rattle.std.proofs.Common.{ℕ, ◌≡◌, ◌<◌, Bool, true, false, List, [], ◌++◌, length, take, Some, None, set, Result, Ok, Err, if◌then◌else◌, sym, ap, subst, ◌∙◌}
 use Rattle.std.specs.Prelude.{OnErr, slice_index_or}
 use Rattle.std.specs.List.{range_with_len}
 use Rattle.group_types.specs.Lists.{at, put}
 use Rattle.group_types.proofs.Lists.{at_index, put-at, set_put}
 use Rattle.group_layout.specs.Cluster.{Cluster, Groups, MayAllMove, Move, all_moved, cluster_step, failures, logged_in, moves_of, node_failure, turns_made}
-use Rattle.group_layout.specs.declared.event.ClusterAnswer.{ClusterAnswer}
 use Rattle.group_layout.specs.declared.event.ClusterAnswer.TheVariants as says
 use Rattle.group_layout.specs.declared.event.ClusterEvent.{ClusterEvent}
 use Rattle.group_layout.specs.declared.event.ClusterEvent.TheVariants.{FailNode}
 use Rattle.group_layout.proofs.Happening.{moves-may}
 use Rattle.group_cluster.specs.Begun.{Begun}
-use Rattle.group_cluster.specs.History.{Happening, HasHistory, IsCutShort, happened}
+use Rattle.group_cluster.specs.History.{HasHistory, IsCutShort}
 use Rattle.group_cluster.proofs.Cutting.{failures-silent, first-moves}
 use Rattle.group_cluster.proofs.Histories.{even-has, goes-on}
 

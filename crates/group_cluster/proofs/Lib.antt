@@ -1,7 +1,7 @@
+pub mod Borne
 pub mod Cutting
 pub mod Downed
 pub mod Histories
 pub mod Parted
-pub mod Promised
-pub mod Borne
 pub mod Places
+pub mod Promised

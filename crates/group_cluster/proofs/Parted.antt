@@ -1,9 +1,9 @@
 -- Parts of logs that grow.
-use Rattle.std.proofs.Common.{ℕ, zero, suc, ◌≡◌, ◌<◌, ◌≤◌, ◌+◌, ◌-◌, List, [], ◌∷◌, ◌++◌, length, take, drop, All, inl, inr, refl, sym, ap, subst, ◌∙◌, arith, Bool, true, false, ◌==◌, if◌then◌else◌}
+use Rattle.std.proofs.Common.{ℕ, zero, suc, ◌≡◌, ◌<◌, ◌≤◌, ◌+◌, List, [], ◌∷◌, ◌++◌, length, take, drop, inl, inr, refl, sym, ap, subst, ◌∙◌, arith, Bool, true, false, ◌==◌, if◌then◌else◌}
 use Rattle.std.specs.Prelude.{set, slice_index_or}
 use Rattle.std.proofs.lemmas.Bool.{eqb-true}
 use Rattle.std.proofs.Math.Seq.{drop-append_seam, take-length}
-use Rattle.std.proofs.lemmas.List.{append-nil, append_assoc, drop-append-le, length-append, take-append-le}
+use Rattle.std.proofs.lemmas.List.{append-nil, append_assoc, length-append, take-append-le}
 use Rattle.std.proofs.lemmas.List.Elements.{All-push}
 use Rattle.group_types.specs.Dimensions.{Dimensions}
 use Rattle.group_types.specs.Lists.{at, put}
@@ -12,7 +12,7 @@ use Rattle.group_calls.specs.declared.entry.Entry.{Entry}
 use Rattle.group_calls.specs.declared.event.Event.{Event}
 use Rattle.group_run.specs.World.{World, opening, step}
 use Rattle.law_moves.proofs.Reading.{grown-is}
-use Rattle.group_layout.specs.Cluster.{ClusterEntry, Groups, Move, moved, tagged, turn_of, world_in}
+use Rattle.group_layout.specs.Cluster.{ClusterEntry, moved, tagged}
 use Rattle.group_layout.proofs.Moves.{IsOrNot, is-or-not}
 use Rattle.group_cluster.specs.Parts.{AreWithin, IsWithin, groups_of, log_in, noted, part_in}
 use Rattle.group_cluster.specs.declared.groups.Part.{Part}

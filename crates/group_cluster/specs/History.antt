@@ -2,7 +2,8 @@
 use Rattle.std.specs.Prelude.{ℕ, ◌≡◌, ◌<◌, ◌^◌, Bool, List, [], ◌∷◌, ◌++◌, length, take, Option, Some, None}
 use Rattle.group_types.specs.Dimensions.{Dimensions}
 use Rattle.group_types.specs.Shape.{IsShape}
-use Rattle.group_layout.specs.Cluster.{Cluster, GroupTurn, Groups, IsLayout, MayHappen, Move, all_moved, failed_after, moves_of, opening_cluster, turns_made, world_in}
+use Rattle.group_calls.specs.declared.event.Event.{Event}
+use Rattle.group_layout.specs.Cluster.{Cluster, ClusterStep, GroupTurn, Groups, IsLayout, MayHappen, Move, all_moved, failed_after, logged_in, moves_of, opening_cluster, turns_made, world_in}
 use Rattle.group_layout.specs.declared.event.ClusterEvent.{ClusterEvent}
 use Rattle.group_layout.specs.declared.event.ClusterEvent.TheVariants.{FailNode, InGroup}
 
@@ -10,9 +11,20 @@ use Rattle.group_layout.specs.declared.event.ClusterEvent.TheVariants.{FailNode,
 abbrev pub HasFewEvents : Groups → ℕ → Type 0
 HasFewEvents g j = (world_in g j).events < 2 ^ 62
 
+abbrev pub AllHaveFew : Groups → Type 0
+AllHaveFew g = (j : ℕ) → j < length g.worlds → HasFewEvents g j
+
 abbrev pub HaveFewEvents : Cluster → ClusterEvent → Type 0
 HaveFewEvents c (InGroup j event) = HasFewEvents c.groups j
-HaveFewEvents c (FailNode node keep) = (j : ℕ) → j < length c.groups.worlds → HasFewEvents c.groups j
+HaveFewEvents c (FailNode node keep) = AllHaveFew c.groups
+
+-- an event of a group
+abbrev pub move_of : ℕ → Event → Move
+move_of j event = record { group = j; event = event }
+
+-- how many entries a step logged
+abbrev pub logged_by : ClusterStep → ℕ
+logged_by step = length (logged_in step.turns)
 
 -- an event that happened, or of which want of memory let so many moves be made
 pub record Happening : Type 0 where

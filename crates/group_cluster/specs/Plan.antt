@@ -2,9 +2,7 @@
 use Rattle.std.specs.Prelude.{ℕ, ◌≡◌, ◌<◌, ◌≤◌, ◌+◌, ◌*◌, ◌⊎◌}
 use Rattle.group_types.specs.Dimensions.{Dimensions, space_of}
 use Rattle.group_types.specs.Shape.{IsShape, IsFirstOutOfRange}
-use Rattle.group_types.specs.declared.shape.Field.{Field}
 use Rattle.group_types.specs.declared.shape.Field.TheVariants.{Blocks}
-use Rattle.group_layout.specs.Cluster.{IsLayout}
 use Rattle.group_cluster.specs.declared.layout.LayoutField.{LayoutField}
 use Rattle.group_cluster.specs.declared.layout.LayoutField.TheVariants as field
 

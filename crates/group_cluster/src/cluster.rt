@@ -1,7 +1,7 @@
-ghost use Rattle.std.specs.Prelude.{◌≡◌, length, IfOk, OnErr};
-ghost use Rattle.group_layout.specs.Cluster.{MayHappen, cluster_step, logged_in, opening_cluster};
+ghost use Rattle.std.specs.Prelude.{◌≡◌, IfOk, OnErr};
+ghost use Rattle.group_layout.specs.Cluster.{MayHappen, cluster_step, opening_cluster};
 ghost use Rattle.group_layout.specs.declared.event.ClusterEvent.TheVariants.{FailNode, InGroup};
-ghost use Rattle.group_cluster.specs.History.{HasFewEvents, HaveFewEvents, IsCutShort};
+ghost use Rattle.group_cluster.specs.History.{HasFewEvents, HaveFewEvents, IsCutShort, logged_by};
 
 use crate::groups::ClusterEntries;
 use crate::layout::Layout;
@@ -49,7 +49,7 @@ impl Cluster {
         requires may { MayHappen self.old event.now }
         ensures cluster { IfOk result (λ _. self.new ≡ (cluster_step self.old event.now).cluster) }
         ensures answer { IfOk result (λ out. out.answer ≡ (cluster_step self.old event.now).answer) }
-        ensures logged { IfOk result (λ out. out.logged ≡ length (logged_in (cluster_step self.old event.now).turns)) }
+        ensures logged { IfOk result (λ out. out.logged ≡ logged_by (cluster_step self.old event.now)) }
         ensures err { OnErr result (IsCutShort self.old event.now self.new) }
     {
         match event {
@@ -64,7 +64,7 @@ impl Cluster {
         requires may { MayHappen self.old (InGroup group event.now) }
         ensures cluster { IfOk result (λ _. self.new ≡ (cluster_step self.old (InGroup group event.now)).cluster) }
         ensures answer { IfOk result (λ out. out.answer ≡ (cluster_step self.old (InGroup group event.now)).answer) }
-        ensures logged { IfOk result (λ out. out.logged ≡ length (logged_in (cluster_step self.old (InGroup group event.now)).turns)) }
+        ensures logged { IfOk result (λ out. out.logged ≡ logged_by (cluster_step self.old (InGroup group event.now))) }
         ensures err { OnErr result (self.new ≡ self.old) }
     {
         if let Some(own) = self.groups.other_group(group, event) {
@@ -86,7 +86,7 @@ impl Cluster {
         requires may { MayHappen self.old (FailNode node keep) }
         ensures cluster { IfOk result (λ _. self.new ≡ (cluster_step self.old (FailNode node keep)).cluster) }
         ensures answer { IfOk result (λ out. out.answer ≡ (cluster_step self.old (FailNode node keep)).answer) }
-        ensures logged { IfOk result (λ out. out.logged ≡ length (logged_in (cluster_step self.old (FailNode node keep)).turns)) }
+        ensures logged { IfOk result (λ out. out.logged ≡ logged_by (cluster_step self.old (FailNode node keep))) }
         ensures err { OnErr result (IsCutShort self.old (FailNode node keep) self.new) }
     {
         if self.failed[node as usize] {

@@ -1,9 +1,7 @@
 ghost use Rattle.std.specs.Prelude.{◌≡◌, ◌<◌, ◌≤◌, ◌+◌, length, IfOk, OnErr, OnOk};
-ghost use Rattle.std.specs.List.{range_with_len};
-ghost use Rattle.group_layout.specs.Cluster.{MayAllMove, all_moved, failure_of, failures};
-ghost use Rattle.group_layout.specs.Layout as layout;
-ghost use Rattle.group_cluster.specs.Begun.{Begun};
-ghost use Rattle.group_cluster.specs.History.{HasFewEvents};
+ghost use Rattle.group_layout.specs.Cluster.{MayAllMove, all_moved};
+ghost use Rattle.group_cluster.specs.Begun.{Begun, group_moves, node_moves};
+ghost use Rattle.group_cluster.specs.History.{AllHaveFew, HasFewEvents};
 
 use crate::groups::ClusterEntries;
 use group_calls::Event;
@@ -18,10 +16,10 @@ impl ClusterEntries {
         requires nodes { 1 ≤ nodes }
         requires count { length self.old.worlds ≤ 16 }
         requires processes { self.old.shape.k + self.old.shape.m ≤ 64 }
-        requires few { (j : _) → j < length self.old.worlds → HasFewEvents self.old j }
-        requires may { MayAllMove self.old (failures self.old.shape nodes node keep (range_with_len 0 (length self.old.worlds))) }
-        ensures ok { OnOk result (self.new ≡ all_moved self.old (failures self.old.shape nodes node keep (range_with_len 0 (length self.old.worlds)))) }
-        ensures err { OnErr result (Begun self.old (failures self.old.shape nodes node keep (range_with_len 0 (length self.old.worlds))) self.new) }
+        requires few { AllHaveFew self.old }
+        requires may { MayAllMove self.old (node_moves self.old nodes node keep) }
+        ensures ok { OnOk result (self.new ≡ all_moved self.old (node_moves self.old nodes node keep)) }
+        ensures err { OnErr result (Begun self.old (node_moves self.old nodes node keep) self.new) }
     {
         let count = self.worlds.len() as u32;
         'groups: for group in 0..count {
@@ -37,8 +35,8 @@ impl ClusterEntries {
         requires count { group ≤ 16 }
         requires processes { self.old.shape.k + self.old.shape.m ≤ 64 }
         requires few { HasFewEvents self.old group }
-        requires may { MayAllMove self.old (failure_of self.old.shape keep group (layout.process_on nodes (self.old.shape.k + self.old.shape.m) node group)) }
-        ensures ok { OnOk result (self.new ≡ all_moved self.old (failure_of self.old.shape keep group (layout.process_on nodes (self.old.shape.k + self.old.shape.m) node group))) }
+        requires may { MayAllMove self.old (group_moves self.old nodes node keep group) }
+        ensures ok { OnOk result (self.new ≡ all_moved self.old (group_moves self.old nodes node keep group)) }
         ensures err { OnErr result (self.new ≡ self.old) }
     {
         let shape = self.shape;

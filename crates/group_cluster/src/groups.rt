@@ -2,7 +2,7 @@ ghost use Rattle.std.specs.Prelude.{◌≡◌, ◌<◌, ◌≤◌, ◌^◌, ◌+
 ghost use Rattle.group_run.specs.Headline.{MayCome};
 ghost use Rattle.group_layout.specs.Cluster.{moved, opening_groups, other_group, turn_of, unless_own, world_in};
 ghost use Rattle.group_layout.specs.Layout as layout;
-ghost use Rattle.group_cluster.specs.History.{HasFewEvents};
+ghost use Rattle.group_cluster.specs.History.{HasFewEvents, move_of};
 ghost use Rattle.group_cluster.specs.Parts.{noted};
 
 use group_calls::{Event, Out};
@@ -57,9 +57,9 @@ impl ClusterEntries {
         requires group { group < length self.old.worlds }
         requires few { HasFewEvents self.old group }
         requires may { MayCome (world_in self.old group) event.now }
-        ensures moved { IfOk result (λ _. self.new ≡ moved self.old (record { group = group; event = event.now })) }
-        ensures answer { IfOk result (λ out. out.answer ≡ (turn_of self.old (record { group = group; event = event.now })).answer) }
-        ensures logged { IfOk result (λ out. out.logged ≡ length (turn_of self.old (record { group = group; event = event.now })).logged) }
+        ensures moved { IfOk result (λ _. self.new ≡ moved self.old (move_of group event.now)) }
+        ensures answer { IfOk result (λ out. out.answer ≡ (turn_of self.old (move_of group event.now)).answer) }
+        ensures logged { IfOk result (λ out. out.logged ≡ length (turn_of self.old (move_of group event.now)).logged) }
         ensures err { OnErr result (self.new ≡ self.old) }
     {
         self.parts.reserve(1)?;

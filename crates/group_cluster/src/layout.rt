@@ -1,4 +1,5 @@
 ghost use Rattle.std.specs.Prelude.{◌≡◌, MatchResult};
+ghost use Rattle.group_types.specs.Dimensions.{Dimensions};
 ghost use Rattle.group_cluster.specs.Plan.{Plan, IsPlan, IsFirstBad};
 
 use group_types::{Field, Shape};
@@ -49,7 +50,8 @@ impl Layout {
         blocks: u32,
         block: u32,
     ) -> Result<Layout, BadLayout>
-        ensures { let asked : Plan = record { groups = groups; nodes = nodes; shape = record { k = k; m = m; blocks = blocks; block = block } } in
+        ensures { let shape : Dimensions = record { k = k; m = m; blocks = blocks; block = block } in
+            let asked : Plan = record { groups = groups; nodes = nodes; shape = shape } in
             MatchResult result (λ l. (l ≡ asked) × IsPlan asked) (λ bad. IsFirstBad asked bad.field) }
     {
         if groups < 1 || 16 < groups {

@@ -1,13 +1,16 @@
-ghost use Rattle.std.specs.Prelude.{◌≡◌, ◌<◌, false, length, slice_get, Some, None, MatchOption};
+ghost use Rattle.std.specs.Prelude.{◌≡◌, ◌<◌, ◌↔◌, IsTrue, false, length, slice_get, Some, None, MatchOption};
 ghost use Rattle.group_types.specs.Lists.{at};
-ghost use Rattle.group_layout.specs.Cluster.{world_in};
+ghost use Rattle.group_layout.specs.Cluster.{IsFailure, MayHappen, world_in};
+ghost use Rattle.group_run.specs.Headline.{MayCome};
+ghost use Rattle.group_cluster.specs.History.{AllHaveFew, HasFewEvents, HaveFewEvents};
 ghost use Rattle.group_cluster.specs.Parts.{AreWithin, log_in};
 ghost use Rattle.group_cluster.specs.Promise.{HasPromise};
 
 use crate::cluster::Cluster;
 use crate::groups::{ClusterEntries, Part};
-use group_calls::Entry;
+use group_calls::{Entry, Event};
 use group_core::World;
+use group_layout::ClusterEvent;
 use group_types::Shape;
 
 impl Cluster {
@@ -34,6 +37,71 @@ impl Cluster {
         self.groups.world(group)
     }
 
+    /// How many groups there are.
+    pub fn groups(&self) -> u32
+        ensures { result ≡ length self.now.groups.worlds }
+    {
+        self.groups.worlds.len() as u32
+    }
+
+    /// How many nodes there are.
+    pub fn nodes(&self) -> u32
+        ensures { result ≡ length self.now.failed }
+    {
+        self.failed.len() as u32
+    }
+
+    /// Whether an event may happen: its group or node is there, and a group's event may come there and is no failure.
+    pub fn may_happen(&self, event: &ClusterEvent) -> bool
+        ensures { IsTrue result ↔ MayHappen self.now event.now }
+    {
+        match event {
+            ClusterEvent::InGroup { group, event } => {
+                *group < self.groups() && self.may_move(*group, event) && !is_failure(event)
+            }
+            ClusterEvent::FailNode { node, .. } => *node < self.nodes(),
+        }
+    }
+
+    // Whether a group's event may come.
+    fn may_move(&self, group: u32, event: &Event) -> bool
+        requires { group < length self.now.groups.worlds }
+        ensures { IsTrue result ↔ MayCome (world_in self.now.groups group) event.now }
+    {
+        self.world(group).may_come(event)
+    }
+
+    /// Whether fewer than 2^62 events were made in the worlds in which an event is made.
+    pub fn has_few_events(&self, event: &ClusterEvent) -> bool
+        requires { MayHappen self.now event.now }
+        ensures { IsTrue result ↔ HaveFewEvents self.now event.now }
+    {
+        match event {
+            ClusterEvent::InGroup { group, .. } => self.has_few(*group),
+            ClusterEvent::FailNode { .. } => self.all_have_few(),
+        }
+    }
+
+    // Whether fewer were made in one group.
+    fn has_few(&self, group: u32) -> bool
+        requires { group < length self.now.groups.worlds }
+        ensures { IsTrue result ↔ HasFewEvents self.now.groups group }
+    {
+        self.world(group).events() < 1 << 62
+    }
+
+    // The same of all groups.
+    fn all_have_few(&self) -> bool
+        ensures { IsTrue result ↔ AllHaveFew self.now.groups }
+    {
+        'groups: for group in 0..self.groups() {
+            if !self.has_few(group) {
+                return false;
+            }
+        }
+        true
+    }
+
     /// Whether a node has failed.
     pub fn has_failed(&self, node: u32) -> bool
         requires { node < length self.now.failed }
@@ -54,9 +122,23 @@ impl ClusterEntries {
 
     /// The entry at a place of the log, with its group; none behind the end.
     pub fn get(&self, place: usize) -> Option<(u32, &Entry)>
-        ensures { MatchOption result (slice_get self.now.log place ≡ None) (λ e. slice_get self.now.log place ≡ Some (e.0, e.1.now)) }
+        ensures { MatchOption result (slice_get self.now.log place ≡ None)
+            (λ e. slice_get self.now.log place ≡ Some (e.0, e.1.now)) }
     {
         entry_at(self.shape, &self.worlds, &self.parts, place)
+    }
+}
+
+fn is_failure(event: &Event) -> bool
+    ensures { IsTrue result ↔ IsFailure event.now }
+{
+    match event {
+        Event::Fail { .. } => true,
+        Event::Ask { .. }
+        | Event::Collect { .. }
+        | Event::Deliver { .. }
+        | Event::Flush { .. }
+        | Event::Trace { .. } => false,
     }
 }
 

@@ -1,4 +1,4 @@
-use Rattle.std.proofs.Common.{◌≡◌, ◌<◌, ◌≤◌, ◌+◌, List, length, slice_index_or, ap, ◌∙◌, arith}
+use Rattle.std.proofs.Common.{◌≡◌, ◌≤◌, ◌+◌, List, length, slice_index_or, ap, ◌∙◌, arith}
 use Rattle.group_calls.specs.declared.entry.Entry.{Entry}
 use Rattle.group_cluster.specs.declared.groups.Part.{Part}
 use Rattle.group_cluster.proofs.Places.{found, left-behind, reached}
@@ -41,4 +41,7 @@ returns-then-left-part c =
 
 pub parts-preserved : goal.parts-preserved
 parts-preserved c =
-    record { left = left-behind c.args.shape c.args.worlds.now c.args.parts.now c.requires c.args.place c.parts.i c.parts.left (record { group = 0; from = 0; many = 0 }) c.parts-test.true c.parts.invariant.left c.if-left-part.false }
+    record {
+      left = left-behind c.args.shape c.args.worlds.now c.args.parts.now c.requires c.args.place c.parts.i c.parts.left (record { group = 0; from = 0; many = 0 }) c.parts-test.true
+          c.parts.invariant.left c.if-left-part.false;
+    }

@@ -1,4 +1,4 @@
-use Rattle.std.proofs.Common.{ℕ, ◌≡◌, ◌<◌, ◌≤◌, ◌+◌, length, sym, ap, subst, arith}
+use Rattle.std.proofs.Common.{◌≡◌, ◌<◌, ◌≤◌, ◌+◌, length, sym, ap, subst, arith}
 use Rattle.group_types.specs.Dimensions.{Dimensions}
 use Rattle.group_layout.specs.Cluster.{Groups}
 use Rattle.group_cluster.proofs.Cutting.{may-here, next-started, same-many, same-shape}

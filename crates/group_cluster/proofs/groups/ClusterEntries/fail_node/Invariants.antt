@@ -1,4 +1,4 @@
-use Rattle.std.proofs.Common.{◌≡◌, length}
+use Rattle.std.proofs.Common.{length}
 use Rattle.group_cluster.proofs.Cutting.{Started}
 use Rattle.group_cluster.proofs.groups.ClusterEntries.fail_node.Given as goal
 
