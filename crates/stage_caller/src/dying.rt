@@ -36,7 +36,7 @@ fn a_settled_update_is_told(rt: HostRuntime) -> Result<(), Fail> {
     Ok(())
 }
 
-// Whether a set ends as stored and is read, asked so often, whose head dies after so many of its messages were received
+// Whether a set ends as stored and is read, asked at least so often, whose head dies after so many of its messages were received
 // and whose links keep so many each.
 fn ends_truly(alloc: Global, loss: (u32, u32), asks: u64) -> Result<bool, Fail> {
     let (stage, mut seats) = Stage::new(alloc, Shape::new(2, 2, 4, 16)?, 2)?;
@@ -76,7 +76,7 @@ fn settles(
     let end = go_on(stage, &mut seat, set, Phase::Waits { call }, route)?;
     let mut reader = StageCaller::new(stage, other, false);
     let read = reader.call(get)?;
-    Ok(is_stored(&end) && is_found(&read) && seat.asks() == asks)
+    Ok(is_stored(&end) && is_found(&read) && asks <= seat.asks())
 }
 
 // The second seat delivers so many messages of the head to the parity processes, and then lets it die.
