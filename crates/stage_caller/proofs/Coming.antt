@@ -126,55 +126,51 @@ asks-more before after xs same made =
     after.is_seat.asked ∙ ap (λ (c : ℕ). asks_by c (view_of after).made) same.caller ∙ ap (asks_by before.caller) made
     ∙ asks-append before.caller (view_of before).made xs ∙ ap (λ (n : ℕ). n + asks_by before.caller xs) (sym before.is_seat.asked)
 
-same-wish : (before after : Seat) (op : Asked) → IsSame before after → wish_of after op ≡ wish_of before op
+pub same-wish : (before after : Seat) (op : Asked) → IsSame before after → wish_of after op ≡ wish_of before op
 same-wish before after op same =
     ap (λ (c : ℕ). record { caller = c; op = op; home = home_of (key_of op.act) (view_of after).shape.k }) same.caller
     ∙ ap (λ (k : ℕ). record { caller = before.caller; op = op; home = home_of (key_of op.act) k }) (ap (λ (s : _). s.k) same.shape)
 
-pub come-none : (before : Seat) (op : Asked) → HasCome before op before (Goes Asks)
-come-none before op = record {
+pub come-none : (before : Seat) (op : Asked) (start : Phase) → HasCome before op start before (Goes start)
+come-none before op start = record {
   same = record { table = refl; shape = refl; caller = refl };
   events = [];
   made = sym (append-nil (view_of before).made);
   brings = refl;
 }
 
-pub come-more : (before middle after : Seat) (op : Asked) (phase : Phase) (step : Step) → HasCome before op middle (Goes phase)
-    → (s : HasStepped (wish_of middle op) phase middle step after) → HasCome before op after s.last
-come-more before middle after op phase step come s = record {
+pub come-more : (before middle after : Seat) (op : Asked) (start phase : Phase) (step : Step) → HasCome before op start middle (Goes phase)
+    → (s : HasStepped (wish_of middle op) phase middle step after) → HasCome before op start after s.last
+come-more before middle after op start phase step come s = record {
   same = record { table = s.same.table ∙ come.same.table; shape = s.same.shape ∙ come.same.shape; caller = s.same.caller ∙ come.same.caller };
   events = come.events ++ s.events;
   made = s.made ∙ ap (λ (xs : List Numbered). xs ++ s.events) come.made ∙ append_assoc (view_of before).made come.events s.events;
-  brings = brings-append (wish_of before op) before.asks (Goes Asks) (Goes phase) s.last come.events s.events come.brings
+  brings = brings-append (wish_of before op) before.asks (Goes start) (Goes phase) s.last come.events s.events come.brings
       (subst (λ (w : Wish). Brings w (before.asks + asks_by before.caller come.events) (Goes phase) s.events s.last) (same-wish before middle op come.same)
       (subst (λ (n : ℕ). Brings (wish_of middle op) n (Goes phase) s.events s.last) (asks-more before middle come.events come.same come.made) s.brings));
 }
 
-pub come-paused : (before middle after : Seat) (op : Asked) (last : Next) → HasCome before op middle last → IsIdle middle after → HasCome before op after last
-come-paused before middle after op last come paused = record {
+pub come-paused : (before middle after : Seat) (op : Asked) (start : Phase) (last : Next) → HasCome before op start middle last → IsIdle middle after → HasCome before op start after last
+come-paused before middle after op start last come paused = record {
   same = record { table = paused.same.table ∙ come.same.table; shape = paused.same.shape ∙ come.same.shape; caller = paused.same.caller ∙ come.same.caller };
   events = come.events;
   made = paused.made ∙ come.made;
   brings = come.brings;
 }
 
-pub come-asked : (before after : Seat) (op : Asked) (phase : Phase) → HasCome before op after (Goes phase) → IsAsked after.asks phase
-come-asked before after op phase come = subst (λ (n : ℕ). IsAsked n phase) (sym (asks-more before after come.events come.same come.made))
-    (brings-in (wish_of before op) before.asks (Goes Asks) (Goes phase) come.events come.brings tt)
+pub come-asked : (before after : Seat) (op : Asked) (start phase : Phase) → IsAsked before.asks start → HasCome before op start after (Goes phase) → IsAsked after.asks phase
+come-asked before after op start phase asked come = subst (λ (n : ℕ). IsAsked n phase) (sym (asks-more before after come.events come.same come.made))
+    (brings-in (wish_of before op) before.asks (Goes start) (Goes phase) come.events come.brings asked)
 
-pub come-goes : (before middle after : Seat) (op : Asked) (phase next : Phase) (step : Step) (heard : _) → step ≡ steps.Goes next heard → HasCome before op middle (Goes phase)
-    → HasStepped (wish_of middle op) phase middle step after → HasCome before op after (Goes next)
-come-goes before middle after op phase next step heard is come s =
-    subst (HasCome before op after) (subst (Leads middle after s.last) is s.leads).0 (come-more before middle after op phase step come s)
+pub come-goes : (before middle after : Seat) (op : Asked) (start phase next : Phase) (step : Step) (heard : _) → step ≡ steps.Goes next heard → HasCome before op start middle (Goes phase)
+    → HasStepped (wish_of middle op) phase middle step after → HasCome before op start after (Goes next)
+come-goes before middle after op start phase next step heard is come s =
+    subst (HasCome before op start after) (subst (Leads middle after s.last) is s.leads).0 (come-more before middle after op start phase step come s)
 
-pub calls-rise : (wish : Wish) (before after : Seat) (phase next : Phase) (step : Step) (heard : _) → step ≡ steps.Goes next heard
-    → HasStepped wish phase before step after → after.calls ≡ before.calls + 1
-calls-rise wish before after phase next step heard is s = (subst (Leads before after s.last) is s.leads).1
-
-pub called : (before middle after : Seat) (op : Asked) (phase : Phase) (step : Step) (end : CallEnd) → step ≡ steps.Ends end → HasCome before op middle (Goes phase)
-    → HasStepped (wish_of middle op) phase middle step after → IsCalled before op end after
-called before middle after op phase step end is come s = record {
+pub called : (before middle after : Seat) (op : Asked) (start phase : Phase) (step : Step) (end : CallEnd) → step ≡ steps.Ends end → HasCome before op start middle (Goes phase)
+    → HasStepped (wish_of middle op) phase middle step after → IsCalled before op start end after
+called before middle after op start phase step end is come s = record {
   last = s.last;
-  come = come-more before middle after op phase step come s;
+  come = come-more before middle after op start phase step come s;
   over = subst (Leads middle after s.last) is s.leads;
 }

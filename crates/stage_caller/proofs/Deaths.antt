@@ -11,11 +11,11 @@ use Rattle.stage_caller.specs.declared.phase.Next.TheVariants.{Goes}
 use Rattle.stage_caller.specs.declared.phase.Phase.TheVariants.{Asks}
 use Rattle.stage_caller.proofs.Coming.{come-none, come-paused}
 
-pub stopped : (before middle after : Seat) → IsIdle before middle → IsSame middle after → IsUnmade (view_of middle) (view_of after) → HasStopped before after
+pub stopped : (before middle after : Seat) → IsIdle before middle → IsSame middle after → IsUnmade (view_of middle) (view_of after) → HasStopped before Asks after
 stopped before middle after idle same unmade = record {
   op = any;
   last = Goes Asks;
-  come = come-paused before middle after any (Goes Asks) (come-paused before before middle any (Goes Asks) (come-none before any) idle) (record { same = same; made = unmade.made });
+  come = come-paused before middle after any Asks (Goes Asks) (come-paused before before middle any Asks (Goes Asks) (come-none before any Asks) idle) (record { same = same; made = unmade.made });
 } where
   any : Asked
   any = record { moment = 0; act = Get [] }

@@ -81,21 +81,21 @@ pub record IsIdle (before after : Seat) : Type 0 where
   pub same : IsSame before after
   pub made : (view_of after).made ≡ (view_of before).made
 
--- what a call for an op made of its seat so far
-pub record HasCome (before : Seat) (op : Asked) (after : Seat) (last : Next) : Type 0 where
+-- what a call for an op made of its seat since it stood at a phase
+pub record HasCome (before : Seat) (op : Asked) (phase : Phase) (after : Seat) (last : Next) : Type 0 where
   pub same : IsSame before after
   pub events : List Numbered
   pub made : (view_of after).made ≡ (view_of before).made ++ events
-  pub brings : Brings (wish_of before op) before.asks (Goes Asks) events last
+  pub brings : Brings (wish_of before op) before.asks (Goes phase) events last
 
--- what a call made of its seat that ended so
-pub record IsCalled (before : Seat) (op : Asked) (end : CallEnd) (after : Seat) : Type 0 where
+-- what a call made of its seat since a phase, and ended so
+pub record IsCalled (before : Seat) (op : Asked) (phase : Phase) (end : CallEnd) (after : Seat) : Type 0 where
   pub last : Next
-  pub come : HasCome before op after last
+  pub come : HasCome before op phase after last
   pub over : IsOver after last end
 
 -- what stands after want of memory: the events of a call that was cut short
-pub record HasStopped (before after : Seat) : Type 0 where
+pub record HasStopped (before : Seat) (phase : Phase) (after : Seat) : Type 0 where
   pub op : Asked
   pub last : Next
-  pub come : HasCome before op after last
+  pub come : HasCome before op phase after last

@@ -9,6 +9,7 @@ use Rattle.memc_proto.specs.declared.end.FailEnd.TheVariants as ends
 use Rattle.group_stage.specs.Seated.{shape_of}
 use Rattle.stage_caller.specs.Calling.{HasStopped, IsCalled}
 use Rattle.stage_caller.specs.Failing.{IsFailed}
+use Rattle.stage_caller.specs.declared.phase.Phase.TheVariants.{Asks}
 use Rattle.stage_caller.specs.declared.caller.StageCaller.{StageCaller}
 
 -- it is the same caller of the same group, under the same rule
@@ -19,12 +20,12 @@ pub record IsKept (before after : StageCaller) : Type 0 where
 -- a call that was made
 pub record HasCalled (before : StageCaller) (op : Asked) (end : CallEnd) (after : StageCaller) : Type 0 where
   pub same : IsKept before after
-  pub called : IsCalled before.seat op end after.seat
+  pub called : IsCalled before.seat op Asks end after.seat
 
 -- what stands after want of memory: the events that were made before it
 pub record HasGone (before after : StageCaller) : Type 0 where
   pub same : IsKept before after
-  pub stopped : HasStopped before.seat after.seat
+  pub stopped : HasStopped before.seat Asks after.seat
 
 -- such orders are taken, and the group has the process
 pub record IsTaken (c : StageCaller) (p : ProcessId) : Type 0 where
