@@ -6,8 +6,8 @@ use Rattle.group_types.specs.Dimensions.{Dimensions}
 use Rattle.group_config.specs.Keys.{k_in, m_in, block_in, blocks_in, address_in, workers_in, connections_in, control_in, all_known}
 use Rattle.group_config.specs.declared.fault.ConfigFault.{ConfigFault}
 use Rattle.group_config.specs.declared.fault.ConfigFault.TheVariants.{BadConfig, Want}
-use Rattle.group_config.specs.declared.key.ConfigKey.{ConfigKey}
-use Rattle.group_config.specs.declared.key.ConfigKey.TheVariants.{K, M, Block, Blocks, Address, Workers, Connections, Control, Unknown}
+use Rattle.group_types.specs.declared.config_key.ConfigKey.{ConfigKey}
+use Rattle.group_types.specs.declared.config_key.ConfigKey.TheVariants.{K, M, Block, Blocks, Address, Workers, Connections, Control, Unknown}
 use Rattle.group_config.specs.declared.settings.Settings.{Settings}
 
 -- the text is UTF-8 and this TOML document

@@ -1,5 +1,5 @@
-use crate::key::ConfigKey;
 use edge_io::Failed;
+use group_types::ConfigKey;
 use std::alloc::AllocError;
 use std::error::Error;
 use std::fmt;

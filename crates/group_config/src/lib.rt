@@ -6,7 +6,6 @@
 
 mod address;
 mod fault;
-mod key;
 mod known;
 mod reading;
 mod settings;
@@ -16,7 +15,6 @@ mod values;
 
 pub use address::Address;
 pub use fault::{ConfigFault, TextFault};
-pub use key::ConfigKey;
 pub use reading::read_settings;
 pub use settings::Settings;
 pub use text::read_text;

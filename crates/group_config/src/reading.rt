@@ -3,16 +3,15 @@ ghost use Rattle.toml.specs.Data.{Members};
 ghost use Rattle.toml.specs.View.{table_view};
 ghost use Rattle.group_config.specs.Reading.{IsDocument, IsNoDocument, Tells, behind_shape, settings_of};
 ghost use Rattle.group_config.specs.declared.fault.ConfigFault.TheVariants.{BadConfig, Want};
-ghost use Rattle.group_config.specs.declared.key.ConfigKey.TheVariants.{Syntax};
+ghost use Rattle.group_types.specs.declared.config_key.ConfigKey.TheVariants.{Syntax};
 
 use crate::address::Address;
 use crate::fault::ConfigFault;
-use crate::key::ConfigKey;
 use crate::known::all_known_in;
 use crate::settings::Settings;
 use crate::shape::shape_in;
 use crate::values::{number_or, short_text_of, truth_or_false, value_at};
-use group_types::Shape;
+use group_types::{ConfigKey, Shape};
 use std::alloc::Global;
 use toml::Table;
 

@@ -5,9 +5,8 @@ ghost use Rattle.group_types.specs.Shape.{most_space};
 ghost use Rattle.group_config.specs.Keys.{data_of, number, only};
 ghost use Rattle.group_config.specs.Reading.{shape_of};
 
-use crate::key::ConfigKey;
 use crate::values::{number_of, value_at};
-use group_types::Shape;
+use group_types::{ConfigKey, Shape};
 use toml::{Table, Value};
 
 /// The most bytes of a space.

@@ -5,6 +5,7 @@
 #![tactic(auto)]
 
 pub mod byte_list;
+pub mod config_key;
 pub mod hash;
 pub mod key;
 pub mod key_limits;
@@ -15,6 +16,7 @@ pub mod run;
 pub mod shape;
 
 pub use byte_list::ByteList;
+pub use config_key::ConfigKey;
 pub use hash::home;
 pub use key::{Key, KeyFault};
 pub use key_limits::is_key;

@@ -1,6 +1,7 @@
 // Settings: their limits in bytes, and what a person is told. What each key may be is told by rows of text elsewhere.
 use edge_io::MemorySource;
-use group_config::{ConfigFault, ConfigKey, TextFault, read_settings, read_text};
+use group_config::{ConfigFault, TextFault, read_settings, read_text};
+use group_types::ConfigKey;
 use std::alloc::{AllocError, Global};
 use std::test::Fail;
 
