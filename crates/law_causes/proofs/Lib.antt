@@ -1,0 +1,9 @@
+pub mod Always
+pub mod Calls
+pub mod Drained
+pub mod Flushing
+pub mod Holding
+pub mod Standing
+pub mod Unfinished
+pub mod Values
+pub mod Waiting
