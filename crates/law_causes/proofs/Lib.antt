@@ -3,6 +3,7 @@ pub mod Calls
 pub mod Drained
 pub mod Flushing
 pub mod Holding
+pub mod Lasting
 pub mod Standing
 pub mod Unfinished
 pub mod Values

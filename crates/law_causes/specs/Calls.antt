@@ -1,11 +1,13 @@
 -- When a process holds a call, and when no longer.
-use Rattle.std.specs.Prelude.{ℕ, ◌≡◌, ◌++◌, List, [], ◌∷◌}
+use Rattle.std.specs.Prelude.{ℕ, ◌≡◌, ◌⊎◌, ◌++◌, List, [], ◌∷◌, Contains}
 use Rattle.group_types.specs.Dimensions.{Dimensions}
 use Rattle.group_types.specs.Lists.{at}
+use Rattle.group_types.specs.Names.{IsProcess}
 use Rattle.group_types.specs.declared.process.ProcessId.{ProcessId}
 use Rattle.memc_table.specs.Asked.{Asked}
 use Rattle.memc_table.specs.declared.reply.Reply as replies
 use Rattle.group_message.specs.declared.update.Outcome.{Outcome}
+use Rattle.group_calls.specs.declared.event.Answer.{Answer}
 use Rattle.group_calls.specs.declared.event.Answer.TheVariants.{Reply, Ticket}
 use Rattle.group_calls.specs.declared.event.Event.{Event}
 use Rattle.group_calls.specs.declared.event.Event.TheVariants.{Ask, Collect}
@@ -32,9 +34,22 @@ abbrev pub RepliedAreForgotten : World → Type 0
 RepliedAreForgotten w = (caller call : ℕ) (p : ProcessId) (reply : replies.Reply) → MayCome w (Collect caller call p) → (step w (Collect caller call p)).turn.answer ≡ Reply reply
     → (d : ℕ) (h : Held) → ¬ (HoldsCall (step w (Collect caller call p)).world p caller call d h)
 
+-- the event is a collect of the held call, at the process that holds it, and is replied to
+abbrev pub IsCollected : Event → ProcessId → Held → Answer → Type 0
+IsCollected (Collect caller call q) p h (Reply reply) = (q ≡ p) × (h.caller ≡ caller) × (h.call ≡ call)
+IsCollected _ p h answer = ⊥
+
+-- nothing else takes a call from those that are held
+abbrev pub HeldLast : World → Type 0
+HeldLast w = (e : Event) (p : ProcessId) (d : ℕ) (h : Held) → MayCome w e → IsProcess w.shape p → Contains (held_at (process_of w p) d) h
+    → Contains (held_at (process_of (step w e).world p) d) h ⊎ IsCollected e p h (step w e).turn.answer
+
 -- along every run
 abbrev pub HeldAlways : Type 0
 HeldAlways = (s : Dimensions) (es : List Event) → IsRun s es → TicketsAreHeld (after s es)
+
+abbrev pub LastAlways : Type 0
+LastAlways = (s : Dimensions) (es : List Event) → IsRun s es → HeldLast (after s es)
 
 abbrev pub ForgottenAlways : Type 0
 ForgottenAlways = (s : Dimensions) (es : List Event) → IsRun s es → RepliedAreForgotten (after s es)

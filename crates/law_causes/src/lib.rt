@@ -4,7 +4,7 @@
 //! every run, and of the step that follows it. How the answers come about is left to the crate of the answers.
 #![tactic(auto)]
 
-ghost use Rattle.law_causes.specs.Calls.{ForgottenAlways, HeldAlways};
+ghost use Rattle.law_causes.specs.Calls.{ForgottenAlways, HeldAlways, LastAlways};
 ghost use Rattle.law_causes.specs.Drained.{NextAlways};
 ghost use Rattle.law_causes.specs.Flushing.{TellsAlways};
 ghost use Rattle.law_causes.specs.Unfinished.{UnfinishedAlways};
@@ -29,6 +29,11 @@ pub fn tells_always()
 /// After a ticket the process holds the call.
 pub fn held_always()
     ensures { HeldAlways }
+{}
+
+/// A held call stays held until a collect of it is replied to.
+pub fn last_always()
+    ensures { LastAlways }
 {}
 
 /// After a collect that is replied to the process holds the call no longer.
