@@ -55,7 +55,7 @@ filter-keeps {X} test (y ∷ ys) x (k, low, is) passes = by (test y) refl k low 
       → Contains (cond b (y ∷ filter test ys) (filter test ys)) x
   by true test_is zero low is later = (0, omega arith, is)
   by true test_is (suc k) low is later = behind (later (k, omega (arith, low), is))
-  by false test_is zero low is later = absurd (let same = ap test is in cc (same, test_is, passes))
+  by false test_is zero low is later = absurd (cc (test_is, is, passes))
   by false test_is (suc k) low is later = later (k, omega (arith, low), is)
 
 module _ (s : Dimensions) (d : ℕ) (x : Held) where

@@ -8,3 +8,4 @@ pub mod Standing
 pub mod Unfinished
 pub mod Values
 pub mod Waiting
+pub mod Worked

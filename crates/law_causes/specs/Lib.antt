@@ -4,3 +4,4 @@ pub mod Flushing
 pub mod Unfinished
 pub mod Values
 pub mod Waiting
+pub mod Worked

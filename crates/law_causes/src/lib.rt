@@ -1,7 +1,7 @@
 //! What stands behind the answers: what is unfinished at a head is exactly what stands in its log, and each answer that
 //! tells a call to wait names something unfinished; what a flush tells the others; when a process holds a call, and when
 //! no longer; that no delivery is next exactly where a group is drained; and which updates have a run. It is told of
-//! every run, and of the step that follows it. How the answers come about is left to the crate of the answers.
+//! every run, and of the event that follows it. How the answers come about is left to the crate of the answers.
 #![tactic(auto)]
 
 ghost use Rattle.law_causes.specs.Calls.{ForgottenAlways, HeldAlways, LastAlways};
@@ -10,6 +10,7 @@ ghost use Rattle.law_causes.specs.Flushing.{TellsAlways};
 ghost use Rattle.law_causes.specs.Unfinished.{UnfinishedAlways};
 ghost use Rattle.law_causes.specs.Values.{RunsAlways};
 ghost use Rattle.law_causes.specs.Waiting.{WaitsAlways};
+ghost use Rattle.law_causes.specs.Worked.{AnswersCome};
 
 /// At every moment exactly the updates of a head's log are unfinished there, and at a head that is ready too.
 pub fn unfinished_always()
@@ -49,4 +50,9 @@ pub fn next_always()
 /// An update has a run exactly where its op gives its key a value.
 pub fn runs_always()
     ensures { RunsAlways }
+{}
+
+/// Each of the answers that these laws are about comes in a run.
+pub fn answers_come()
+    ensures { AnswersCome }
 {}
