@@ -9,7 +9,7 @@ use Rattle.group_types.specs.declared.process.ProcessId.{ProcessId}
 use Rattle.group_types.proofs.Lists.{at-put, at-put-within, length-put-le, at-map}
 use Rattle.group_message.specs.declared.message.Message.{Message}
 use Rattle.group_calls.specs.declared.event.Event.TheVariants.{Ask, Collect, Deliver, Fail, Flush, Trace}
-use Rattle.group_run.specs.Locality.{times, OthersStay, SenderKeeps, LosesFirst, IsTold, OthersAreTold, SameAt, NamesDecide}
+use Rattle.group_run.specs.Locality.{times, OthersStay, SenderKeeps, LosesFirst, LearnsDown, OthersAreTold, SameAt, NamesDecide}
 use Rattle.group_run.specs.Process.{Node}
 use Rattle.group_run.specs.World.{World, opening_node, GroupStep, one_changes, two_change, all_change, node_failed, dead_nodes, with_node, with_link, with_down, delivered, NodeStep, DeliveryStep, ask_node, collect_node, flush_node, trace_node, deliver_nodes, next_name, node_in, node_of}
 
@@ -73,12 +73,12 @@ sender_keeps w from to d other =
 -- a failure changes of another node only the word whether the group is down
 pub others_are_told : OthersAreTold
 others_are_told w p keep k d within other = by (node_of w p).dead where
-  told_one : (nodes : List Node) (down : Bool) → k < length nodes → at d nodes k ≡ at d w.nodes k → IsTold (at d w.nodes k) (at d (map (with_down down) nodes) k)
+  told_one : (nodes : List Node) (down : Bool) → k < length nodes → at d nodes k ≡ at d w.nodes k → LearnsDown (at d w.nodes k) (at d (map (with_down down) nodes) k)
   told_one nodes down inside same =
       let turned : at d (map (with_down down) nodes) k ≡ with_down down (at d w.nodes k) = at-map d d (with_down down) nodes k inside ∙ ap (with_down down) same in
-      subst (λ (node : Node). IsTold (at d w.nodes k) node) (sym turned) refl
+      subst (λ (node : Node). LearnsDown (at d w.nodes k) node) (sym turned) refl
 
-  by : (dead : Bool) → IsTold (at d w.nodes k) (at d (all_change dead w.shape w.nodes p keep).nodes k)
+  by : (dead : Bool) → LearnsDown (at d w.nodes k) (at d (all_change dead w.shape w.nodes p keep).nodes k)
   by true = refl
   by false =
       let nodes : List Node = with_node w.shape p (node_failed w.shape p keep (node_of w p)) w.nodes in

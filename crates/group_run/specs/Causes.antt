@@ -13,13 +13,12 @@ use Rattle.memc_table.specs.Act.{key_of}
 use Rattle.memc_table.specs.Asked.{Asked}
 use Rattle.memc_table.specs.Contents.{Contents, empty_table, reply_of, table_after}
 use Rattle.memc_table.specs.declared.holding.Holding.{Holding}
-use Rattle.memc_table.specs.declared.reply.Reply.{Reply}
 use Rattle.group_message.specs.declared.kept.Kept.{Kept}
 use Rattle.group_calls.specs.Log.{table_of}
 use Rattle.group_calls.specs.Turns.{accepts}
 use Rattle.group_calls.specs.declared.event.Answer.{Answer}
-use Rattle.group_calls.specs.declared.event.Answer.TheVariants as says
-use Rattle.group_calls.specs.declared.event.Cause.TheVariants as cause
+use Rattle.group_calls.specs.declared.event.Answer.TheVariants.{AlreadyDead, Done, Down, Gone, Idle, Lost, Moved, NoSpace, NotYet, Reply, Retry, Stale, Stranger, Ticket}
+use Rattle.group_calls.specs.declared.event.Cause.TheVariants.{Block, Pending}
 use Rattle.group_calls.specs.declared.event.Event.{Event}
 use Rattle.group_calls.specs.declared.event.Event.TheVariants.{Ask, Collect, Deliver, Fail, Flush, Trace}
 use Rattle.group_run.specs.Applying.{replica_of, head_at, held_at}
@@ -61,11 +60,15 @@ table_now w = table_of (empty_table w.shape.k) w.log
 abbrev pub Leaves : World → Asked → Holding → Type 0
 Leaves w op h = (accepts (reply_of (table_now w) op) ≡ true) × ((table_after (table_now w) op).items (key_of op.act) ≡ Some h)
 
+-- the process heads partition d, and its update n is one that it inherited
+abbrev pub IsInherited : World → ProcessId → ℕ → ℕ → Type 0
+IsInherited w p d n = (h : Head) × (head_at (process_of w p) d ≡ Some h) × (n ≤ h.inherited)
+
 -- an unfinished update on the key stands in the way: any, or for a get an inherited one
 pub record WaitsForKey (w : World) (p : ProcessId) (op : Asked) (d n : ℕ) : Type 0 where
   pub home : d ≡ home_in w op
   pub on_key : number_on (replica_for w p op).log (key_of op.act) ≡ Some n
-  pub inherited : is_get op.act ≡ true → (h : Head) × (head_at (process_of w p) d ≡ Some h) × (n ≤ h.inherited)
+  pub inherited : is_get op.act ≡ true → IsInherited w p d n
 
 -- an accepted op finds 256 updates unfinished
 pub record FindsWindowFull (w : World) (p : ProcessId) (op : Asked) (d n : ℕ) : Type 0 where
@@ -137,7 +140,7 @@ pub record FindsNoRun (w : World) (p : ProcessId) (op : Asked) : Type 0 where
   pub none : NoPlace (space_of w.shape) (is_free (space_of w.shape) (replica_for w p op)) (length value.item.value)
 
 -- the op was issued as the next update, and is unfinished after the step
-pub record IsTicketed (w after : World) (p : ProcessId) (op : Asked) (n : ℕ) : Type 0 where
+pub record IsIssuedNext (w after : World) (p : ProcessId) (op : Asked) (n : ℕ) : Type 0 where
   pub accepted : accepts (reply_of (table_now w) op) ≡ true
   pub next : n ≡ suc (last_of (replica_for w p op))
   pub head : Head
@@ -145,18 +148,18 @@ pub record IsTicketed (w after : World) (p : ProcessId) (op : Asked) (n : ℕ) :
 
 -- why an ask is answered so, at a head that is ready
 abbrev pub HeadCause : World → World → ProcessId → Asked → Answer → Type 0
-HeadCause w after p op (says.Reply reply) = reply ≡ reply_of (table_now w) op
-HeadCause w after p op (says.Ticket n) = IsTicketed w after p op n
-HeadCause w after p op says.NoSpace = FindsNoRun w p op
-HeadCause w after p op (says.Retry (cause.Pending d n)) = WaitsForKey w p op d.0 n ⊎ FindsWindowFull w p op d.0 n ⊎ WaitsForInherited w p op d.0 n
-HeadCause w after p op (says.Retry (cause.Block b)) = NeedsBlock w p op b × ComesToBe after p b
+HeadCause w after p op (Reply reply) = reply ≡ reply_of (table_now w) op
+HeadCause w after p op (Ticket n) = IsIssuedNext w after p op n
+HeadCause w after p op NoSpace = FindsNoRun w p op
+HeadCause w after p op (Retry (Pending d n)) = WaitsForKey w p op d.0 n ⊎ FindsWindowFull w p op d.0 n ⊎ WaitsForInherited w p op d.0 n
+HeadCause w after p op (Retry (Block b)) = NeedsBlock w p op b × ComesToBe after p b
 HeadCause w after p op _ = ⊥
 
 -- why an ask is answered so
 abbrev pub AskCause : World → World → ProcessId → Asked → Answer → Type 0
-AskCause w after p op says.Down = IsDown w
-AskCause w after p op says.Lost = (¬ (IsDown w)) × (is_dead w p ≡ true)
-AskCause w after p op says.Moved = IsUp w p × (¬ (IsReady w p (home_in w op)))
+AskCause w after p op Down = IsDown w
+AskCause w after p op Lost = (¬ (IsDown w)) × (is_dead w p ≡ true)
+AskCause w after p op Moved = IsUp w p × (¬ (IsReady w p (home_in w op)))
 AskCause w after p op answer = IsUp w p × IsReady w p (home_in w op) × HeadCause w after p op answer
 
 -- the process holds this call of an update of partition d
@@ -167,11 +170,11 @@ pub record HoldsCall (w : World) (p : ProcessId) (caller call d : ℕ) (h : Held
 
 -- why a collect is answered so
 abbrev pub CollectCause : World → ProcessId → ℕ → ℕ → Answer → Type 0
-CollectCause w p caller call says.Down = IsDown w
-CollectCause w p caller call says.Lost = (¬ (IsDown w)) × (is_dead w p ≡ true)
-CollectCause w p caller call says.NotYet = IsUp w p × ((d : ℕ) × (h : Held) × HoldsCall w p caller call d h × ((replica_of (process_of w p) d).applied < h.number))
-CollectCause w p caller call (says.Reply reply) = IsUp w p × ((d : ℕ) × (h : Held) × HoldsCall w p caller call d h × (h.number ≤ (replica_of (process_of w p) d).applied) × (reply ≡ reply_from h.outcome))
-CollectCause w p caller call says.Stranger = IsUp w p × ((d : ℕ) (h : Held) → ¬ (HoldsCall w p caller call d h))
+CollectCause w p caller call Down = IsDown w
+CollectCause w p caller call Lost = (¬ (IsDown w)) × (is_dead w p ≡ true)
+CollectCause w p caller call NotYet = IsUp w p × ((d : ℕ) × (h : Held) × HoldsCall w p caller call d h × ((replica_of (process_of w p) d).applied < h.number))
+CollectCause w p caller call (Reply reply) = IsUp w p × ((d : ℕ) × (h : Held) × HoldsCall w p caller call d h × (h.number ≤ (replica_of (process_of w p) d).applied) × (reply ≡ reply_from h.outcome))
+CollectCause w p caller call Stranger = IsUp w p × ((d : ℕ) (h : Held) → ¬ (HoldsCall w p caller call d h))
 CollectCause w p caller call _ = ⊥
 
 -- every other parity process that isn't known dead has acknowledged the head under its rank, or it is the
@@ -194,39 +197,39 @@ pub record IsOpen (w : World) (p : ProcessId) (caller call d : ℕ) : Type 0 whe
 
 -- why a trace is answered so, at a head that is ready
 abbrev pub FateCause : World → ProcessId → ℕ → ℕ → ℕ → Answer → Type 0
-FateCause w p caller call d (says.Reply reply) = (waits_at w p caller call d ≡ false)
+FateCause w p caller call d (Reply reply) = (waits_at w p caller call d ≡ false)
     × ((kept : Kept) × (kept_at w p d caller ≡ Some kept) × (kept.call ≡ call) × (reply ≡ reply_from kept.outcome))
-FateCause w p caller call d (says.Stale c) = (waits_at w p caller call d ≡ false) × ((kept : Kept) × (kept_at w p d caller ≡ Some kept) × (kept.call ≡ c) × (call < c))
-FateCause w p caller call d says.Gone = IsOpen w p caller call d × ((h : Head) × (head_at (process_of w p) d ≡ Some h) × IsAdopted w p h)
-FateCause w p caller call d says.NotYet = (waits_at w p caller call d ≡ true)
+FateCause w p caller call d (Stale c) = (waits_at w p caller call d ≡ false) × ((kept : Kept) × (kept_at w p d caller ≡ Some kept) × (kept.call ≡ c) × (call < c))
+FateCause w p caller call d Gone = IsOpen w p caller call d × ((h : Head) × (head_at (process_of w p) d ≡ Some h) × IsAdopted w p h)
+FateCause w p caller call d NotYet = (waits_at w p caller call d ≡ true)
     ⊎ (IsOpen w p caller call d × ((h : Head) × (head_at (process_of w p) d ≡ Some h) × (¬ (IsAdopted w p h))))
 FateCause w p caller call d _ = ⊥
 
 -- why a trace is answered so
 abbrev pub TraceCause : World → ProcessId → ℕ → ℕ → ℕ → Answer → Type 0
-TraceCause w p caller call d says.Down = IsDown w
-TraceCause w p caller call d says.Lost = (¬ (IsDown w)) × (is_dead w p ≡ true)
-TraceCause w p caller call d says.Moved = IsUp w p × (¬ (IsReady w p d))
+TraceCause w p caller call d Down = IsDown w
+TraceCause w p caller call d Lost = (¬ (IsDown w)) × (is_dead w p ≡ true)
+TraceCause w p caller call d Moved = IsUp w p × (¬ (IsReady w p d))
 TraceCause w p caller call d answer = IsUp w p × IsReady w p d × FateCause w p caller call d answer
 
 -- why a delivery is answered so
 abbrev pub DeliverCause : World → ProcessId → ProcessId → Answer → Type 0
-DeliverCause w from to says.Down = IsDown w
-DeliverCause w from to says.Idle = (¬ (IsDown w)) × ((is_dead w to ≡ true) ⊎ (link w from to ≡ []))
-DeliverCause w from to says.Done = IsUp w to × (link w from to ≢ [])
+DeliverCause w from to Down = IsDown w
+DeliverCause w from to Idle = (¬ (IsDown w)) × ((is_dead w to ≡ true) ⊎ (link w from to ≡ []))
+DeliverCause w from to Done = IsUp w to × (link w from to ≢ [])
 DeliverCause w from to _ = ⊥
 
 -- why a failure is answered so
 abbrev pub FailCause : World → ProcessId → Answer → Type 0
-FailCause w p says.AlreadyDead = is_dead w p ≡ true
-FailCause w p says.Done = is_dead w p ≡ false
+FailCause w p AlreadyDead = is_dead w p ≡ true
+FailCause w p Done = is_dead w p ≡ false
 FailCause w p _ = ⊥
 
 -- why a flush is answered so
 abbrev pub FlushCause : World → ProcessId → Answer → Type 0
-FlushCause w p says.Down = IsDown w
-FlushCause w p says.Lost = (¬ (IsDown w)) × (is_dead w p ≡ true)
-FlushCause w p says.Done = IsUp w p
+FlushCause w p Down = IsDown w
+FlushCause w p Lost = (¬ (IsDown w)) × (is_dead w p ≡ true)
+FlushCause w p Done = IsUp w p
 FlushCause w p _ = ⊥
 
 -- why an event is answered so
@@ -253,8 +256,8 @@ pub record IsClear (w : World) (p : ProcessId) (op : Asked) : Type 0 where
 
 -- the table's reply, or a ticket
 abbrev pub IsServed : World → Asked → Answer → Type 0
-IsServed w op (says.Reply reply) = reply ≡ reply_of (table_now w) op
-IsServed w op (says.Ticket _) = ⊤
+IsServed w op (Reply reply) = reply ≡ reply_of (table_now w) op
+IsServed w op (Ticket _) = ⊤
 IsServed w op _ = ⊥
 
 -- a call that nothing stands in the way of is served
@@ -271,9 +274,9 @@ pub record KeepsLedger (w after : World) : Type 0 where
 -- ticket, nor has to wait for a block; the ledger alone where it waits for a block; and after a refusal
 -- the nodes
 abbrev pub AskLeaves : World → World → Answer → Type 0
-AskLeaves w after (says.Ticket n) = ⊤
-AskLeaves w after (says.Reply reply) = accepts reply ≡ false → (after.nodes ≡ w.nodes) × (after.places ≡ w.places) × (after.tickets ≡ w.tickets)
-AskLeaves w after (says.Retry (cause.Block b)) = KeepsLedger w after
+AskLeaves w after (Ticket n) = ⊤
+AskLeaves w after (Reply reply) = accepts reply ≡ false → (after.nodes ≡ w.nodes) × (after.places ≡ w.places) × (after.tickets ≡ w.tickets)
+AskLeaves w after (Retry (Block b)) = KeepsLedger w after
 AskLeaves w after answer = (after.nodes ≡ w.nodes) × KeepsLedger w after
 
 -- each answer to an ask leaves what it should
@@ -287,7 +290,7 @@ IsFailure _ = ⊥
 
 -- past m losses every event but a failure is answered that the group is down, and the log stands still
 pub record StandsStill (w : World) (e : Event) : Type 0 where
-  pub down : ¬ (IsFailure e) → (step w e).turn.answer ≡ says.Down
+  pub down : ¬ (IsFailure e) → (step w e).turn.answer ≡ Down
   pub log : (step w e).world.log ≡ w.log
   pub stays : IsDown (step w e).world
 

@@ -112,15 +112,16 @@ pub record NoticeFits (s : Dimensions) (p : Process) (dead : ProcessId) : Type 0
   pub other : dead ≢ p.name
   pub news : knows_dead p.known dead ≡ false
 
--- a message fits what the process holds that receives it
+-- a message fits what the process holds that receives it; an update, a settled number and a new head's list only unless
+-- their rank is stale, below the receiver's, and a mark only unless the row drops it
 abbrev pub Fits : Dimensions → ProcessId → Message → Process → Type 0
-Fits s from (tells.Update r d u stable) p = IsRanked s d.0 r.0 × (at 0 p.ranks d.0 ≤ r.0 → UpdateFits s (replica_of p d.0) u stable)
+Fits s from (tells.Update r d u stable) p = IsRanked s d.0 r.0 × ((unless_stale : at 0 p.ranks d.0 ≤ r.0) → UpdateFits s (replica_of p d.0) u stable)
 Fits s from (tells.Ack r d n) p = AckFits s from p r.0 d.0 n
-Fits s from (tells.Stable r d n) p = IsRanked s d.0 r.0 × (at 0 p.ranks d.0 ≤ r.0 → n ≤ last_of (replica_of p d.0))
-Fits s from (tells.Adopt r d base list) p = IsRanked s d.0 r.0 × (at 0 p.ranks d.0 ≤ r.0 → AdoptFits s (replica_of p d.0) base list)
+Fits s from (tells.Stable r d n) p = IsRanked s d.0 r.0 × ((unless_stale : at 0 p.ranks d.0 ≤ r.0) → n ≤ last_of (replica_of p d.0))
+Fits s from (tells.Adopt r d base list) p = IsRanked s d.0 r.0 × ((unless_stale : at 0 p.ranks d.0 ≤ r.0) → AdoptFits s (replica_of p d.0) base list)
 Fits s from (tells.ReadBlock session block rows) p = ReadFits s p session block rows
 Fits s from (tells.Block session bytes n) p = BlockFits s from p session.number bytes
-Fits s from (tells.Mark session r block d n) p = accepts_mark p (parity_number session.leader) session.number r.0 d.0 ≡ true → MarkFits s p session block d.0 n
+Fits s from (tells.Mark session r block d n) p = (unless_dropped : accepts_mark p (parity_number session.leader) session.number r.0 d.0 ≡ true) → MarkFits s p session block d.0 n
 Fits s from (tells.Row session bytes stamp) p = RowFits s from p session.number bytes
 Fits s from (tells.Cease upto) p = (i : ℕ) × (from ≡ ParityNode i) × (i < s.m)
 Fits s from (tells.Notice dead) p = NoticeFits s p dead

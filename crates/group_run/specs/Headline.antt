@@ -124,7 +124,7 @@ AreApart a b = (x : ℕ) → in_run x a ≡ true → in_run x b ≡ false
 
 -- values written: an update's run lies in the space, is as long as its value, and avoids the runs of the
 -- items before it
-pub record IsWritten (w : World) (d n : ℕ) (run : Run) (h : Holding) : Type 0 where
+pub record HasClearRun (w : World) (d n : ℕ) (run : Run) (h : Holding) : Type 0 where
   pub inside : run.at + run.len ≤ space_of w.shape
   pub long : run.len ≡ length h.item.value
   pub apart : (key : List ℕ) (other : Run) → run_on key None (take n (updates_of w d)) ≡ Some other → AreApart run other
@@ -138,7 +138,7 @@ pub record HasItsValue (w : World) (d n : ℕ) (key : List ℕ) (h : Holding) : 
 
 -- every update that has a run is written at it, and so every item has its value
 pub record ValuesWritten (w : World) : Type 0 where
-  pub runs : (d n : ℕ) (u : Logged) (run : Run) → d < w.shape.k → slice_get (updates_of w d) n ≡ Some u → u.run ≡ Some run → (h : Holding) × (u.item ≡ Some h) × IsWritten w d n run h
+  pub runs : (d n : ℕ) (u : Logged) (run : Run) → d < w.shape.k → slice_get (updates_of w d) n ≡ Some u → u.run ≡ Some run → (h : Holding) × (u.item ≡ Some h) × HasClearRun w d n run h
   pub items : (d n : ℕ) (key : List ℕ) (h : Holding) → d < w.shape.k → n ≤ count_logged w d → home_of key w.shape.k ≡ d → (table_at w d n).items key ≡ Some h → HasItsValue w d n key h
 
 -- the headline, of a group that isn't down but for its log and its values, which stay what they are

@@ -29,13 +29,13 @@ SenderKeeps = (w : World) (from to : ProcessId) (default : Node) → index_of w.
     → LosesFirst w to (node_of w from) (at default (group_step w (Deliver from to)).nodes (index_of w.shape from))
 
 -- a node that was told whether the group is down, and nothing else
-abbrev pub IsTold : Node → Node → Type 0
-IsTold old new = new ≡ with_down new.down old
+abbrev pub LearnsDown : Node → Node → Type 0
+LearnsDown old new = new ≡ with_down new.down old
 
 -- a failure changes of the others only the words whether the group is down
 abbrev pub OthersAreTold : Type 0
 OthersAreTold = (w : World) (p : ProcessId) (keep k : ℕ) (default : Node) → k < length w.nodes → k ≢ index_of w.shape p
-    → IsTold (at default w.nodes k) (at default (group_step w (Fail p keep)).nodes k)
+    → LearnsDown (at default w.nodes k) (at default (group_step w (Fail p keep)).nodes k)
 
 -- two groups of one shape have the same nodes where an event names them, and the same position of its call
 abbrev pub AreSameFor : World → World → Event → Type 0

@@ -7,11 +7,11 @@ use Rattle.group_types.specs.Names.{of_rank, same_process}
 use Rattle.group_types.specs.declared.process.ProcessId.{ProcessId}
 use Rattle.group_types.specs.declared.process.ProcessId.TheVariants.{ParityNode}
 use Rattle.group_message.specs.declared.message.Message.{Message}
-use Rattle.group_message.specs.declared.message.Message.TheVariants as tells
+use Rattle.group_message.specs.declared.message.Message.TheVariants.{Adopt, Mark, Notice, ReadBlock, Update}
 use Rattle.group_calls.specs.Turns.{Turn}
 use Rattle.group_calls.specs.declared.event.Answer.{Answer}
-use Rattle.group_calls.specs.declared.event.Answer.TheVariants as says
-use Rattle.group_calls.specs.declared.event.Cause.TheVariants as cause
+use Rattle.group_calls.specs.declared.event.Answer.TheVariants.{Done, NotYet, Retry}
+use Rattle.group_calls.specs.declared.event.Cause.TheVariants.{Block, Pending}
 use Rattle.group_calls.specs.declared.event.Event.{Event}
 use Rattle.group_calls.specs.declared.event.Event.TheVariants.{Ask, Deliver, Fail, Trace}
 use Rattle.group_types.specs.declared.process.Partition.{Partition}
@@ -25,11 +25,11 @@ use Rattle.group_run.specs.World.{World, step, turns_from}
 
 -- what a message weighs: more than all messages together that it can make its receiver send
 abbrev pub weight_of : Message → ℕ
-weight_of (tells.Notice _) = 200
-weight_of (tells.ReadBlock _ _ _) = 10
-weight_of (tells.Update _ _ _ _) = 2
-weight_of (tells.Adopt _ _ _ _) = 2
-weight_of (tells.Mark _ _ _ _ _) = 2
+weight_of (Notice _) = 200
+weight_of (ReadBlock _ _ _) = 10
+weight_of (Update _ _ _ _) = 2
+weight_of (Adopt _ _ _ _) = 2
+weight_of (Mark _ _ _ _ _) = 2
 weight_of _ = 1
 
 -- the weight of what is on its way from a process to those that live
@@ -42,11 +42,11 @@ load_of w = sum_by (load_from w) (range_with_len 0 (w.shape.k + w.shape.m))
 
 -- each delivery lowers the weight, so draining ends
 abbrev pub DeliveryLowers : World → Type 0
-DeliveryLowers w = (from to : ProcessId) → MayCome w (Deliver from to) → (step w (Deliver from to)).turn.answer ≡ says.Done → load_of (step w (Deliver from to)).world < load_of w
+DeliveryLowers w = (from to : ProcessId) → MayCome w (Deliver from to) → (step w (Deliver from to)).turn.answer ≡ Done → load_of (step w (Deliver from to)).world < load_of w
 
 -- an ask is not answered that an update has to be finished first
 abbrev pub IsPending : Answer → Type 0
-IsPending answer = (d : Partition) × (n : ℕ) × (answer ≡ says.Retry (cause.Pending d n))
+IsPending answer = (d : Partition) × (n : ℕ) × (answer ≡ Retry (Pending d n))
 
 -- in a drained group every partition's head has taken over and has nothing unfinished, no session is open
 -- and no copy left, and neither a trace nor an ask has to wait for an update
@@ -55,7 +55,7 @@ pub record IsQuiet (w : World) : Type 0 where
   pub finished : (d r : ℕ) → d < w.shape.k → Heads w d r → (h : Head) × (head_at (process_of w (of_rank d r)) d ≡ Some h) × ((replica_of (process_of w (of_rank d r)) d).log ≡ [])
   pub sessions : (i : ℕ) → Lives w (ParityNode i) → (process_of w (ParityNode i)).as_leader.sessions ≡ []
   pub copies : (i : ℕ) → Lives w (ParityNode i) → (process_of w (ParityNode i)).as_row.copies ≡ []
-  pub traced : (caller call : ℕ) (d : Partition) (p : ProcessId) → MayCome w (Trace caller call d p) → (step w (Trace caller call d p)).turn.answer ≢ says.NotYet
+  pub traced : (caller call : ℕ) (d : Partition) (p : ProcessId) → MayCome w (Trace caller call d p) → (step w (Trace caller call d p)).turn.answer ≢ NotYet
   pub asked : (caller : ℕ) (op : Asked) (p : ProcessId) → MayCome w (Ask caller op p) → ¬ (IsPending (step w (Ask caller op p)).turn.answer)
 
 -- a drained group that isn't down has nothing unfinished
@@ -79,7 +79,7 @@ AskedDrained w (e ∷ es) = IsNoFailure e × AsksDrained w e × AskedDrained (st
 
 -- 1 for a call at this process that has to wait for a block
 abbrev pub waits_here : ProcessId → Event → Answer → ℕ
-waits_here p (Ask _ _ q) (says.Retry (cause.Block _)) = if same_process p q then 1 else 0
+waits_here p (Ask _ _ q) (Retry (Block _)) = if same_process p q then 1 else 0
 waits_here p _ _ = 0
 
 -- how many calls at a process have to wait for a block

@@ -38,8 +38,8 @@ pub record StandsAt (w : World) (l : ℕ) (g : Gathering) (v : List ℕ) : Type 
       → (stamp ≡ v) × (bytes ≡ code_block w g.block i v)
 
 -- every open session has its stamp
-abbrev pub SessionsStand : World → Type 0
-SessionsStand w = (l : ℕ) (g : Gathering) → Lives w (ParityNode l) → Contains (process_of w (ParityNode l)).as_leader.sessions g → (v : List ℕ) × StandsAt w l g v
+abbrev pub SessionsHaveStamps : World → Type 0
+SessionsHaveStamps w = (l : ℕ) (g : Gathering) → Lives w (ParityNode l) → Contains (process_of w (ParityNode l)).as_leader.sessions g → (v : List ℕ) × StandsAt w l g v
 
 -- the numbers that a row's copy stands at: its marks', and elsewhere the row's applied numbers
 abbrev pub copy_stamp : Dimensions → Process → Copy → List ℕ
@@ -53,5 +53,5 @@ CopiesHoldCode w = (i : ℕ) (copy : Copy) → Lives w (ParityNode i) → Contai
 -- what is promised of block sessions while the group isn't down
 pub record Recovers (s : Dimensions) (es : List Event) : Type 0 where
   pub rebuilt : ¬ (IsDown (after s es)) → RebuiltIsSettled (after s es)
-  pub sessions : ¬ (IsDown (after s es)) → SessionsStand (after s es)
+  pub sessions : ¬ (IsDown (after s es)) → SessionsHaveStamps (after s es)
   pub copies : ¬ (IsDown (after s es)) → CopiesHoldCode (after s es)

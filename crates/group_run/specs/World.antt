@@ -155,7 +155,9 @@ pub record Ticket : Type 0 where
   pub op : Option Asked
 
 -- the group: its nodes by index, the number of events, of each caller's asks, the log, per partition the
--- run of each logged update, and the calls whose update was issued
+-- run of each logged update, and the calls whose update was issued. A place of a list that nobody has
+-- written reads as it was at the start: `node_of` as a process that opens, `at 0 asked` as no ask, and
+-- `at [] places` as no update
 pub record World : Type 0 where
   pub shape : Dimensions
   pub nodes : List Node

@@ -54,7 +54,7 @@ use Rattle.law_answers.specs.Laws.{AsksLeaveAlways}
 use Rattle.law_answers.proofs.Settling.{none-when}
 
 -- every node has a link to each process
-abbrev LinksMany : Dimensions → List Node → Type 0
+abbrev pub LinksMany : Dimensions → List Node → Type 0
 LinksMany s nodes = (p : ProcessId) → IsProcess s p → length (node_in s nodes p).links ≡ s.k + s.m
 
 -- to empty a link leaves as many
@@ -129,9 +129,9 @@ places-many tickets t zero a k ledger low many = many
 places-many tickets t (suc n) a k ledger low many = places-many tickets t n (a + 1) k _ (omega (arith, low)) (length-put [] ledger.places a _ (omega (arith, low, many)) ∙ many)
 
 -- a group with all its links and places
-record IsWide (w : World) : Type 0 where
-  links : LinksMany w.shape w.nodes
-  places : length w.places ≡ w.shape.k
+pub record IsWide (w : World) : Type 0 where
+  pub links : LinksMany w.shape w.nodes
+  pub places : length w.places ≡ w.shape.k
 
 wide-links : (w : World) (e : Event) → length w.nodes ≡ w.shape.k + w.shape.m → LinksMany w.shape w.nodes → MayCome w e → LinksMany w.shape (group_step w e).nodes
 wide-links w (Ask caller op p) size all may = links-treated w.shape w.nodes size all p (ask_process w.shape (next_name w caller) op (process_of w p)) (node_of w p).down (node_of w p).dead may.1
@@ -157,12 +157,12 @@ wide-opening s = record {
   node-opening : (p : ProcessId) → IsProcess s p → node_in s (no_book s).history.world.nodes p ≡ opening_node s p
   node-opening p pin = at-indices s (opening_node s p) (λ x. opening_node s (process_at s x)) p pin ∙ ap (opening_node s) (process_at-index s p pin)
 
-wide_always : (s : Dimensions) (es : List Event) → IsRun s es → IsWide (after s es)
+pub wide_always : (s : Dimensions) (es : List Event) → IsRun s es → IsWide (after s es)
 wide_always s es run = subst IsWide (book-world s es) (book_always s (λ b. IsWide b.history.world) (wide-opening s)
     (λ done e now more may wide. wide-step (book_of s done).history.world e (book-framed s done now).nodes_many (subst (λ (w : World). MayCome w e) (sym (book-world s done)) may) wide) es run)
 
 -- where nothing is settled the ledger stays
-ledger-stays : (tickets : List Ticket) (n a : ℕ) (ledger : Ledger) → a + n ≤ length ledger.places → ledger_after tickets [] (range_with_len a n) ledger ≡ ledger
+pub ledger-stays : (tickets : List Ticket) (n a : ℕ) (ledger : Ledger) → a + n ≤ length ledger.places → ledger_after tickets [] (range_with_len a n) ledger ≡ ledger
 ledger-stays tickets zero a ledger low = refl
 ledger-stays tickets (suc n) a ledger low =
     let same : ledger_with tickets a [] ledger ≡ ledger = ap (λ (ps : List (List (Option Run))). record { logged = ledger.logged; places = ps }) (put-at [] [] ledger.places a (omega (arith, low))) in

@@ -10,8 +10,8 @@ use Rattle.memc_table.specs.Contents.{reply_of}
 use Rattle.memc_table.specs.declared.holding.Holding.{Holding}
 use Rattle.group_calls.specs.Turns.{accepts}
 use Rattle.group_calls.specs.declared.event.Answer.{Answer}
-use Rattle.group_calls.specs.declared.event.Answer.TheVariants as says
-use Rattle.group_calls.specs.declared.event.Cause.TheVariants as cause
+use Rattle.group_calls.specs.declared.event.Answer.TheVariants.{NoSpace, Reply, Retry, Ticket}
+use Rattle.group_calls.specs.declared.event.Cause.TheVariants.{Block, Pending}
 use Rattle.group_calls.specs.declared.event.Event.{Event}
 use Rattle.group_calls.specs.declared.event.Event.TheVariants.{Ask}
 use Rattle.group_run.specs.Applying.{replica_of}
@@ -60,21 +60,21 @@ pub record IsOldestInherited (w : World) (p : ProcessId) (d n : ℕ) : Type 0 wh
 
 -- block b has to be rebuilt: what was inherited is waited for first
 pub record WaitsForBlock (w : World) (p : ProcessId) (b : ℕ) (answer : Answer) : Type 0 where
-  pub inherited : (d : Partition) (n : ℕ) → IsOldestInherited w p d.0 n → answer ≡ says.Retry (cause.Pending d n)
-  pub none : ((d : ℕ) → d < w.shape.k → ¬ (HasInherited (process_of w p) d)) → answer ≡ says.Retry (cause.Block b)
+  pub inherited : (d : Partition) (n : ℕ) → IsOldestInherited w p d.0 n → answer ≡ Retry (Pending d n)
+  pub none : ((d : ℕ) → d < w.shape.k → ¬ (HasInherited (process_of w p) d)) → answer ≡ Retry (Block b)
 
 -- the op is issued as the next update, and answered by the table's reply where it is settled at once
 abbrev pub IsIssued : World → ProcessId → Asked → Answer → Type 0
-IsIssued w p op answer = (answer ≡ says.Ticket (suc (last_of (replica_for w p op)))) ⊎ (answer ≡ says.Reply (reply_of (table_now w) op))
+IsIssued w p op answer = (answer ≡ Ticket (suc (last_of (replica_for w p op)))) ⊎ (answer ≡ Reply (reply_of (table_now w) op))
 
 -- the rules
 pub record FollowsRules (w : World) (p : ProcessId) (op : Asked) (answer : Answer) : Type 0 where
-  pub key : (d : Partition) (n : ℕ) → WaitsForKey w p op d.0 n → answer ≡ says.Retry (cause.Pending d n)
-  pub blind : IsUnhindered w p op → RefusesBlindly w op → answer ≡ says.Reply (reply_of (table_now w) op)
+  pub key : (d : Partition) (n : ℕ) → WaitsForKey w p op d.0 n → answer ≡ Retry (Pending d n)
+  pub blind : IsUnhindered w p op → RefusesBlindly w op → answer ≡ Reply (reply_of (table_now w) op)
   pub item : IsUnhindered w p op → ¬ (RefusesBlindly w op) → (run : Run) (b : ℕ) → NeedsItem w p op run → MissesBlock w p op run b → WaitsForBlock w p b answer
-  pub refusal : IsUnhindered w p op → CanRead w p op → Refuses w op → answer ≡ says.Reply (reply_of (table_now w) op)
-  pub full : IsUnhindered w p op → CanRead w p op → (d : Partition) (n : ℕ) → FindsWindowFull w p op d.0 n → answer ≡ says.Retry (cause.Pending d n)
-  pub space : IsUnhindered w p op → CanRead w p op → HasWindow w p op → FindsNoRun w p op → answer ≡ says.NoSpace
+  pub refusal : IsUnhindered w p op → CanRead w p op → Refuses w op → answer ≡ Reply (reply_of (table_now w) op)
+  pub full : IsUnhindered w p op → CanRead w p op → (d : Partition) (n : ℕ) → FindsWindowFull w p op d.0 n → answer ≡ Retry (Pending d n)
+  pub space : IsUnhindered w p op → CanRead w p op → HasWindow w p op → FindsNoRun w p op → answer ≡ NoSpace
   pub place : IsUnhindered w p op → CanRead w p op → HasWindow w p op → (run : Run) (b : ℕ) → NeedsPlace w p op run → MissesBlock w p op run b → WaitsForBlock w p b answer
   pub issue : IsUnhindered w p op → CanRead w p op → HasWindow w p op → ¬ (FindsNoRun w p op) → CanWrite w p op → accepts (reply_of (table_now w) op) ≡ true
       → IsIssued w p op answer

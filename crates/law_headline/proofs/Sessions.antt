@@ -16,7 +16,7 @@ use Rattle.group_run.specs.History.{History}
 use Rattle.group_run.specs.Leaders.{open_session, session_of}
 use Rattle.group_run.specs.Meaning.{Lives, link, process_of}
 use Rattle.group_run.specs.Process.{Gathering}
-use Rattle.group_run.specs.Recovery.{SessionsStand, StandsAt, code_block, value_block}
+use Rattle.group_run.specs.Recovery.{SessionsHaveStamps, StandsAt, code_block, value_block}
 use Rattle.group_run.specs.Replica.{Replica}
 use Rattle.group_run.specs.World.{Call}
 use Rattle.law_moves.specs.State.{state_of}
@@ -120,7 +120,7 @@ module _ (h : History) (calls : List Call) (shaped : IsShape h.world.shape) (who
     )
 
 pub sessions_stand_always : SessionsStandAlways
-sessions_stand_always s es run = subst SessionsStand (book-world s es)
+sessions_stand_always s es run = subst SessionsHaveStamps (book-world s es)
     (stands-at h (book_of s es).issued (shaped s (whole-always s) es run) (whole s (whole-always s) es run) (shown s (whole-always s) es run) (keeps s (whole-always s) es run) plans rows)
   where
     h : History

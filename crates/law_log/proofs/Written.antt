@@ -15,7 +15,7 @@ use Rattle.group_message.specs.declared.update.Update.{Update}
 use Rattle.group_calls.specs.Log.{table_of}
 use Rattle.group_calls.specs.declared.event.Event.{Event}
 use Rattle.group_run.specs.Deciding.{is_touch}
-use Rattle.group_run.specs.Headline.{AreApart, HasItsValue, IsItem, IsRun, IsWritten}
+use Rattle.group_run.specs.Headline.{AreApart, HasItsValue, IsItem, IsRun, HasClearRun}
 use Rattle.group_run.specs.Meaning.{Logged, count_logged, cut_after, run_on, space_from, table_at, updates_from, updates_of, values_after}
 use Rattle.group_run.specs.Replica.{Items, items_after, run_in, run_of, slot_in}
 use Rattle.group_run.specs.World.{Call, World, after}
@@ -43,13 +43,13 @@ item-is size space (Some slot) h run long inside holds is =
     subst (λ (x : Option Holding). IsItem (Some slot) x run) (sym holds) (is, refl, refl, refl, sym (length-bytes_at slot.at slot.len space (omega (arith, long, inside))))
 
 -- the update at a place, with the store before it
-record ShownAt (s : Dimensions) (calls : List Call) (d n m : ℕ) (store : Store) (us : List Update) (l : Logged) : Type 0 where
+pub record ShownAt (s : Dimensions) (calls : List Call) (d n m : ℕ) (store : Store) (us : List Update) (l : Logged) : Type 0 where
   pub update : Update
   pub step : IsStep s calls d (suc (n + m)) (store_from s d store (take m us)) update
   pub shown : IsShown s d (store_from s d store (take m us)) update l
   pub fits : StoreFits s (store_from s d store (take m us))
 
-shown-at : (s : Dimensions) (calls : List Call) (d n m : ℕ) (store : Store) (us : List Update) (ls : List Logged) (l : Logged) → StoreFits s store
+pub shown-at : (s : Dimensions) (calls : List Call) (d n m : ℕ) (store : Store) (us : List Update) (ls : List Logged) (l : Logged) → StoreFits s store
     → AreSteps s calls d n store us → AreShown s d store us ls → slice_get ls m ≡ Some l
     → ShownAt s calls d n m store us l
 shown-at s calls d n m store us [] l fits steps shown is = absurd (cc is)
@@ -147,7 +147,7 @@ module _ (s : Dimensions) (always : StandsAlways s) (es : List Event) (run : IsR
   shows = record { updates = shown; tables = tables; values = values; items = items }
 
   -- an update that has a run is written at it
-  run-written : (n : ℕ) (l : Logged) (r : Run) → slice_get (updates_of w d) n ≡ Some l → l.run ≡ Some r → (h : Holding) × (l.item ≡ Some h) × IsWritten w d n r h
+  run-written : (n : ℕ) (l : Logged) (r : Run) → slice_get (updates_of w d) n ≡ Some l → l.run ≡ Some r → (h : Holding) × (l.item ≡ Some h) × HasClearRun w d n r h
   run-written n l r there is =
       let found = shown-at s calls d 0 n (no_store s) settled (updates_of w d) l (no_store-fits s) steps shown there in
       let store : Store = store_after s d (take n settled) in

@@ -11,7 +11,7 @@ use Rattle.group_message.specs.declared.message.Message.{Message}
 use Rattle.group_run.specs.Process.{Process, opening_process}
 use Rattle.law_moves.specs.State.{State}
 use Rattle.law_moves.proofs.State.{Opens}
-use Rattle.law_progress.proofs.Waiting.{Has, IsAsk, IsMark, WantsBlock, WantsRow, marks_in}
+use Rattle.law_progress.proofs.Waiting.{Has, AsksForBlock, IsMark, WantsBlock, WantsRow, marks_in}
 use Rattle.law_progress.proofs.Holding.{AskThere, CopyThere, Ending, MarkThere, Pending}
 use Rattle.law_progress.proofs.Sides.{Fresh, LeaderFine, Leaves, RowFine, opened}
 
@@ -46,4 +46,4 @@ module _ (s : Dimensions) (v : State) (starts : Opens s v) where
     nothing_pends : (l n r : ℕ) → l < s.m → r < s.m → Pending s v l n r → ⊥
     nothing_pends l n r lin rin (CopyThere some) = cc (sym (ap (λ (y : Process). is_some (marks_in y l n)) (starts.process (ParityNode r) rin)) ∙ some)
     nothing_pends l n r lin rin (MarkThere a d ain apart has) = no-link (IsMark l n d) a (ParityNode r) ain rin has
-    nothing_pends l n r lin rin (AskThere e low lives has) = no-link (IsAsk l n r) (ParityNode l) (DataNode e) lin low has
+    nothing_pends l n r lin rin (AskThere e low lives has) = no-link (AsksForBlock l n r) (ParityNode l) (DataNode e) lin low has

@@ -12,7 +12,7 @@ use Rattle.group_message.specs.declared.message.Message.TheVariants as tells
 use Rattle.group_run.specs.Process.{Process}
 use Rattle.law_moves.proofs.Moves.{Died}
 use Rattle.law_moves.specs.State.{State}
-use Rattle.law_progress.proofs.Waiting.{Asked, BlockComes, Copied, Given, Has, IsAsk, IsBlock, IsMark, IsRead, IsRow, Marked, Marking, RowComes, WantsBlock, WantsRow, marks_in}
+use Rattle.law_progress.proofs.Waiting.{Asked, BlockComes, Copied, Given, Has, AsksForBlock, IsBlock, IsMark, IsRead, IsRow, Marked, Marking, RowComes, WantsBlock, WantsRow, marks_in}
 use Rattle.law_progress.proofs.Holding.{AskThere, CopyThere, Ended, Ending, MarkThere, Pending}
 use Rattle.law_progress.proofs.Sides.{Fresh, IsCease, LeaderFine, Leaves, RowFine, opened}
 use Rattle.law_progress.proofs.Views.{has-either, has-take}
@@ -61,7 +61,7 @@ module _ (s : Dimensions) (v w : State) (p : ProcessId) (keep : ℕ) (pin : IsPr
         data_on (inl known) lives = absurd (cc (sym lives ∙ known_dead (ap (λ (y : Process). knows_dead y.known (DataNode d)) (sym (process-is (ParityNode l) lin)) ∙ known)))
 
         on : RowComes s v l n r d → RowComes s w l n r d
-        on (Asked living has) = Asked (data_on may living) (subst (Has (IsAsk l n r)) (sym (link-is (ParityNode l) (DataNode d) lin low (not-p (ParityNode l) l_lives))) has)
+        on (Asked living has) = Asked (data_on may living) (subst (Has (AsksForBlock l n r)) (sym (link-is (ParityNode l) (DataNode d) lin low (not-p (ParityNode l) l_lives))) has)
         on (Copied held) = Copied (subst (λ (y : Process). Marked d (marks_in y l n)) (sym (process-is (ParityNode r) rin)) held)
         on (Given apart has) = Given apart (subst (Has (IsRow l n)) (sym (link-is (ParityNode r) (ParityNode l) rin lin (not-p (ParityNode r) r_lives))) has)
         on (Marking x xin apart living which has) = Marking x xin apart (source which) which (subst (Has (IsMark l n d)) (sym (link-is x (ParityNode r) xin rin (not-p x (source which)))) has) where
@@ -74,12 +74,12 @@ module _ (s : Dimensions) (v w : State) (p : ProcessId) (keep : ℕ) (pin : IsPr
   died-pending l n r lin rin (MarkThere a d ain apart has) = MarkThere a d ain apart (was-there l n d a (ParityNode r) ain rin has)
   died-pending l n r lin rin (AskThere e low living has) = by (same-cases (ParityNode l) p) where
     by : (ParityNode l ≡ p) ⊎ (ParityNode l ≢ p) → Pending s v l n r
-    by (inr other) = AskThere e low (lived (DataNode e) low living) (subst (Has (IsAsk l n r)) (link-is (ParityNode l) (DataNode e) lin low other) has)
-    by (inl same) = AskThere e low (lived (DataNode e) low living) (subst (λ (y : ProcessId). Has (IsAsk l n r) (v.link y (DataNode e))) (sym same)
-        (cut (has-either (IsAsk l n r) (take keep (v.link p (DataNode e))) (tells.Notice p ∷ []) (subst (Has (IsAsk l n r)) (dies.cut (DataNode e) low) (subst (λ (y : ProcessId). Has (IsAsk l n r) (w.link y (DataNode e))) same has)))))
+    by (inr other) = AskThere e low (lived (DataNode e) low living) (subst (Has (AsksForBlock l n r)) (link-is (ParityNode l) (DataNode e) lin low other) has)
+    by (inl same) = AskThere e low (lived (DataNode e) low living) (subst (λ (y : ProcessId). Has (AsksForBlock l n r) (v.link y (DataNode e))) (sym same)
+        (cut (has-either (AsksForBlock l n r) (take keep (v.link p (DataNode e))) (tells.Notice p ∷ []) (subst (Has (AsksForBlock l n r)) (dies.cut (DataNode e) low) (subst (λ (y : ProcessId). Has (AsksForBlock l n r) (w.link y (DataNode e))) same has)))))
       where
-        cut : Has (IsAsk l n r) (take keep (v.link p (DataNode e))) ⊎ (⊥ ⊎ ⊥) → Has (IsAsk l n r) (v.link p (DataNode e))
-        cut (inl front) = has-take (IsAsk l n r) keep (v.link p (DataNode e)) front
+        cut : Has (AsksForBlock l n r) (take keep (v.link p (DataNode e))) ⊎ (⊥ ⊎ ⊥) → Has (AsksForBlock l n r) (v.link p (DataNode e))
+        cut (inl front) = has-take (AsksForBlock l n r) keep (v.link p (DataNode e)) front
         cut (inr (inl none)) = absurd none
         cut (inr (inr none)) = absurd none
 

@@ -13,7 +13,7 @@ use Rattle.law_moves.proofs.Moves.{Acted}
 use Rattle.law_moves.specs.State.{State}
 use Rattle.law_moves.proofs.Members.{Members}
 use Rattle.law_bytes.proofs.Tokens.{Token, is_token, tokens}
-use Rattle.law_progress.proofs.Waiting.{Has, IsAsk, IsMark, WantsRow, Waited, marks_in}
+use Rattle.law_progress.proofs.Waiting.{Has, AsksForBlock, IsMark, WantsRow, Waited, marks_in}
 use Rattle.law_progress.proofs.Sides.{Accepts, Fair, Fresh, IsCease, LeaderFine, Leaves, RowFine, opened}
 
 -- a session is ceased at row r, or will be
@@ -24,7 +24,7 @@ Ended v l n r = (n ≤ at 0 (v.process (ParityNode r)).as_row.ceased l) ⊎ ((l 
 pub data Pending (s : Dimensions) (v : State) (l n r : ℕ) : Type 0 where
   CopyThere : is_some (marks_in (v.process (ParityNode r)) l n) ≡ true → Pending s v l n r
   MarkThere : (a : ProcessId) (d : ℕ) → IsProcess s a → a ≢ ParityNode r → Has (IsMark l n d) (v.link a (ParityNode r)) → Pending s v l n r
-  AskThere : (e : ℕ) → e < s.k → v.dead (DataNode e) ≡ false → Has (IsAsk l n r) (v.link (ParityNode l) (DataNode e)) → Pending s v l n r
+  AskThere : (e : ℕ) → e < s.k → v.dead (DataNode e) ≡ false → Has (AsksForBlock l n r) (v.link (ParityNode l) (DataNode e)) → Pending s v l n r
 
 pub record Ending (s : Dimensions) (v : State) : Type 0 where
   pub waited : Waited s v
@@ -52,6 +52,6 @@ pub record Move (s : Dimensions) (v u w : State) (x p : ProcessId) (came : List 
   pub accepted : (l n d r : ℕ) → p ≡ ParityNode r → l < s.m → v.dead (ParityNode l) ≡ false → v.dead x ≡ false → at 0 (v.process p).as_row.ceased l < n
       → Has (IsMark l n d) came → Each (Accepts (v.process p)) came
   pub within : (l n d : ℕ) → Has (IsMark l n d) came → d < s.k
-  pub reader : (l n r : ℕ) → Has (IsAsk l n r) came → (x ≡ ParityNode l) × ((e : ℕ) × (p ≡ DataNode e))
+  pub reader : (l n r : ℕ) → Has (AsksForBlock l n r) came → (x ≡ ParityNode l) × ((e : ℕ) × (p ≡ DataNode e))
   pub spent : (k : Token) → k.partition < s.k → Has (λ m. is_token k x p m ≡ true) came → tokens s u k ≤ 0
   pub few : (k : Token) → k.partition < s.k → tokens s u k ≤ 1

@@ -32,7 +32,7 @@ use Rattle.law_bytes.proofs.TokensKeeping as sessions
 use Rattle.law_bytes.proofs.Local.{Fact}
 use Rattle.law_bytes.proofs.Tallying.{ComesTo}
 use Rattle.law_bytes.proofs.Nothing.{token}
-use Rattle.law_progress.proofs.Waiting.{IsAsk, IsMark, Marked, marks_in}
+use Rattle.law_progress.proofs.Waiting.{AsksForBlock, IsMark, Marked, marks_in}
 use Rattle.law_progress.proofs.Holding.{Ending}
 use Rattle.law_progress.proofs.Moving.{moved}
 use Rattle.law_progress.proofs.Receiving.{Goes, receive-fair, treat-fair}
@@ -215,7 +215,7 @@ module _ (s : Dimensions) (v u w : State) (x p : ProcessId) (m : Message) (xin :
   data-is (DataNode e) is = (e, refl)
   data-is (ParityNode i) is = elim is [ ]
 
-  reads-it : (k : Message) → MayStand s v x p k → (l n r : ℕ) → IsAsk l n r k → (x ≡ ParityNode l) × ((e : ℕ) × (p ≡ DataNode e))
+  reads-it : (k : Message) → MayStand s v x p k → (l n r : ℕ) → AsksForBlock l n r k → (x ≡ ParityNode l) × ((e : ℕ) × (p ≡ DataNode e))
   reads-it (tells.ReadBlock session block rows) stands l n r ask = (sym stands.0 ∙ ask.0.0, data-is p stands.2)
   reads-it (tells.Update _ _ _ _) stands l n r ask = absurd ask
   reads-it (tells.Ack _ _ _) stands l n r ask = absurd ask
@@ -250,7 +250,7 @@ module _ (s : Dimensions) (v u w : State) (x p : ProcessId) (m : Message) (xin :
     fair = receive-fair s x (v.process p) m fact (subst (ComesTo x m) (sym name) (comes-to s v x p m may)) (subst (Goes x m) (sym name) (goes m may));
     accepted = λ l n d r is lin l_lives x_lives above has. (accepted-it m pops.first may l n d r is lin l_lives x_lives above (only (IsMark l n d) has), tt);
     within = λ l n d has. within-it m may l n d (only (IsMark l n d) has);
-    reader = λ l n r has. reads-it m may l n r (only (IsAsk l n r) has);
+    reader = λ l n r has. reads-it m may l n r (only (AsksForBlock l n r) has);
     spent = λ k low has. (let less = fewer k low in let one : one_if (is_token k x p m) ≡ 1 = ap one_if (only (λ z. is_token k x p z ≡ true) has) in omega (arith, less, one));
     few = λ k low. (let less = fewer k low in omega (arith, less));
   }) held.ending

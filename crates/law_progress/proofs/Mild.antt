@@ -31,7 +31,7 @@ use Rattle.law_moves.proofs.Calls.{Owes, Seated, step-treats}
 use Rattle.law_moves.proofs.Cores.{SentWell}
 use Rattle.law_bytes.proofs.Unasked.{never-asks}
 use Rattle.law_answers.proofs.Awaited.{kept-apply}
-use Rattle.law_progress.proofs.Waiting.{Has, IsAsk, IsBlock, IsMark, IsRead, IsRow, marks_in}
+use Rattle.law_progress.proofs.Waiting.{Has, AsksForBlock, IsBlock, IsMark, IsRead, IsRow, marks_in}
 use Rattle.law_progress.proofs.Sides.{Accepts, Calm, CalmSent, Fair, IsCease, calm-sent, marks-apply, same-leader, same-row}
 
 -- a process with the same copies and sessions
@@ -196,7 +196,7 @@ module _ (s : Dimensions) where
   module _ (x : ProcessId) (came : List Message) (p : Process) (t : ProcessStep) (mild : Mild p t) where
     pub fair-mild : ((l n r d : ℕ) → p.name ≡ ParityNode r → Has (IsMark l n d) came → Each (Accepts p) came → ⊥) → ((l n : ℕ) → x ≡ ParityNode l → Has (IsCease n) came → ⊥)
         → ((l n r : ℕ) → p.name ≡ ParityNode l → x ≡ ParityNode r → Has (IsRow l n) came → ⊥) → ((l n d : ℕ) → p.name ≡ ParityNode l → x ≡ DataNode d → Has (IsBlock l n) came → ⊥)
-        → ((l n r e : ℕ) → p.name ≡ DataNode e → Has (IsAsk l n r) came → ⊥) → ((l n e : ℕ) → p.name ≡ DataNode e → Has (IsRead l n) came → ⊥) → Fair s x came p t
+        → ((l n r e : ℕ) → p.name ≡ DataNode e → Has (AsksForBlock l n r) came → ⊥) → ((l n e : ℕ) → p.name ≡ DataNode e → Has (IsRead l n) came → ⊥) → Fair s x came p t
     fair-mild no_mark no_cease no_row no_block no_ask no_read = record {
       row = same-row s x came p t mild.alike.ceased mild.alike.marks no_mark no_cease;
       leader = same-leader s x came p t mild.alike.known mild.alike.sessions mild.alike.last no_row no_block;

@@ -21,7 +21,7 @@ use Rattle.law_moves.proofs.Standing.{each-sent_to}
 use Rattle.law_bytes.proofs.Tokens.{Row, at_process, in_copy, is_token, one_if, tokens}
 use Rattle.law_bytes.proofs.TokensKeeping.{unknown}
 use Rattle.law_bytes.proofs.Nothing.{link-none, token}
-use Rattle.law_progress.proofs.Waiting.{Asked, BlockComes, Copied, Given, Has, IsAsk, IsBlock, IsMark, IsRead, IsRow, Marked, Marking, RowComes, WantsBlock, WantsRow, Waited, marks_in}
+use Rattle.law_progress.proofs.Waiting.{Asked, BlockComes, Copied, Given, Has, AsksForBlock, IsBlock, IsMark, IsRead, IsRow, Marked, Marking, RowComes, WantsBlock, WantsRow, Waited, marks_in}
 use Rattle.law_progress.proofs.Holding.{AskThere, CopyThere, Ended, Ending, MarkThere, Move, Pending}
 use Rattle.law_progress.proofs.Sides as sides
 use Rattle.law_progress.proofs.Sides.{After, Fresh, IsCease, LeaderFine, Leaves, NewRow, NoMore, RowFine, opened}
@@ -195,8 +195,8 @@ module _ (s : Dimensions) (v u w : State) (x p : ProcessId) (came : List Message
         (let over = subst (λ (y : Process). at 0 y.as_row.ceased l < n) (now-p (ParityNode r) is) (ceased-w l r n lin rin l_lives r_lives is-fresh) in omega (arith, over, under))
 
     carry : (x ≡ ParityNode r → ParityNode l ≡ p → Has (IsRow l n) came → ⊥) → RowComes s v l n r d → RowComes s w l n r d
-    carry no_row (Asked living has) = by (stays (IsAsk l n r) (ParityNode l) (DataNode d) lin low living has) where
-      by : ((ParityNode l ≡ x) × (DataNode d ≡ p) × Has (IsAsk l n r) came) ⊎ Has (IsAsk l n r) (w.link (ParityNode l) (DataNode d)) → RowComes s w l n r d
+    carry no_row (Asked living has) = by (stays (AsksForBlock l n r) (ParityNode l) (DataNode d) lin low living has) where
+      by : ((ParityNode l ≡ x) × (DataNode d ≡ p) × Has (AsksForBlock l n r) came) ⊎ Has (AsksForBlock l n r) (w.link (ParityNode l) (DataNode d)) → RowComes s w l n r d
       by (inr left) = Asked (dead-same (DataNode d) low ∙ living) left
       by (inl (from, here, taken)) = Marking (DataNode d) low (λ same. cc same) (dead-same (DataNode d) low ∙ living) (inr refl)
           (subst (λ (y : ProcessId). Has (IsMark l n d) (w.link y (ParityNode r))) (sym here) (sent-there (IsMark l n d) (ParityNode r) rin r_lived (move.fair.sent.asked l n r d (named-data d here) taken)))
@@ -234,7 +234,7 @@ module _ (s : Dimensions) (v u w : State) (x p : ProcessId) (came : List Message
       new is (sides.Own same held) may_w = Copied (subst (λ (y : Process). Marked d (marks_in y l n)) (sym (now-p (ParityNode r) (ap ParityNode same ∙ is))) held)
       new is (sides.Left unknown_d sends) (inl known) = absurd (cc (sym known ∙ ap (λ (y : Process). knows_dead y.known (DataNode d)) (now-p (ParityNode l) is) ∙ unknown_d))
       new is (sides.Left unknown_d sends) (inr living) =
-          Asked living (subst (λ (y : ProcessId). Has (IsAsk l n r) (w.link y (DataNode d))) (sym is) (sent-there (IsAsk l n r) (DataNode d) low (lives-v living) sends))
+          Asked living (subst (λ (y : ProcessId). Has (AsksForBlock l n r) (w.link y (DataNode d))) (sym is) (sent-there (AsksForBlock l n r) (DataNode d) low (lives-v living) sends))
 
       by : (ParityNode l ≡ p) ⊎ (ParityNode l ≢ p) → RowComes s w l n r d
       by (inr other) =
@@ -355,11 +355,11 @@ module _ (s : Dimensions) (v u w : State) (x p : ProcessId) (came : List Message
       by : Has (IsMark l n d) (u.link a (ParityNode r)) ⊎ ((a ≡ p) × Sends (IsMark l n d) (ParityNode r) t.sent) → Goal
       by (inl there) = absurd (no-mark s l n r u d (none d (mark-within a d ain apart there)) a ain rin apart (u-lives (ParityNode r) rin r_was) there)
       by (inr (from, sends)) = sent_by (move.fair.sent.marks l n r d sends) where
-        sent_by : Has (IsAsk l n r) came ⊎ (((v.process p).name ≡ ParityNode l) × WantsRow r (opened t.process n)) → Goal
+        sent_by : Has (AsksForBlock l n r) came ⊎ (((v.process p).name ≡ ParityNode l) × WantsRow r (opened t.process n)) → Goal
         sent_by (inl ask) = absurd (cc (is ∙ (move.reader l n r ask).1.1))
         sent_by (inr wants) = wants-now is wants.1
-    unless-none is none other (AskThere e low living has) = by (was-u (IsAsk l n r) (ParityNode l) (DataNode e) lin low (lived (DataNode e) low living) has) where
-      by : Has (IsAsk l n r) (u.link (ParityNode l) (DataNode e)) ⊎ ((ParityNode l ≡ p) × Sends (IsAsk l n r) (DataNode e) t.sent) → Goal
+    unless-none is none other (AskThere e low living has) = by (was-u (AsksForBlock l n r) (ParityNode l) (DataNode e) lin low (lived (DataNode e) low living) has) where
+      by : Has (AsksForBlock l n r) (u.link (ParityNode l) (DataNode e)) ⊎ ((ParityNode l ≡ p) × Sends (AsksForBlock l n r) (DataNode e) t.sent) → Goal
       by (inl there) = absurd (no-ask s l n r u e (none e low) lin low (u-lives (DataNode e) low (lived (DataNode e) low living)) there)
       by (inr (from, sends)) = wants-now is (move.fair.sent.asks l n r e low sends).1
 
@@ -395,9 +395,9 @@ module _ (s : Dimensions) (v u w : State) (x p : ProcessId) (came : List Message
         mark_by : Has (IsMark l n e) (u.link a (ParityNode r)) ⊎ ((a ≡ p) × Sends (IsMark l n e) (ParityNode r) t.sent) → Goal
         mark_by (inl there) = absurd (none-there e (mark-within a e ain apart there) (IsMark l n e) a (ParityNode r) ain rin apart (u-lives (ParityNode r) rin r_was) (mark-token s l n r e a) there)
         mark_by (inr (from, sends)) = absurd (apart (from ∙ sym here))
-      by (AskThere e low living has) = ask_by (was-u (IsAsk l n r) (ParityNode l) (DataNode e) lin low (lived (DataNode e) low living) has) where
-        ask_by : Has (IsAsk l n r) (u.link (ParityNode l) (DataNode e)) ⊎ ((ParityNode l ≡ p) × Sends (IsAsk l n r) (DataNode e) t.sent) → Goal
-        ask_by (inl there) = absurd (none-there e low (IsAsk l n r) (ParityNode l) (DataNode e) lin low (λ same. cc same) (u-lives (DataNode e) low (lived (DataNode e) low living)) (ask-token s l n r e (ParityNode l)) there)
+      by (AskThere e low living has) = ask_by (was-u (AsksForBlock l n r) (ParityNode l) (DataNode e) lin low (lived (DataNode e) low living) has) where
+        ask_by : Has (AsksForBlock l n r) (u.link (ParityNode l) (DataNode e)) ⊎ ((ParityNode l ≡ p) × Sends (AsksForBlock l n r) (DataNode e) t.sent) → Goal
+        ask_by (inl there) = absurd (none-there e low (AsksForBlock l n r) (ParityNode l) (DataNode e) lin low (λ same. cc same) (u-lives (DataNode e) low (lived (DataNode e) low living)) (ask-token s l n r e (ParityNode l)) there)
         ask_by (inr (from, sends)) = wants-now is (move.fair.sent.asks l n r e low sends).1
 
     resolve : Pending s w l n r → ParityNode l ≡ p → NoMore s x came (v.process p) t l n r → Goal
@@ -432,16 +432,16 @@ module _ (s : Dimensions) (v u w : State) (x p : ProcessId) (came : List Message
       by : Has (IsMark l n d) (u.link a (ParityNode r)) ⊎ ((a ≡ p) × Sends (IsMark l n d) (ParityNode r) t.sent) → Goal
       by (inl there) = was-pending (MarkThere a d ain apart (was-v (IsMark l n d) a (ParityNode r) ain rin there)) (MarkThere a d ain apart has)
       by (inr (from, sends)) = sent_by (move.fair.sent.marks l n r d sends) where
-        asked : (e : ℕ) → p ≡ DataNode e → x ≡ ParityNode l → Has (IsAsk l n r) came → Pending s v l n r
+        asked : (e : ℕ) → p ≡ DataNode e → x ≡ ParityNode l → Has (AsksForBlock l n r) came → Pending s v l n r
         asked e is leads ask = AskThere e (subst (IsProcess s) is move.inside) (ap v.dead (sym is) ∙ move.lives)
-            (subst (λ (y : ProcessId). Has (IsAsk l n r) (v.link (ParityNode l) y)) is (subst (λ (y : ProcessId). Has (IsAsk l n r) (v.link y p)) leads (came-v (IsAsk l n r) ask)))
+            (subst (λ (y : ProcessId). Has (AsksForBlock l n r) (v.link (ParityNode l) y)) is (subst (λ (y : ProcessId). Has (AsksForBlock l n r) (v.link y p)) leads (came-v (AsksForBlock l n r) ask)))
 
-        sent_by : Has (IsAsk l n r) came ⊎ (((v.process p).name ≡ ParityNode l) × WantsRow r (opened t.process n)) → Goal
+        sent_by : Has (AsksForBlock l n r) came ⊎ (((v.process p).name ≡ ParityNode l) × WantsRow r (opened t.process n)) → Goal
         sent_by (inl ask) = let reads = move.reader l n r ask in was-pending (asked reads.1.0 reads.1.1 reads.0 ask) (MarkThere a d ain apart has)
         sent_by (inr wants) = wants-named wants.0 wants.1
-    pends-w (AskThere e low living has) = by (was-u (IsAsk l n r) (ParityNode l) (DataNode e) lin low (lived (DataNode e) low living) has) where
-      by : Has (IsAsk l n r) (u.link (ParityNode l) (DataNode e)) ⊎ ((ParityNode l ≡ p) × Sends (IsAsk l n r) (DataNode e) t.sent) → Goal
-      by (inl there) = was-pending (AskThere e low (lived (DataNode e) low living) (was-v (IsAsk l n r) (ParityNode l) (DataNode e) lin low there)) (AskThere e low living has)
+    pends-w (AskThere e low living has) = by (was-u (AsksForBlock l n r) (ParityNode l) (DataNode e) lin low (lived (DataNode e) low living) has) where
+      by : Has (AsksForBlock l n r) (u.link (ParityNode l) (DataNode e)) ⊎ ((ParityNode l ≡ p) × Sends (AsksForBlock l n r) (DataNode e) t.sent) → Goal
+      by (inl there) = was-pending (AskThere e low (lived (DataNode e) low living) (was-v (AsksForBlock l n r) (ParityNode l) (DataNode e) lin low there)) (AskThere e low living has)
       by (inr (from, sends)) = wants-now from (move.fair.sent.asks l n r e low sends).1
 
   pub moved : Ending s w

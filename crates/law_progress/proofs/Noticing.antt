@@ -22,7 +22,7 @@ use Rattle.group_run.specs.Rows.{copies_ceased, is_copy, leader_forgotten, parit
 use Rattle.law_moves.proofs.Known.{knows-with_dead}
 use Rattle.law_bytes.proofs.Finding.{found-filter}
 use Rattle.law_bytes.proofs.Local.{copy-parts}
-use Rattle.law_progress.proofs.Waiting.{Has, IsAsk, IsMark, Marked, WantsBlock, WantsRow, marks_in}
+use Rattle.law_progress.proofs.Waiting.{Has, AsksForBlock, IsMark, Marked, WantsBlock, WantsRow, marks_in}
 use Rattle.law_progress.proofs.Mild.{Alike, Mild, alike-then, mild-each, mild-judge, mild-take}
 use Rattle.law_progress.proofs.Sides as sides
 use Rattle.law_progress.proofs.Sides.{After, Calm, CalmSent, CopyFine, Fair, Fresh, IsCease, LeaderFine, LeaderSide, Leaves, NoMore, RowFine, RowSide, SentSide, calm-ask, calm-leaves, calm-mark, calm-none, calm-sent, leaves-each, opened, same-leader}
@@ -274,7 +274,7 @@ module _ (s : Dimensions) (x dead : ProcessId) (p : Process) where
       asked = λ l n r e name has. absurd (nothing has);
       given = λ l n e name has. absurd (nothing has);
       marks = λ l n r d sends. absurd (sends-none (IsMark l n d) (λ upto is. is) (calm-mark l n d) (ParityNode r) sends);
-      asks = λ l n r e low sends. absurd (sends-none (IsAsk l n r) (λ upto is. is) (calm-ask l n r) (DataNode e) sends);
+      asks = λ l n r e low sends. absurd (sends-none (AsksForBlock l n r) (λ upto is. is) (calm-ask l n r) (DataNode e) sends);
       ceases = λ l n name fresh. each-append (λ z. Leaves n z.message) (closing.sent ++ (judged closing.process).sent) (taking (judged closing.process).process).sent
           (each-append (λ z. Leaves n z.message) closing.sent (judged closing.process).sent (closed.leaves n (last_below n fresh)) (leaves-each n (judged closing.process).sent mild-judged.calm))
           (leaves-each n (taking (judged closing.process).process).sent mild-taking.calm);

@@ -21,7 +21,7 @@ use Rattle.group_run.specs.Rows.{parity_number}
 use Rattle.law_moves.proofs.Calls.{each-below}
 use Rattle.law_bytes.proofs.Finding.{and-split, true-false}
 use Rattle.law_bytes.proofs.Stamps.{OfSession}
-use Rattle.law_progress.proofs.Waiting.{Has, IsAsk, IsMark, IsRead, Marked, WantsBlock, WantsRow, marks_in}
+use Rattle.law_progress.proofs.Waiting.{Has, AsksForBlock, IsMark, IsRead, Marked, WantsBlock, WantsRow, marks_in}
 use Rattle.law_progress.proofs.Gathering.{one-of-all}
 use Rattle.law_progress.proofs.Sides as sides
 use Rattle.law_progress.proofs.Sides.{CopyFine, Fair, Fresh, LeaderFine, LeaderSide, Leaves, NewBlock, NewRow, RowFine, RowSide, SentSide, calm-ask, calm-mark, calm-none, leaves-each, opened}
@@ -97,12 +97,12 @@ module _ (s : Dimensions) (x : ProcessId) (p : Process) (block l : ℕ) (inside 
   abbrev mark_of : ℕ → ℕ → Sent
   mark_of e i = record { to = ParityNode i; message = tells.Mark (session_of l number) (rank (at 0 p.ranks e)) block (partition e) (replica_of p e).applied }
 
-  asks-d : (d r : ℕ) → d < s.k → knows_dead p.known (DataNode d) ≡ false → Has (λ i. i ≡ r) (rows_of s p) → Sends (IsAsk l number r) (DataNode d) step.sent
+  asks-d : (d r : ℕ) → d < s.k → knows_dead p.known (DataNode d) ≡ false → Has (λ i. i ≡ r) (rows_of s p) → Sends (AsksForBlock l number r) (DataNode d) step.sent
   asks-d d r low is row =
       has-left P (session_starts s l number block p) ran.sent
       (has-left P (map question (left_of s p)) (flat_map (leader_marks s l number block p) (lost_of s p)) (has-map P question (left_of s p) (each_of (left_of s p) (left-has d low is)))) where
         P : Sent → Type 0
-        P z = (z.to ≡ DataNode d) × IsAsk l number r z.message
+        P z = (z.to ≡ DataNode d) × AsksForBlock l number r z.message
 
         each_of : (ds : List ℕ) → Has (λ i. i ≡ d) ds → Has (λ i. (DataNode i ≡ DataNode d) × (OfSession l number (session_of l number) × Has (λ i. i ≡ r) (rows_of s p))) ds
         each_of [] has = absurd has
@@ -275,7 +275,7 @@ module _ (s : Dimensions) (x : ProcessId) (p : Process) (block l : ℕ) (inside 
     asked = λ k n r e is has. absurd has;
     given = λ k n e is has. absurd has;
     marks = λ k n r d sends. inr (marks k n r d (split-sent (IsMark k n d) (calm-mark k n d) (ParityNode r) sends));
-    asks = λ k n r e low sends. asks k n r e low (split-sent (IsAsk k n r) (calm-ask k n r) (DataNode e) sends);
+    asks = λ k n r e low sends. asks k n r e low (split-sent (AsksForBlock k n r) (calm-ask k n r) (DataNode e) sends);
     ceases = λ k n is fresh. each-append (λ z. Leaves n z.message) (session_starts s l number block p) ran.sent
         (each-append (λ z. Leaves n z.message) (map question (left_of s p)) (flat_map (leader_marks s l number block p) (lost_of s p))
         (each-map (λ z. Leaves n z.message) question (left_of s p) (each-all (λ d. Unit {0}) (λ d. tt) (left_of s p))) (all_marks n (lost_of s p)))

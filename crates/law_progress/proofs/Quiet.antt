@@ -31,7 +31,7 @@ use Rattle.law_histories.proofs.Copies.{forgotten_always}
 use Rattle.law_histories.proofs.Finished.{IsEmpty, living-by}
 use Rattle.law_histories.proofs.Whole.{quiet-where}
 use Rattle.law_progress.specs.Quiets.{QuietAlways}
-use Rattle.law_progress.proofs.Waiting.{Asked, BlockComes, Copied, Given, Has, IsAsk, IsBlock, IsMark, IsRead, IsRow, Marked, Marking, RowComes, WantsBlock, WantsRow, WaitedAlways, marks_in}
+use Rattle.law_progress.proofs.Waiting.{Asked, BlockComes, Copied, Given, Has, AsksForBlock, IsBlock, IsMark, IsRead, IsRow, Marked, Marking, RowComes, WantsBlock, WantsRow, WaitedAlways, marks_in}
 use Rattle.law_progress.proofs.Holding.{CopyThere, Ended}
 use Rattle.law_progress.proofs.Keeping.{Held, keeps-held}
 use Rattle.law_progress.proofs.Sides.{CopyFine, IsCease, opened}
@@ -111,7 +111,7 @@ module _ (s : Dimensions) (v : State) (some : 0 < s.k) (held : Held s v) (fits :
 
         comes : RowComes s v l n r d → Marked d (marks_in (v.process (ParityNode r)) l n)
         comes (Copied is) = is
-        comes (Asked d_lives has) = absurd (none-there (IsAsk l n r) (ParityNode l) (DataNode d) lin low d_lives (λ same. cc same) has)
+        comes (Asked d_lives has) = absurd (none-there (AsksForBlock l n r) (ParityNode l) (DataNode d) lin low d_lives (λ same. cc same) has)
         comes (Marking x xin apart x_lives which has) = absurd (none-there (IsMark l n d) x (ParityNode r) xin rin r_lives apart has)
         comes (Given apart has) = absurd (none-there (IsRow l n) (ParityNode r) (ParityNode l) rin lin lives (λ same. apart (parity-one r l same)) has)
 

@@ -17,7 +17,7 @@ use Rattle.group_run.specs.Replica.{up_to}
 use Rattle.group_run.specs.Rows.{accepts_mark, copy_in, is_copy, parity_number}
 use Rattle.law_bytes.proofs.Finding.{found-map}
 use Rattle.law_bytes.proofs.Marking.{copy-mark, copy-test}
-use Rattle.law_progress.proofs.Waiting.{Has, IsAsk, IsBlock, IsMark, IsRead, IsRow, Marked, WantsBlock, WantsRow, marks_in}
+use Rattle.law_progress.proofs.Waiting.{Has, AsksForBlock, IsBlock, IsMark, IsRead, IsRow, Marked, WantsBlock, WantsRow, marks_in}
 use Rattle.law_progress.proofs.Views.{Sends}
 
 -- a close notice up to session n or more, and one that leaves session n
@@ -87,7 +87,7 @@ calm-mark l n d (tells.Row _ _ _) calm is = absurd is
 calm-mark l n d (tells.Cease _) calm is = absurd calm
 calm-mark l n d (tells.Notice _) calm is = absurd is
 
-pub calm-ask : (l n r : ℕ) (m : Message) → Calm m → IsAsk l n r m → ⊥
+pub calm-ask : (l n r : ℕ) (m : Message) → Calm m → AsksForBlock l n r m → ⊥
 calm-ask l n r (tells.Update _ _ _ _) calm is = absurd is
 calm-ask l n r (tells.Ack _ _ _) calm is = absurd is
 calm-ask l n r (tells.Stable _ _ _) calm is = absurd is
@@ -139,7 +139,7 @@ module _ (s : Dimensions) (x : ProcessId) (came : List Message) (p : Process) (t
   pub data NewRow (l n r d : ℕ) : Type 0 where
     Lost : knows_dead t.process.known (DataNode d) ≡ true → r ≢ l → Sends (IsMark l n d) (ParityNode r) t.sent → NewRow l n r d
     Own : r ≡ l → Marked d (marks_in t.process l n) → NewRow l n r d
-    Left : knows_dead t.process.known (DataNode d) ≡ false → Sends (IsAsk l n r) (DataNode d) t.sent → NewRow l n r d
+    Left : knows_dead t.process.known (DataNode d) ≡ false → Sends (AsksForBlock l n r) (DataNode d) t.sent → NewRow l n r d
 
   abbrev pub NewBlock : ℕ → ℕ → ℕ → Type 0
   NewBlock l n d = (knows_dead t.process.known (DataNode d) ≡ true) ⊎ Sends (IsRead l n) (DataNode d) t.sent
@@ -161,10 +161,10 @@ module _ (s : Dimensions) (x : ProcessId) (came : List Message) (p : Process) (t
     pub fine : LeaderFine s p → LeaderFine s t.process
 
   pub record SentSide : Type 0 where
-    pub asked : (l n r e : ℕ) → p.name ≡ DataNode e → Has (IsAsk l n r) came → Sends (IsMark l n e) (ParityNode r) t.sent
+    pub asked : (l n r e : ℕ) → p.name ≡ DataNode e → Has (AsksForBlock l n r) came → Sends (IsMark l n e) (ParityNode r) t.sent
     pub given : (l n e : ℕ) → p.name ≡ DataNode e → Has (IsRead l n) came → Sends (IsBlock l n) (ParityNode l) t.sent
-    pub marks : (l n r d : ℕ) → Sends (IsMark l n d) (ParityNode r) t.sent → Has (IsAsk l n r) came ⊎ ((p.name ≡ ParityNode l) × WantsRow r (opened t.process n))
-    pub asks : (l n r e : ℕ) → e < s.k → Sends (IsAsk l n r) (DataNode e) t.sent → (p.name ≡ ParityNode l) × WantsRow r (opened t.process n)
+    pub marks : (l n r d : ℕ) → Sends (IsMark l n d) (ParityNode r) t.sent → Has (AsksForBlock l n r) came ⊎ ((p.name ≡ ParityNode l) × WantsRow r (opened t.process n))
+    pub asks : (l n r e : ℕ) → e < s.k → Sends (AsksForBlock l n r) (DataNode e) t.sent → (p.name ≡ ParityNode l) × WantsRow r (opened t.process n)
     pub ceases : (l n : ℕ) → p.name ≡ ParityNode l → Fresh t.process n → Each (λ z. Leaves n z.message) t.sent
 
   pub record Fair : Type 0 where
@@ -173,12 +173,12 @@ module _ (s : Dimensions) (x : ProcessId) (came : List Message) (p : Process) (t
     pub sent : SentSide
 
   -- what came is of no session for this process
-  pub calm-sent : ((l n r e : ℕ) → p.name ≡ DataNode e → Has (IsAsk l n r) came → ⊥) → ((l n e : ℕ) → p.name ≡ DataNode e → Has (IsRead l n) came → ⊥) → CalmSent t.sent → SentSide
+  pub calm-sent : ((l n r e : ℕ) → p.name ≡ DataNode e → Has (AsksForBlock l n r) came → ⊥) → ((l n e : ℕ) → p.name ≡ DataNode e → Has (IsRead l n) came → ⊥) → CalmSent t.sent → SentSide
   calm-sent no_ask no_read calm = record {
     asked = λ l n r e name has. absurd (no_ask l n r e name has);
     given = λ l n e name has. absurd (no_read l n e name has);
     marks = λ l n r d sends. absurd (calm-none (IsMark l n d) (calm-mark l n d) (ParityNode r) t.sent calm sends);
-    asks = λ l n r e low sends. absurd (calm-none (IsAsk l n r) (calm-ask l n r) (DataNode e) t.sent calm sends);
+    asks = λ l n r e low sends. absurd (calm-none (AsksForBlock l n r) (calm-ask l n r) (DataNode e) t.sent calm sends);
     ceases = λ l n name fresh. leaves-each n t.sent calm;
   }
 

@@ -16,7 +16,7 @@ use Rattle.law_bytes.proofs.Finding.{and-join}
 use Rattle.law_bytes.proofs.Tokens.{Row, Token, around, at_process, between, everyone, in_copy, in_link, is_marked_in, is_token, sum_of, tokens}
 use Rattle.law_bytes.proofs.Sums.{sum-less, within-everyone, sum-at, bit-off}
 use Rattle.law_bytes.proofs.Nothing.{copy-none, link-none, named-so, token}
-use Rattle.law_progress.proofs.Waiting.{Has, IsAsk, IsMark, IsRow, Marked, marks_in}
+use Rattle.law_progress.proofs.Waiting.{Has, AsksForBlock, IsMark, IsRow, Marked, marks_in}
 
 -- none of a list is so
 pub each-not : {X : Type 0} (P Q : X → Type 0) → ((x : X) → P x → Q x) → (xs : List X) → Each (λ x. Q x → ⊥) xs → Has P xs → ⊥
@@ -25,7 +25,7 @@ each-not P Q turn (x ∷ xs) none (inl here) = none.0 (turn x here)
 each-not P Q turn (x ∷ xs) none (inr there) = each-not P Q turn xs none.1 there
 
 module _ (s : Dimensions) (l n r : ℕ) where
-  pub ask-token : (e : ℕ) (x : ProcessId) (m : Message) → IsAsk l n r m → is_token (token l n e (Row r)) x (DataNode e) m ≡ true
+  pub ask-token : (e : ℕ) (x : ProcessId) (m : Message) → AsksForBlock l n r m → is_token (token l n e (Row r)) x (DataNode e) m ≡ true
   ask-token e x (tells.Update _ _ _ _) is = absurd is
   ask-token e x (tells.Ack _ _ _) is = absurd is
   ask-token e x (tells.Stable _ _ _) is = absurd is
@@ -78,8 +78,8 @@ module _ (s : Dimensions) (l n r : ℕ) where
           each-not (IsMark l n d) (λ m. is_token (token l n d (Row r)) a (ParityNode r) m ≡ true) (mark-token d a) (v.link a (ParityNode r))
           (link-none s v (token l n d (Row r)) none a (ParityNode r) ain rin apart lives) has
 
-      pub no-ask : l < s.m → d < s.k → v.dead (DataNode d) ≡ false → Has (IsAsk l n r) (v.link (ParityNode l) (DataNode d)) → ⊥
-      no-ask lin low lives has = each-not (IsAsk l n r) (λ m. is_token (token l n d (Row r)) (ParityNode l) (DataNode d) m ≡ true) (ask-token d (ParityNode l)) (v.link (ParityNode l) (DataNode d))
+      pub no-ask : l < s.m → d < s.k → v.dead (DataNode d) ≡ false → Has (AsksForBlock l n r) (v.link (ParityNode l) (DataNode d)) → ⊥
+      no-ask lin low lives has = each-not (AsksForBlock l n r) (λ m. is_token (token l n d (Row r)) (ParityNode l) (DataNode d) m ≡ true) (ask-token d (ParityNode l)) (v.link (ParityNode l) (DataNode d))
           (link-none s v (token l n d (Row r)) none (ParityNode l) (DataNode d) lin low (λ same. cc same) lives) has
 
       pub no-copy : r < s.m → v.dead (ParityNode r) ≡ false → (v.process (ParityNode r)).name ≡ ParityNode r → Marked d (marks_in (v.process (ParityNode r)) l n) → ⊥

@@ -20,7 +20,7 @@ use Rattle.group_run.specs.Receiving.{data_marks, read_comes, receive}
 use Rattle.group_run.specs.Rows.{accepts_mark, parity_number}
 use Rattle.law_bytes.proofs.Finding.{and-split}
 use Rattle.law_bytes.proofs.Stamps.{OfSession}
-use Rattle.law_progress.proofs.Waiting.{Has, IsAsk, IsBlock, IsMark, IsRead, IsRow, Marked, WantsRow, marks_in}
+use Rattle.law_progress.proofs.Waiting.{Has, AsksForBlock, IsBlock, IsMark, IsRead, IsRow, Marked, WantsRow, marks_in}
 use Rattle.law_progress.proofs.Gathering.{Gathers, block-gathers, row-gathers}
 use Rattle.law_progress.proofs.Marking.{Goes, Outcome, Own, Takes, Waits, mark-takes}
 use Rattle.law_progress.proofs.Mild.{fair-mild, mild-self}
@@ -140,7 +140,7 @@ module _ (s : Dimensions) (x : ProcessId) (p : Process) (e : ℕ) (session : Ses
     both A r (i ∷ is) of_it (inl here) = inl (ap ParityNode here, of_it)
     both A r (i ∷ is) of_it (inr there) = inr (both A r is of_it there)
 
-    marks_for : (l n r d : ℕ) → e ≡ d → Has (IsAsk l n r) (tells.ReadBlock session block rows ∷ []) → Has (λ i. (ParityNode i ≡ ParityNode r) × (OfSession l n session × (e ≡ d))) rows
+    marks_for : (l n r d : ℕ) → e ≡ d → Has (AsksForBlock l n r) (tells.ReadBlock session block rows ∷ []) → Has (λ i. (ParityNode i ≡ ParityNode r) × (OfSession l n session × (e ≡ d))) rows
     marks_for l n r d same (inl ask) = both (OfSession l n session × (e ≡ d)) r rows (ask.0, same) ask.1
     marks_for l n r d same (inr none) = absurd none
 
@@ -160,12 +160,12 @@ module _ (s : Dimensions) (x : ProcessId) (p : Process) (e : ℕ) (session : Ses
         (map-has (λ z. (z.to ≡ ParityNode r) × IsMark l n d z.message) (λ i. record { to = ParityNode i; message = tells.Mark session (rank 0) block (partition e) (replica_of p e).applied }) rows there) in
         (it.0.0, ones r rows it.1)
 
-    none_of : (l n r d : ℕ) (is : List ℕ) → Sends (IsAsk l n r) (DataNode d) (data_marks session block e (replica_of p e).applied is) → ⊥
+    none_of : (l n r d : ℕ) (is : List ℕ) → Sends (AsksForBlock l n r) (DataNode d) (data_marks session block e (replica_of p e).applied is) → ⊥
     none_of l n r d [] sends = sends
     none_of l n r d (i ∷ is) (inl here) = here.1
     none_of l n r d (i ∷ is) (inr there) = none_of l n r d is there
 
-    no_asks : (l n r d : ℕ) → Sends (IsAsk l n r) (DataNode d) (read_comes s session block rows p (DataNode e)).sent → ⊥
+    no_asks : (l n r d : ℕ) → Sends (AsksForBlock l n r) (DataNode d) (read_comes s session block rows p (DataNode e)).sent → ⊥
     no_asks l n r d (inl here) = here.1
     no_asks l n r d (inr there) = none_of l n r d rows there
 

@@ -25,9 +25,9 @@ abbrev pub IsRead : ℕ → ℕ → Message → Type 0
 IsRead l n (tells.ReadBlock session block rows) = OfSession l n session
 IsRead l n _ = ⊥
 
-abbrev pub IsAsk : ℕ → ℕ → ℕ → Message → Type 0
-IsAsk l n r (tells.ReadBlock session block rows) = OfSession l n session × Has (λ i. i ≡ r) rows
-IsAsk l n r _ = ⊥
+abbrev pub AsksForBlock : ℕ → ℕ → ℕ → Message → Type 0
+AsksForBlock l n r (tells.ReadBlock session block rows) = OfSession l n session × Has (λ i. i ≡ r) rows
+AsksForBlock l n r _ = ⊥
 
 -- a mark of partition d, a row, and a block for the session
 abbrev pub IsMark : ℕ → ℕ → ℕ → Message → Type 0
@@ -61,7 +61,7 @@ WantsBlock d (Some g) = at None g.blocks_in d ≡ None
 
 -- something is under way from partition d to row r, or from there to the leader
 pub data RowComes (s : Dimensions) (v : State) (l n r d : ℕ) : Type 0 where
-  Asked : v.dead (DataNode d) ≡ false → Has (IsAsk l n r) (v.link (ParityNode l) (DataNode d)) → RowComes s v l n r d
+  Asked : v.dead (DataNode d) ≡ false → Has (AsksForBlock l n r) (v.link (ParityNode l) (DataNode d)) → RowComes s v l n r d
   Marking : (x : ProcessId) → IsProcess s x → x ≢ ParityNode r → v.dead x ≡ false → (x ≡ ParityNode l) ⊎ (x ≡ DataNode d) → Has (IsMark l n d) (v.link x (ParityNode r)) → RowComes s v l n r d
   Copied : Marked d (marks_in (v.process (ParityNode r)) l n) → RowComes s v l n r d
   Given : r ≢ l → Has (IsRow l n) (v.link (ParityNode r) (ParityNode l)) → RowComes s v l n r d

@@ -1,0 +1,11 @@
+pub mod Always
+pub mod Calls
+pub mod Drained
+pub mod Flushing
+pub mod Holding
+pub mod Lasting
+pub mod Standing
+pub mod Unfinished
+pub mod Values
+pub mod Waiting
+pub mod Worked
