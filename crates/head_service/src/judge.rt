@@ -35,6 +35,7 @@ pub fn judge<B: Beneath>(
     ensures replica { replica.new.replica ≡ applied_to (settles peers.now head.now (last_of replica.old.replica)) replica.old.replica }
     ensures tidy { IsTidyBut replica.new (λ _. false) }
     ensures below { B.shape below.new ≡ B.shape below.old }
+    ensures pages { B.made below.new ≡ B.made below.old }
     ensures bytes { B.process below.new ≡ bytes_after (B.shape below.old) partition.0
         (up_to (settles peers.now head.now (last_of replica.old.replica)) replica.old.replica) (B.process below.old) }
     ensures settled { settled.new.items ≡ settled.old.items ++ settlements partition.0
@@ -71,6 +72,7 @@ pub fn acknowledge<B: Beneath>(
     ensures shape { replica.new.shape ≡ replica.old.shape }
     ensures tidy { IsTidyBut replica.new (λ _. false) }
     ensures below { B.shape below.new ≡ B.shape below.old }
+    ensures pages { B.made below.new ≡ B.made below.old }
     ensures kept { (d : ℕ) (u : Update) → B.is_ready below.old d u → B.is_ready below.new d u }
     ensures ready { All (λ u. B.is_ready below.new partition.0 u) replica.new.replica.log }
     ensures head { OnOk result (head.new ≡ acknowledged parity number head.old) }

@@ -27,6 +27,7 @@ pub fn settle_to<B: Beneath>(
     ensures shape { replica.new.shape ≡ replica.old.shape }
     ensures replica { replica.new.replica ≡ applied_to number replica.old.replica }
     ensures below { B.shape below.new ≡ B.shape below.old }
+    ensures pages { B.made below.new ≡ B.made below.old }
     ensures bytes { B.process below.new ≡ bytes_after (B.shape below.old) partition.0 (up_to number replica.old.replica) (B.process below.old) }
     ensures settled { settled.new.items ≡ settled.old.items ++ settlements partition.0 (up_to number replica.old.replica) }
     ensures capacity { vec_capacity settled.old ≤ vec_capacity settled.new }

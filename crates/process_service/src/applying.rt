@@ -38,6 +38,7 @@ impl Service {
         ensures known { self.new.known ≡ self.old.known }
         ensures heads { self.new.heads ≡ self.old.heads }
         ensures beneath { IsBeneath self.new (B.shape below.new) (B.process below.new) (B.is_ready below.new) }
+        ensures pages { B.made below.new ≡ B.made below.old }
         ensures process { serving self.new (B.process below.new) ≡ apply_to self.old.shape partition.0 number (serving self.old (B.process below.old)) }
     {
         let replica = &mut self.replicas[partition.0 as usize];
