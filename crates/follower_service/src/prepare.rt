@@ -7,10 +7,10 @@ ghost use Rattle.group_run.specs.Replica.{up_to};
 ghost use Rattle.partition_replica.specs.State.{HasRoom, IsTidyBut, is_touched};
 ghost use Rattle.head_service.specs.Paging.{AllMiss, MakesNoneOf, Misses};
 
-use crate::apply::room;
 use group_message::{Update, UpdateList};
 use group_types::Partition;
 use head_service::news::{copy_all, copy_of};
+use head_service::settle::room;
 use head_service::{Beneath, Settlement};
 use partition_replica::Replica;
 use std::alloc::{AllocError, Global};

@@ -9,7 +9,7 @@ ghost use Rattle.head_service.specs.Peers.{settles};
 use crate::beneath::Beneath;
 use crate::head::Head;
 use crate::peers::Peers;
-use crate::settle::{settle_to, tidy};
+use crate::settle::{room, settle_to, tidy};
 use crate::step::Settlement;
 use group_types::Partition;
 use partition_replica::Replica;
@@ -29,7 +29,8 @@ pub fn judge<B: Beneath>(
     requires shape { B.shape below.old ≡ replica.old.shape }
     requires ready { All (λ u. B.is_ready below.old partition.0 u) replica.old.replica.log }
     requires blocks { partition.0 < length (B.process below.old).as_leader.rebuilt }
-    requires room { vec_len settled.old + length replica.old.replica.log ≤ vec_capacity settled.old }
+    requires room { vec_len settled.old + length (up_to (settles peers.now head.now (last_of replica.old.replica)) replica.old.replica)
+        ≤ vec_capacity settled.old }
     requires tidy { IsTidyBut replica.old (λ _. false) }
     ensures shape { replica.new.shape ≡ replica.old.shape }
     ensures replica { replica.new.replica ≡ applied_to (settles peers.now head.now (last_of replica.old.replica)) replica.old.replica }
@@ -86,9 +87,17 @@ pub fn acknowledge<B: Beneath>(
     ensures replica_err { OnErr result (replica.new.replica ≡ replica.old.replica) }
     ensures bytes_err { OnErr result (B.process below.new ≡ B.process below.old) }
 {
-    let waiting = replica.last() - replica.applied();
-    let mut settled = Vec::with_capacity(alloc, waiting as usize)?;
+    let before = head.acked(parity);
     head.acknowledge(parity, number);
-    judge(partition, head, peers, replica, below, &mut settled);
-    Ok(settled)
+    let reached = peers.least_acked(head, replica.last());
+    match room(alloc, reached, replica) {
+        Ok(mut settled) => {
+            judge(partition, head, peers, replica, below, &mut settled);
+            Ok(settled)
+        }
+        Err(AllocError) => {
+            head.restore(parity, before);
+            Err(AllocError)
+        }
+    }
 }

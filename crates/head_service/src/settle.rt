@@ -1,4 +1,4 @@
-ghost use Rattle.std.specs.Prelude.{◌≡◌, ◌+◌, ◌≤◌, ◌||◌, ℕ, ◌<◌, Bool, List, ◌++◌, length, vec_len, vec_capacity, All};
+ghost use Rattle.std.specs.Prelude.{◌≡◌, ◌+◌, ◌≤◌, ◌||◌, ℕ, ◌<◌, Bool, List, [], ◌++◌, length, vec_len, vec_capacity, All, IfOk};
 ghost use Rattle.group_message.specs.declared.update.Update.{Update};
 ghost use Rattle.group_run.specs.Applying.{bytes_after};
 ghost use Rattle.group_run.specs.Heading.{settlements};
@@ -10,6 +10,16 @@ use crate::beneath::Beneath;
 use crate::step::Settlement;
 use group_types::Partition;
 use partition_replica::Replica;
+use std::alloc::{AllocError, Global};
+
+/// Room for what is settled up to a number.
+pub fn room(alloc: Global, number: u64, replica: &Replica) -> Result<Vec<Settlement>, AllocError>
+    ensures empty { IfOk result (λ room. room.items ≡ []) }
+    ensures fits { IfOk result (λ room. length (up_to number replica.now.replica) ≤ vec_capacity room) }
+{
+    let reached = number.min(replica.last());
+    Vec::with_capacity(alloc, reached.saturating_sub(replica.applied()) as usize)
+}
 
 /// Applies the partition up to a number, and adds what is settled to the list. It takes no memory. The
 /// caller owes a `tidy` of each key that is settled.

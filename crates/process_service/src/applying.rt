@@ -6,8 +6,9 @@ ghost use Rattle.head_service.specs.Serving.{serving};
 ghost use Rattle.process_service.specs.Standing.{IsBeneath};
 
 use crate::service::Service;
-use follower_service::apply::{apply, room};
+use follower_service::apply::apply;
 use group_types::Partition;
+use head_service::settle::room;
 use head_service::{Beneath, Settlement};
 use std::alloc::AllocError;
 
