@@ -1,4 +1,4 @@
-ghost use Rattle.std.specs.Prelude.{◌≡◌, ◌+◌, ◌<◌, ◌≤◌, ◌^◌, ℕ, false, [], ◌↔◌, length, All, IsTrue, IsSome, None, true, IfOk, OnErr};
+ghost use Rattle.std.specs.Prelude.{◌≡◌, ◌+◌, ◌<◌, ◌≤◌, ◌^◌, ℕ, false, [], ◌↔◌, length, IsTrue, IsSome, None, true, IfOk, OnErr};
 ghost use Rattle.std.specs.List.{range_with_len};
 ghost use Rattle.group_types.specs.Dimensions.{space_of};
 ghost use Rattle.group_types.specs.Names.{IsProcess};
@@ -16,8 +16,10 @@ ghost use Rattle.group_run.specs.Receiving.{notice_comes, read_comes, receive};
 ghost use Rattle.group_run.specs.Replica.{callers, last_of};
 ghost use Rattle.group_run.specs.World.{flush_process};
 ghost use Rattle.head_service.specs.Acting.{name_of};
+ghost use Rattle.head_service.specs.Paging.{MakesNoneOf};
 ghost use Rattle.process_service.specs.Current.{is_current};
 ghost use Rattle.process_service.specs.Noticing.{waiting};
+ghost use Rattle.process_service.specs.Paging.{CallMisses};
 ghost use Rattle.process_service.specs.Standing.{is_under};
 ghost use Rattle.process_service.specs.Steps.{called, stepped};
 ghost use Rattle.data_process.specs.Steps.{ComesToData};
@@ -26,7 +28,7 @@ use crate::reading::read_block;
 use crate::values::Values;
 use group_calls::Answer;
 use group_message::{Message, Session};
-use group_types::{Partition, Payload, ProcessId, Rank, Run, Shape};
+use group_types::{Partition, Payload, ProcessId, Rank, Run, Shape, home};
 use head_service::{Asked, Call, CallStep, Sent};
 use membership::Members;
 use memc_table::Op;
@@ -70,8 +72,9 @@ impl DataProcess {
     /// A call is asked. After want of memory nothing but room has changed.
     pub fn ask(&mut self, call: Call, op: &Op) -> Result<CallStep, AllocError>
         requires caller { call.caller < callers }
-        requires numbers { All (λ r. last_of r < 2 ^ 62) self.old.process.replicas }
+        requires numbers { last_of (replica_of self.old.process (home_of (key_of op.now.act) self.old.shape.k)) < 2 ^ 62 }
         ensures shape { self.new.shape ≡ self.old.shape }
+        ensures pages { MakesNoneOf (CallMisses self.old.shape op.now self.old.process) self.old.made self.new.made }
         ensures step { IfOk result (λ step. ask_process self.old.shape (name_of call) op.now self.old.process ≡ called self.new.process step) }
         ensures wanted { OnErr result (IsSome (at None self.old.process.heads (home_of (key_of op.now.act) self.old.shape.k))) }
         ensures err { OnErr result (self.new.process ≡ self.old.process) }
@@ -85,6 +88,7 @@ impl DataProcess {
     /// A held call is answered once its update is settled, and forgotten then. It takes no memory.
     pub fn collect(&mut self, caller: u32, call: u64) -> Answer
         ensures shape { self.new.shape ≡ self.old.shape }
+        ensures pages { self.new.made ≡ self.old.made }
         ensures answer { collect_from caller call self.old.process (range_with_len 0 self.old.shape.k) ≡ only result self.new.process }
     {
         self.service.collect(caller, call)
@@ -110,6 +114,7 @@ impl DataProcess {
     pub fn receive(&mut self, from: ProcessId, message: &Message) -> Result<Step, AllocError>
         requires { ComesToData self.old.shape from message.now self.old.process }
         ensures shape { self.new.shape ≡ self.old.shape }
+        ensures pages { self.new.made ≡ self.old.made }
         ensures step { IfOk result (λ step. receive self.old.shape from message.now self.old.process ≡ stepped self.new.process step) }
         ensures wanted { OnErr result (is_current self.old.process message.now ≡ true) }
         ensures err { OnErr result (self.new.process ≡ self.old.process) }
@@ -151,11 +156,12 @@ impl DataProcess {
         self.service.waiting()
     }
 
-    /// Whether no partition has nearly used up its numbers, which is a condition of `ask`.
-    pub fn has_numbers(&self) -> bool
-        ensures { IsTrue result ↔ All (λ r. last_of r < 2 ^ 62) self.now.process.replicas }
+    /// Whether the partition of an op has numbers left, which is a condition of `ask`.
+    pub fn has_numbers(&self, op: &Op) -> bool
+        ensures { IsTrue result ↔ last_of (replica_of self.now.process (home_of (key_of op.now.act) self.now.shape.k)) < 2 ^ 62 }
     {
-        self.service.has_numbers()
+        let partition = home(op.act().key(), self.service.shape().k());
+        self.service.last(partition) < 1 << 62
     }
 
     /// The number up to which its partition is settled.
@@ -193,6 +199,7 @@ impl DataProcess {
         requires from { IsProcess self.old.shape from }
         requires partition { partition.0 < self.old.shape.k }
         ensures shape { self.new.shape ≡ self.old.shape }
+        ensures pages { self.new.made ≡ self.old.made }
         ensures step { IfOk result (λ step. receive self.old.shape from (tells.Ack rank partition number) self.old.process ≡ stepped self.new.process step) }
         ensures wanted { OnErr result (is_under rank.0 (at None self.old.process.heads partition.0) ≡ true) }
         ensures err { OnErr result (self.new.process ≡ self.old.process) }
@@ -224,6 +231,7 @@ impl DataProcess {
         requires process { IsProcess self.old.shape dead }
         requires news { knows_dead self.old.process.known dead ≡ false }
         ensures shape { self.new.shape ≡ self.old.shape }
+        ensures pages { self.new.made ≡ self.old.made }
         ensures step { IfOk result (λ step. notice_comes self.old.shape dead self.old.process ≡ stepped self.new.process step) }
         ensures err { OnErr result (self.new.process ≡ self.old.process) }
     {

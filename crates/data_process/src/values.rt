@@ -93,6 +93,8 @@ impl Beneath for Values {
 
     ghost process = { λ v. process_of v };
 
+    ghost made = { λ v. v.space.made };
+
     ghost is_ready = { λ v d u. IsReady v d u };
 
     fn name(&self) -> ProcessId {
@@ -107,10 +109,7 @@ impl Beneath for Values {
         Ok(Found::Bytes(self.space.copy(run)?))
     }
 
-    fn reserve(&mut self, partition: Partition, update: &Update) -> Result<(), AllocError> {
-        if self.shape.k() <= partition.0 {
-            return Err(AllocError);
-        }
+    fn reserve(&mut self, _: Partition, update: &Update) -> Result<(), AllocError> {
         if let Body::Put { run, .. } = &update.body {
             self.space.reserve(*run)?;
         }

@@ -5,6 +5,7 @@ ghost use Rattle.group_run.specs.Fitting.{AdoptFits};
 ghost use Rattle.group_run.specs.Receiving.{adopting};
 ghost use Rattle.group_run.specs.Replica.{applied_to, up_to};
 ghost use Rattle.partition_replica.specs.State.{IsTidyBut};
+ghost use Rattle.head_service.specs.Paging.{AllMiss, MakesNoneOf};
 
 use crate::keys::tidy_all;
 use crate::prepare::{Prepared, for_list};
@@ -25,6 +26,7 @@ pub fn adopt<B: Beneath>(
     replica: &mut Replica,
     below: &mut B,
 ) -> Result<(), AllocError>
+    requires partition { partition.0 < (B.shape below.old).k }
     requires fits { AdoptFits replica.old.shape replica.old.replica base list.now }
     requires shape { B.shape below.old ≡ replica.old.shape }
     requires ready { All (λ u. B.is_ready below.old partition.0 u) replica.old.replica.log }
@@ -33,6 +35,7 @@ pub fn adopt<B: Beneath>(
     ensures shape { replica.new.shape ≡ replica.old.shape }
     ensures tidy { IsTidyBut replica.new (λ _. false) }
     ensures below { B.shape below.new ≡ B.shape below.old }
+    ensures pages { MakesNoneOf (AllMiss (B.shape below.old).block list.now) (B.made below.old) (B.made below.new) }
     ensures kept { (d : ℕ) (u : Update) → B.is_ready below.old d u → B.is_ready below.new d u }
     ensures ready { All (λ u. B.is_ready below.new partition.0 u) replica.new.replica.log }
     ensures replica { OnOk result (replica.new.replica ≡ adopting base list.now (applied_to base replica.old.replica)) }

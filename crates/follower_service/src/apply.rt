@@ -1,4 +1,4 @@
-ghost use Rattle.std.specs.Prelude.{◌≡◌, ◌<◌, ◌≤◌, ℕ, [], false, length, vec_capacity, All, IfOk};
+ghost use Rattle.std.specs.Prelude.{◌≡◌, ◌<◌, ◌≤◌, ℕ, [], false, length, vec_capacity, All};
 ghost use Rattle.group_message.specs.declared.update.Update.{Update};
 ghost use Rattle.group_run.specs.Applying.{bytes_after};
 ghost use Rattle.group_run.specs.Replica.{applied_to, up_to};
@@ -8,16 +8,6 @@ use group_types::Partition;
 use head_service::settle::{settle_to, tidy};
 use head_service::{Beneath, Settlement};
 use partition_replica::Replica;
-use std::alloc::{AllocError, Global};
-
-/// Room for what is applied up to a number.
-pub fn room(alloc: Global, number: u64, replica: &Replica) -> Result<Vec<Settlement>, AllocError>
-    ensures empty { IfOk result (λ room. room.items ≡ []) }
-    ensures fits { IfOk result (λ room. length (up_to number replica.now.replica) ≤ vec_capacity room) }
-{
-    let reached = number.min(replica.last());
-    Vec::with_capacity(alloc, reached.saturating_sub(replica.applied()) as usize)
-}
 
 /// Applies the partition up to a number. It takes no memory.
 pub fn apply<B: Beneath>(
@@ -37,6 +27,7 @@ pub fn apply<B: Beneath>(
     ensures replica { replica.new.replica ≡ applied_to number replica.old.replica }
     ensures tidy { IsTidyBut replica.new (λ _. false) }
     ensures below { B.shape below.new ≡ B.shape below.old }
+    ensures pages { B.made below.new ≡ B.made below.old }
     ensures bytes { B.process below.new ≡ bytes_after (B.shape below.old) partition.0 (up_to number replica.old.replica) (B.process below.old) }
     ensures kept { (d : ℕ) (u : Update) → B.is_ready below.old d u → B.is_ready below.new d u }
     ensures ready { All (λ u. B.is_ready below.new partition.0 u) replica.new.replica.log }

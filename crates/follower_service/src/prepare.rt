@@ -1,15 +1,16 @@
 // What a step takes of memory, made before it changes anything.
-ghost use Rattle.std.specs.Prelude.{◌≡◌, ◌+◌, ◌-◌, ◌≤◌, ◌||◌, ℕ, Bool, List, [], ◌∷◌, drop, length, vec_capacity, All, IfOk, OnOk};
+ghost use Rattle.std.specs.Prelude.{◌≡◌, ◌+◌, ◌-◌, ◌<◌, ◌≤◌, ◌||◌, ℕ, Bool, List, [], ◌∷◌, drop, length, vec_capacity, All, IfOk, OnOk};
 ghost use Rattle.group_types.specs.Dimensions.{space_of};
 ghost use Rattle.group_message.specs.declared.update.Update.{Update};
 ghost use Rattle.group_run.specs.Fitting.{Writes};
 ghost use Rattle.group_run.specs.Replica.{up_to};
 ghost use Rattle.partition_replica.specs.State.{HasRoom, IsTidyBut, is_touched};
+ghost use Rattle.head_service.specs.Paging.{AllMiss, MakesNoneOf, Misses};
 
-use crate::apply::room;
 use group_message::{Update, UpdateList};
 use group_types::Partition;
 use head_service::news::{copy_all, copy_of};
+use head_service::settle::room;
 use head_service::{Beneath, Settlement};
 use partition_replica::Replica;
 use std::alloc::{AllocError, Global};
@@ -29,11 +30,13 @@ pub fn for_update<B: Beneath>(
     replica: &mut Replica,
     below: &mut B,
 ) -> Result<Prepared<Update>, AllocError>
+    requires partition { partition.0 < (B.shape below.old).k }
     requires writes { Writes (space_of (B.shape below.old)) update.now.body }
     ensures shape { replica.new.shape ≡ replica.old.shape }
     ensures replica { replica.new.replica ≡ replica.old.replica }
     ensures owed { (owed : List ℕ → Bool) → IsTidyBut replica.old owed → IsTidyBut replica.new (λ q. owed q || is_touched (update.now ∷ []) q) }
     ensures below { B.shape below.new ≡ B.shape below.old }
+    ensures pages { MakesNoneOf (Misses (B.shape below.old).block update.now.body) (B.made below.old) (B.made below.new) }
     ensures bytes { B.process below.new ≡ B.process below.old }
     ensures kept { (d : ℕ) (u : Update) → B.is_ready below.old d u → B.is_ready below.new d u }
     ensures copy { IfOk result (λ p. p.copy ≡ update.now) }
@@ -59,12 +62,14 @@ pub fn for_list<B: Beneath>(
     replica: &mut Replica,
     below: &mut B,
 ) -> Result<Prepared<UpdateList>, AllocError>
+    requires partition { partition.0 < (B.shape below.old).k }
     requires writes { All (λ u. Writes (space_of (B.shape below.old)) u.body) (drop (replica.old.replica.applied - base) list.now) }
     requires reaches { replica.old.replica.applied ≤ base + length list.now }
     ensures shape { replica.new.shape ≡ replica.old.shape }
     ensures replica { replica.new.replica ≡ replica.old.replica }
     ensures owed { (owed : List ℕ → Bool) → IsTidyBut replica.old owed → IsTidyBut replica.new (λ q. owed q || is_touched list.now q) }
     ensures below { B.shape below.new ≡ B.shape below.old }
+    ensures pages { MakesNoneOf (AllMiss (B.shape below.old).block list.now) (B.made below.old) (B.made below.new) }
     ensures bytes { B.process below.new ≡ B.process below.old }
     ensures kept { (d : ℕ) (u : Update) → B.is_ready below.old d u → B.is_ready below.new d u }
     ensures copy { IfOk result (λ p. p.copy ≡ list.now) }
@@ -87,8 +92,10 @@ fn reserve_all<B: Beneath>(
     updates: &[Update],
     below: &mut B,
 ) -> Result<(), AllocError>
-    requires { All (λ u. Writes (space_of (B.shape below.old)) u.body) updates.now }
+    requires partition { partition.0 < (B.shape below.old).k }
+    requires writes { All (λ u. Writes (space_of (B.shape below.old)) u.body) updates.now }
     ensures below { B.shape below.new ≡ B.shape below.old }
+    ensures pages { MakesNoneOf (AllMiss (B.shape below.old).block updates.now) (B.made below.old) (B.made below.new) }
     ensures bytes { B.process below.new ≡ B.process below.old }
     ensures kept { (d : ℕ) (u : Update) → B.is_ready below.old d u → B.is_ready below.new d u }
     ensures ready { OnOk result (All (λ u. B.is_ready below.new partition.0 u) updates.now) }

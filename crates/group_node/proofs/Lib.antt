@@ -1,4 +1,5 @@
 pub mod Names
+mod Numbers
 pub mod Ranges
 pub mod Links
 pub mod Refused

@@ -1,16 +1,20 @@
-ghost use Rattle.std.specs.Prelude.{◌≡◌, ◌+◌, ◌≤◌, ◌<◌, ◌^◌, [], All, IfOk, OnErr};
+ghost use Rattle.std.specs.Prelude.{◌≡◌, ◌+◌, ◌≤◌, ◌<◌, ◌^◌, [], IfOk, OnErr};
 ghost use Rattle.std.specs.List.{range_with_len};
 ghost use Rattle.group_types.specs.Dimensions.{space_of};
+ghost use Rattle.group_types.specs.Hash.{home_of};
 ghost use Rattle.group_types.specs.Names.{IsProcess};
+ghost use Rattle.memc_table.specs.Act.{key_of};
 ghost use Rattle.erasure_code.specs.Spaces.{bytes_at};
-ghost use Rattle.group_run.specs.Applying.{head_at, sending};
+ghost use Rattle.group_run.specs.Applying.{head_at, replica_of, sending};
 ghost use Rattle.group_run.specs.Asking.{ask_process, collect_from, fate_of, only};
 ghost use Rattle.group_run.specs.Process.{opening_process};
 ghost use Rattle.group_run.specs.Receiving as machine;
 ghost use Rattle.group_run.specs.Replica.{callers, last_of};
 ghost use Rattle.group_run.specs.World.{flush_process};
 ghost use Rattle.head_service.specs.Acting.{name_of};
+ghost use Rattle.head_service.specs.Paging.{MakesNoneOf};
 ghost use Rattle.process_service.specs.Noticing.{waiting};
+ghost use Rattle.process_service.specs.Paging.{CallMisses, MessageMisses};
 ghost use Rattle.process_service.specs.Steps.{called, stepped};
 ghost use Rattle.group_node.specs.Delivering.{Comes};
 ghost use Rattle.group_run.specs.Shown.{process_stamp};
@@ -68,9 +72,10 @@ impl Process {
     /// A call is asked. After want of memory nothing but room has changed.
     pub fn ask(&mut self, call: Call, op: &Op) -> Result<CallStep, AllocError>
         requires caller { call.caller < callers }
-        requires numbers { All (λ r. last_of r < 2 ^ 62) self.old.process.replicas }
+        requires numbers { last_of (replica_of self.old.process (home_of (key_of op.now.act) self.old.shape.k)) < 2 ^ 62 }
         requires sessions { self.old.process.as_leader.last_session < 2 ^ 62 }
         ensures shape { self.new.shape ≡ self.old.shape }
+        ensures pages { MakesNoneOf (CallMisses self.old.shape op.now self.old.process) self.old.made self.new.made }
         ensures name { self.new.process.name ≡ self.old.process.name }
         ensures step { IfOk result (λ step. ask_process self.old.shape (name_of call) op.now self.old.process ≡ called self.new.process step) }
         ensures err { OnErr result (self.new.process ≡ self.old.process) }
@@ -84,6 +89,7 @@ impl Process {
     /// A held call is answered once its update is settled, and forgotten then. It takes no memory.
     pub fn collect(&mut self, caller: u32, call: u64) -> Answer
         ensures shape { self.new.shape ≡ self.old.shape }
+        ensures pages { self.new.made ≡ self.old.made }
         ensures name { self.new.process.name ≡ self.old.process.name }
         ensures answer { collect_from caller call self.old.process (range_with_len 0 self.old.shape.k) ≡ only result self.new.process }
     {
@@ -119,6 +125,7 @@ impl Process {
     pub fn receive(&mut self, from: ProcessId, message: &Message) -> Result<Step, AllocError>
         requires { Comes self.old.shape from message.now self.old.process }
         ensures shape { self.new.shape ≡ self.old.shape }
+        ensures pages { MakesNoneOf (MessageMisses self.old.shape.block message.now) self.old.made self.new.made }
         ensures name { self.new.process.name ≡ self.old.process.name }
         ensures step { IfOk result (λ step. machine.receive self.old.shape from message.now self.old.process ≡ stepped self.new.process step) }
         ensures err { OnErr result (self.new.process ≡ self.old.process) }

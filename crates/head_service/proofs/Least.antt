@@ -1,10 +1,11 @@
 -- Whom a head waits for, from a number on.
-use Rattle.std.proofs.Common.{ℕ, suc, ◌≡◌, ◌+◌, ◌-◌, ◌<◌, Bool, true, false, not, ◌&&◌, List, ◌∷◌, filter, length, Some, None, refl, sym, ap, subst, ◌∙◌, arith}
+use Rattle.std.proofs.Common.{ℕ, suc, ◌≡◌, ◌+◌, ◌-◌, ◌<◌, Bool, true, false, not, ◌&&◌, List, ◌∷◌, filter, length, Option, Some, None, refl, sym, ap, subst, ◌∙◌, arith}
 use Rattle.std.specs.List.{range_with_len}
 use Rattle.group_types.specs.Names.{same_process}
 use Rattle.group_types.specs.declared.process.ProcessId.{ProcessId}
 use Rattle.group_types.specs.declared.process.ProcessId.TheVariants.{ParityNode}
-use Rattle.group_types.proofs.Lists.{length-put}
+use Rattle.group_types.specs.Lists.{at, put}
+use Rattle.group_types.proofs.Lists.{length-put, put-at, put-put}
 use Rattle.membership.specs.Members.{Membership, knows_dead}
 use Rattle.group_run.specs.Heading.{acknowledged}
 use Rattle.group_run.specs.Process.{Head}
@@ -28,6 +29,12 @@ module _ (name : ProcessId) (known : Membership) (m i : ℕ) (within : i < m) wh
 
   pub peers-with : is_peer name known i ≡ true → peers_from name known m i ≡ i ∷ peers_from name known m ((i + 1))
   peers-with is = ap (filter (is_peer name known)) front ∙ rw is refl
+
+-- an acknowledgement that is taken back leaves the head as it was
+pub acks-back : (i n m : ℕ) (h k : Head) → k ≡ acknowledged i n h → i < m → length h.acks ≡ m → record k { acks = put None k.acks i (at None h.acks i) } ≡ h
+acks-back i n m h k is below long = ap (λ (x : Head). record x { acks = put None x.acks i (at None h.acks i) }) is
+    ∙ ap (λ (xs : List (Option ℕ)). record h { acks = xs })
+    (put-put None h.acks i (Some n) (at None h.acks i) ∙ put-at None None h.acks i (subst (λ (x : ℕ). i < x) (sym long) below))
 
 -- an acknowledgement leaves the number of places
 pub acks-long : (i n m : ℕ) (h k : Head) → k ≡ acknowledged i n h → i < m → length h.acks ≡ m → length k.acks ≡ length h.acks

@@ -6,3 +6,4 @@ mod Blind
 mod Follows
 mod Deciding
 pub mod Machine
+pub mod Paging

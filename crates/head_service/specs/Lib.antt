@@ -1,4 +1,5 @@
 pub mod Beneath
+pub mod Paging
 pub mod Peers
 pub mod Issuing
 pub mod Answering

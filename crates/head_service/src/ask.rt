@@ -9,6 +9,7 @@ ghost use Rattle.item_index.specs.declared.slot.Slot.{Slot};
 ghost use Rattle.partition_replica.specs.State.{IsTidyBut};
 ghost use Rattle.head_service.specs.Acting.{IsMade, NeedsOf, acts, name_of, next_update};
 ghost use Rattle.head_service.specs.Issuing.{CanFollow};
+ghost use Rattle.head_service.specs.Paging.{DecisionMisses, MakesNoneOf};
 ghost use Rattle.head_service.specs.declared.ask.Asked.TheVariants.{Done};
 ghost use Rattle.head_service.specs.declared.step.CallStep.{CallStep};
 ghost use Rattle.head_service.specs.Beneath.{found_in};
@@ -53,6 +54,7 @@ pub fn ask<B: Beneath>(
     held: &mut Vec<Held>,
     below: &mut B,
 ) -> Result<Asked, AllocError>
+    requires partition { partition.0 < (B.shape below.old).k }
     requires acks { length head.now.acks ≡ peers.now.m }
     requires caller { call.caller < callers }
     requires numbers { last_of replica.old.replica < 2 ^ 62 }
@@ -62,6 +64,9 @@ pub fn ask<B: Beneath>(
     requires tidy { IsTidyBut replica.old (λ _. false) }
     ensures shape { replica.new.shape ≡ replica.old.shape }
     ensures below { B.shape below.new ≡ B.shape below.old }
+    ensures pages { MakesNoneOf (DecisionMisses (B.shape below.old).block
+        (decide (space_of replica.old.shape) head.now.inherited replica.old.replica op.now (found_in (B.shape below.old) partition.0 (B.process below.old))))
+        (B.made below.old) (B.made below.new) }
     ensures kept { (d : ℕ) (u : Update) → B.is_ready below.old d u → B.is_ready below.new d u }
     ensures ready { All (λ u. B.is_ready below.new partition.0 u) replica.new.replica.log }
     ensures tidy { IsTidyBut replica.new (λ _. false) }
@@ -94,6 +99,7 @@ fn act<B: Beneath>(
     held: &mut Vec<Held>,
     below: &mut B,
 ) -> Result<Asked, AllocError>
+    requires partition { partition.0 < (B.shape below.old).k }
     requires acks { length head.now.acks ≡ peers.now.m }
     requires caller { call.caller < callers }
     requires numbers { last_of replica.old.replica < 2 ^ 62 }
@@ -104,6 +110,7 @@ fn act<B: Beneath>(
     requires tidy { IsTidyBut replica.old (λ _. false) }
     ensures shape { replica.new.shape ≡ replica.old.shape }
     ensures below { B.shape below.new ≡ B.shape below.old }
+    ensures pages { MakesNoneOf (DecisionMisses (B.shape below.old).block decision) (B.made below.old) (B.made below.new) }
     ensures kept { (d : ℕ) (u : Update) → B.is_ready below.old d u → B.is_ready below.new d u }
     ensures ready { All (λ u. B.is_ready below.new partition.0 u) replica.new.replica.log }
     ensures tidy { IsTidyBut replica.new (λ _. false) }

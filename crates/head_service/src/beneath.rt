@@ -1,10 +1,11 @@
-ghost use Rattle.std.specs.Prelude.{◌≡◌, ◌+◌, ◌≤◌, ℕ, [], ◌∷◌, IfOk, OnOk};
+ghost use Rattle.std.specs.Prelude.{◌≡◌, ◌+◌, ◌<◌, ◌≤◌, ℕ, List, [], ◌∷◌, IfOk, OnOk};
 ghost use Rattle.group_types.specs.Dimensions.{Dimensions, space_of};
 ghost use Rattle.group_message.specs.declared.update.Update.{Update};
 ghost use Rattle.group_run.specs.Applying.{bytes_after};
 ghost use Rattle.group_run.specs.Fitting.{Writes};
 ghost use Rattle.group_run.specs.Process.{Process};
 ghost use Rattle.head_service.specs.Beneath.{IsFound, found_in};
+ghost use Rattle.head_service.specs.Paging.{MakesNoneOf, Misses};
 
 use group_calls::Found;
 use group_message::Update;
@@ -18,6 +19,9 @@ pub trait Beneath {
 
     ghost process: { Self → Process };
 
+    /// The numbers of the blocks whose pages were made.
+    ghost made: { Self → List ℕ };
+
     /// All that adding the update of this partition needs is there.
     ghost is_ready: { Self → ℕ → Update → Type 0 };
 
@@ -30,13 +34,16 @@ pub trait Beneath {
 
     /// The bytes of a run of the partition's space, or the lowest block that has to be rebuilt first.
     fn find(&self, partition: Partition, run: Run) -> Result<Found, AllocError>
-        requires { run.at + run.len ≤ space_of (shape self.now) }
+        requires partition { partition.0 < (shape self.now).k }
+        requires within { run.at + run.len ≤ space_of (shape self.now) }
         ensures found { IfOk result (λ found. found ≡ found_in (shape self.now) partition.0 (process self.now) run) }
         ensures whole { IfOk result (IsFound (shape self.now) run.len) };
 
-    /// Makes all that adding the update needs.
+    /// Makes all that adding the update needs, and no page but those of the blocks in which it writes.
     fn reserve(&mut self, partition: Partition, update: &Update) -> Result<(), AllocError>
-        requires { Writes (space_of (shape self.old)) update.now.body }
+        requires partition { partition.0 < (shape self.old).k }
+        requires writes { Writes (space_of (shape self.old)) update.now.body }
+        ensures pages { MakesNoneOf (Misses (shape self.old).block update.now.body) (made self.old) (made self.new) }
         ensures shape { shape self.new ≡ shape self.old }
         ensures process { process self.new ≡ process self.old }
         ensures ready { OnOk result (is_ready self.new partition.0 update.now) }
@@ -46,6 +53,7 @@ pub trait Beneath {
     fn add(&mut self, partition: Partition, update: &Update)
         requires writes { Writes (space_of (shape self.old)) update.now.body }
         requires ready { is_ready self.old partition.0 update.now }
+        ensures pages { made self.new ≡ made self.old }
         ensures shape { shape self.new ≡ shape self.old }
         ensures process { process self.new ≡ bytes_after (shape self.old) partition.0 (update.now ∷ []) (process self.old) }
         ensures kept { (d : ℕ) (u : Update) → is_ready self.old d u → is_ready self.new d u };

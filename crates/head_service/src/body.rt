@@ -1,4 +1,4 @@
-ghost use Rattle.std.specs.Prelude.{◌≡◌, length, IfOk, IfSome};
+ghost use Rattle.std.specs.Prelude.{◌≡◌, ◌<◌, length, IfOk, IfSome};
 ghost use Rattle.field_byte.specs.Vectors.{add_bytes};
 ghost use Rattle.group_types.specs.Dimensions.{space_of};
 ghost use Rattle.group_run.specs.Deciding.{decide_left, decide_placed, decide_written};
@@ -25,6 +25,7 @@ pub fn decide_left<B: Beneath>(
     touch: bool,
     leaves: Option<Holding>,
 ) -> Result<Decision, AllocError>
+    requires partition { partition.0 < (B.shape below.now).k }
     requires shape { B.shape below.now ≡ replica.now.shape }
     ensures decision { IfOk result (λ d. d ≡ decide_left (space_of replica.now.shape) replica.now.replica
         (found_in (B.shape below.now) partition.0 (B.process below.now)) outcome touch leaves) }
@@ -47,6 +48,7 @@ fn decide_placed<B: Beneath>(
     outcome: Outcome,
     holding: Holding,
 ) -> Result<Decision, AllocError>
+    requires partition { partition.0 < (B.shape below.now).k }
     requires shape { B.shape below.now ≡ replica.now.shape }
     ensures decision { IfOk result (λ d. d ≡ decide_placed (found_in (B.shape below.now) partition.0 (B.process below.now)) outcome holding
         (place_for (space_of replica.now.shape) replica.now.replica (length holding.item.value))) }
@@ -77,6 +79,7 @@ fn decide_written<B: Beneath>(
     holding: &Holding,
     run: Run,
 ) -> Result<Decision, AllocError>
+    requires partition { partition.0 < (B.shape below.now).k }
     requires run { IsRunOf (space_of (B.shape below.now)) (length holding.now.item.value) run }
     ensures decision { IfOk result (λ d. d ≡ decide_written outcome holding.now run
         (found_in (B.shape below.now) partition.0 (B.process below.now) run)) }

@@ -1,8 +1,8 @@
-ghost use Rattle.std.specs.Prelude.{◌≡◌, ◌+◌, ◌≤◌, IfOk, IfSome, None, Some};
+ghost use Rattle.std.specs.Prelude.{◌≡◌, ◌+◌, ◌<◌, ◌≤◌, ◌^◌, IfOk, IfSome, None, Some};
 ghost use Rattle.group_types.specs.Dimensions.{space_of};
 ghost use Rattle.memc_table.specs.Act.{key_of};
 ghost use Rattle.group_run.specs.Deciding.{decide, decide_ruled, decide_waiting, run_needed};
-ghost use Rattle.group_run.specs.Replica.{run_in, slot_in};
+ghost use Rattle.group_run.specs.Replica.{last_of, run_in, slot_in};
 ghost use Rattle.head_service.specs.Beneath.{found_in};
 ghost use Rattle.head_service.specs.Issuing.{CanFollow, IsWhole};
 
@@ -29,6 +29,8 @@ pub fn decide<B: Beneath>(
     op: &Op,
     below: &B,
 ) -> Result<Decision, AllocError>
+    requires partition { partition.0 < (B.shape below.now).k }
+    requires numbers { last_of replica.now.replica < 2 ^ 62 }
     requires shape { B.shape below.now ≡ replica.now.shape }
     ensures decision { IfOk result (λ d. d ≡ decide (space_of replica.now.shape) inherited replica.now.replica op.now
         (found_in (B.shape below.now) partition.0 (B.process below.now))) }
@@ -49,6 +51,8 @@ fn decide_settled<B: Beneath>(
     op: &Op,
     below: &B,
 ) -> Result<Decision, AllocError>
+    requires partition { partition.0 < (B.shape below.now).k }
+    requires numbers { last_of replica.now.replica < 2 ^ 62 }
     requires shape { B.shape below.now ≡ replica.now.shape }
     ensures decision { IfOk result (λ d. d ≡ decide_waiting (space_of replica.now.shape) replica.now.replica op.now
         (found_in (B.shape below.now) partition.0 (B.process below.now)) (slot_in replica.now.replica.items (key_of op.now.act)) None) }
@@ -80,6 +84,8 @@ fn decide_unread<B: Beneath>(
     below: &B,
     slot: Option<Slot>,
 ) -> Result<Decision, AllocError>
+    requires partition { partition.0 < (B.shape below.now).k }
+    requires numbers { last_of replica.now.replica < 2 ^ 62 }
     requires shape { B.shape below.now ≡ replica.now.shape }
     requires needed { run_needed op.now slot ≡ None }
     ensures decision { IfOk result (λ d. d ≡ decide_waiting (space_of replica.now.shape) replica.now.replica op.now
@@ -100,6 +106,8 @@ fn decide_read<B: Beneath>(
     below: &B,
     slot: Slot,
 ) -> Result<Decision, AllocError>
+    requires partition { partition.0 < (B.shape below.now).k }
+    requires numbers { last_of replica.now.replica < 2 ^ 62 }
     requires shape { B.shape below.now ≡ replica.now.shape }
     requires needed { run_needed op.now (Some slot) ≡ Some (run_in slot) }
     requires inside { slot.at + slot.len ≤ space_of replica.now.shape }
@@ -131,6 +139,7 @@ fn decide_ruled<B: Beneath>(
     below: &B,
     ruling: Ruling,
 ) -> Result<Decision, AllocError>
+    requires partition { partition.0 < (B.shape below.now).k }
     requires shape { B.shape below.now ≡ replica.now.shape }
     ensures decision { IfOk result (λ d. d ≡ decide_ruled (space_of replica.now.shape) replica.now.replica op.now
         (found_in (B.shape below.now) partition.0 (B.process below.now)) ruling) }

@@ -1,7 +1,7 @@
 ghost use Rattle.std.specs.Prelude.{◌≡◌, ◌<◌, None, length, IfOk};
 ghost use Rattle.group_run.specs.Heading.{acked_by, acknowledged};
 ghost use Rattle.group_run.specs.Process.{new_head};
-ghost use Rattle.group_types.specs.Lists.{at};
+ghost use Rattle.group_types.specs.Lists.{at, put};
 
 use group_types::{Rank, Shape};
 use std::alloc::{AllocError, Global};
@@ -56,6 +56,14 @@ impl Head {
         ensures { self.new ≡ acknowledged parity number self.old }
     {
         self.acks[parity as usize] = Some(number);
+    }
+
+    /// Takes back what a parity process acknowledged, where this is what it had acknowledged before.
+    pub fn restore(&mut self, parity: u32, acked: Option<u64>)
+        requires { parity < length self.old.acks }
+        ensures { self.new ≡ record self.old { acks = put None self.old.acks parity acked } }
+    {
+        self.acks[parity as usize] = acked;
     }
 
     /// What a parity process acknowledged last, if it did.

@@ -9,6 +9,7 @@ ghost use Rattle.partition_replica.specs.State.{HasRoom, IsTidyBut, is_touched};
 ghost use Rattle.group_calls.specs.declared.event.Answer.TheVariants as says;
 ghost use Rattle.group_run.specs.Asking.{reply_from};
 ghost use Rattle.head_service.specs.Answering.{answer_to, held_then};
+ghost use Rattle.head_service.specs.Paging.{MakesNoneOf, Misses};
 ghost use Rattle.head_service.specs.Peers.{settles, to_all};
 ghost use Rattle.head_service.specs.Settling.{updates_of};
 ghost use Rattle.head_service.specs.Telling.{message_of};
@@ -38,6 +39,7 @@ pub fn issue<B: Beneath>(
     held: &mut Vec<Held>,
     below: &mut B,
 ) -> Result<CallStep, AllocError>
+    requires partition { partition.0 < (B.shape below.old).k }
     requires acks { length head.now.acks ≡ peers.now.m }
     requires next { update.number ≡ last_of replica.old.replica + 1 }
     requires comes { CanCome (space_of replica.old.shape) replica.old.replica update }
@@ -47,6 +49,7 @@ pub fn issue<B: Beneath>(
     requires tidy { IsTidyBut replica.old (λ _. false) }
     ensures shape { replica.new.shape ≡ replica.old.shape }
     ensures below { B.shape below.new ≡ B.shape below.old }
+    ensures pages { MakesNoneOf (Misses (B.shape below.old).block update.body) (B.made below.old) (B.made below.new) }
     ensures kept { (d : ℕ) (u : Update) → B.is_ready below.old d u → B.is_ready below.new d u }
     ensures ready { All (λ u. B.is_ready below.new partition.0 u) replica.new.replica.log }
     ensures tidy { IsTidyBut replica.new (λ _. false) }
@@ -88,12 +91,14 @@ fn prepare<B: Beneath>(
     held: &mut Vec<Held>,
     below: &mut B,
 ) -> Result<Prepared, AllocError>
+    requires partition { partition.0 < (B.shape below.old).k }
     requires acks { length head.now.acks ≡ peers.now.m }
     requires writes { Writes (space_of (B.shape below.old)) update.now.body }
     ensures shape { replica.new.shape ≡ replica.old.shape }
     ensures replica { replica.new.replica ≡ replica.old.replica }
     ensures held { held.new.items ≡ held.old.items }
     ensures below { B.shape below.new ≡ B.shape below.old }
+    ensures pages { MakesNoneOf (Misses (B.shape below.old).block update.now.body) (B.made below.old) (B.made below.new) }
     ensures bytes { B.process below.new ≡ B.process below.old }
     ensures kept { (d : ℕ) (u : Update) → B.is_ready below.old d u → B.is_ready below.new d u }
     ensures owed { (owed : List ℕ → Bool) → IsTidyBut replica.old owed → IsTidyBut replica.new (λ q. owed q || is_touched (update.now ∷ []) q) }
@@ -125,11 +130,13 @@ fn make_room<B: Beneath>(
     held: &mut Vec<Held>,
     below: &mut B,
 ) -> Result<(), AllocError>
+    requires partition { partition.0 < (B.shape below.old).k }
     requires writes { Writes (space_of (B.shape below.old)) update.now.body }
     ensures shape { replica.new.shape ≡ replica.old.shape }
     ensures replica { replica.new.replica ≡ replica.old.replica }
     ensures held { held.new.items ≡ held.old.items }
     ensures below { B.shape below.new ≡ B.shape below.old }
+    ensures pages { MakesNoneOf (Misses (B.shape below.old).block update.now.body) (B.made below.old) (B.made below.new) }
     ensures bytes { B.process below.new ≡ B.process below.old }
     ensures kept { (d : ℕ) (u : Update) → B.is_ready below.old d u → B.is_ready below.new d u }
     ensures owed { (owed : List ℕ → Bool) → IsTidyBut replica.old owed → IsTidyBut replica.new (λ q. owed q || is_touched (update.now ∷ []) q) }
@@ -199,6 +206,7 @@ fn carry_out<B: Beneath>(
     ensures replica { replica.new.replica ≡ applied_to prepared.number (with_update update replica.old.replica) }
     ensures tidy { IsTidyBut replica.new (λ _. false) }
     ensures below { B.shape below.new ≡ B.shape below.old }
+    ensures pages { B.made below.new ≡ B.made below.old }
     ensures bytes { B.process below.new ≡ bytes_after (B.shape below.old) partition.0
         (up_to prepared.number (with_update update replica.old.replica)) (B.process below.old) }
     ensures kept { (d : ℕ) (u : Update) → B.is_ready below.old d u → B.is_ready below.new d u }

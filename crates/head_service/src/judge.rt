@@ -9,7 +9,7 @@ ghost use Rattle.head_service.specs.Peers.{settles};
 use crate::beneath::Beneath;
 use crate::head::Head;
 use crate::peers::Peers;
-use crate::settle::{settle_to, tidy};
+use crate::settle::{room, settle_to, tidy};
 use crate::step::Settlement;
 use group_types::Partition;
 use partition_replica::Replica;
@@ -29,12 +29,14 @@ pub fn judge<B: Beneath>(
     requires shape { B.shape below.old ≡ replica.old.shape }
     requires ready { All (λ u. B.is_ready below.old partition.0 u) replica.old.replica.log }
     requires blocks { partition.0 < length (B.process below.old).as_leader.rebuilt }
-    requires room { vec_len settled.old + length replica.old.replica.log ≤ vec_capacity settled.old }
+    requires room { vec_len settled.old + length (up_to (settles peers.now head.now (last_of replica.old.replica)) replica.old.replica)
+        ≤ vec_capacity settled.old }
     requires tidy { IsTidyBut replica.old (λ _. false) }
     ensures shape { replica.new.shape ≡ replica.old.shape }
     ensures replica { replica.new.replica ≡ applied_to (settles peers.now head.now (last_of replica.old.replica)) replica.old.replica }
     ensures tidy { IsTidyBut replica.new (λ _. false) }
     ensures below { B.shape below.new ≡ B.shape below.old }
+    ensures pages { B.made below.new ≡ B.made below.old }
     ensures bytes { B.process below.new ≡ bytes_after (B.shape below.old) partition.0
         (up_to (settles peers.now head.now (last_of replica.old.replica)) replica.old.replica) (B.process below.old) }
     ensures settled { settled.new.items ≡ settled.old.items ++ settlements partition.0
@@ -71,6 +73,7 @@ pub fn acknowledge<B: Beneath>(
     ensures shape { replica.new.shape ≡ replica.old.shape }
     ensures tidy { IsTidyBut replica.new (λ _. false) }
     ensures below { B.shape below.new ≡ B.shape below.old }
+    ensures pages { B.made below.new ≡ B.made below.old }
     ensures kept { (d : ℕ) (u : Update) → B.is_ready below.old d u → B.is_ready below.new d u }
     ensures ready { All (λ u. B.is_ready below.new partition.0 u) replica.new.replica.log }
     ensures head { OnOk result (head.new ≡ acknowledged parity number head.old) }
@@ -84,9 +87,17 @@ pub fn acknowledge<B: Beneath>(
     ensures replica_err { OnErr result (replica.new.replica ≡ replica.old.replica) }
     ensures bytes_err { OnErr result (B.process below.new ≡ B.process below.old) }
 {
-    let waiting = replica.last() - replica.applied();
-    let mut settled = Vec::with_capacity(alloc, waiting as usize)?;
+    let before = head.acked(parity);
     head.acknowledge(parity, number);
-    judge(partition, head, peers, replica, below, &mut settled);
-    Ok(settled)
+    let reached = peers.least_acked(head, replica.last());
+    match room(alloc, reached, replica) {
+        Ok(mut settled) => {
+            judge(partition, head, peers, replica, below, &mut settled);
+            Ok(settled)
+        }
+        Err(AllocError) => {
+            head.restore(parity, before);
+            Err(AllocError)
+        }
+    }
 }

@@ -1,4 +1,4 @@
-ghost use Rattle.std.specs.Prelude.{suc, ◌≡◌, ◌&&◌, nat_lt, IfOk, Some};
+ghost use Rattle.std.specs.Prelude.{◌≡◌, ◌&&◌, ◌<◌, ◌^◌, nat_lt, IfOk, Some};
 ghost use Rattle.memc_table.specs.Expiry.{is_live, live_at};
 ghost use Rattle.memc_table.specs.Ruling.{ruling_of};
 ghost use Rattle.group_run.specs.Deciding.{blind_reply, held_as, is_touch, outcome_of, reads_bytes, ruling_with, run_needed, unseen, waits_for};
@@ -88,9 +88,10 @@ pub fn ruling_with(
     slot: Option<Slot>,
     value: Payload,
 ) -> Result<Ruling, AllocError>
+    requires { last_of replica.now.replica < 2 ^ 62 }
     ensures { IfOk result (λ ruling. ruling ≡ ruling_with replica.now.replica op.now slot value) }
 {
-    let number = next_number(replica)?;
+    let number = replica.last() + 1;
     match slot {
         None => rule(alloc, op, number, None),
         Some(slot) => {
@@ -98,13 +99,6 @@ pub fn ruling_with(
             rule_held(alloc, op, number, &held)
         }
     }
-}
-
-// No update comes behind that of the number 2^64 - 1.
-fn next_number(replica: &Replica) -> Result<u64, AllocError>
-    ensures { IfOk result (λ number. number ≡ suc (last_of replica.now.replica)) }
-{
-    replica.last().checked_add(1).ok_or(AllocError)
 }
 
 fn rule_held(alloc: Global, op: &Op, number: u64, held: &Holding) -> Result<Ruling, AllocError>

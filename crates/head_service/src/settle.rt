@@ -1,4 +1,4 @@
-ghost use Rattle.std.specs.Prelude.{◌≡◌, ◌+◌, ◌≤◌, ◌||◌, ℕ, ◌<◌, Bool, List, ◌++◌, length, vec_len, vec_capacity, All};
+ghost use Rattle.std.specs.Prelude.{◌≡◌, ◌+◌, ◌≤◌, ◌||◌, ℕ, ◌<◌, Bool, List, [], ◌++◌, length, vec_len, vec_capacity, All, IfOk};
 ghost use Rattle.group_message.specs.declared.update.Update.{Update};
 ghost use Rattle.group_run.specs.Applying.{bytes_after};
 ghost use Rattle.group_run.specs.Heading.{settlements};
@@ -10,6 +10,16 @@ use crate::beneath::Beneath;
 use crate::step::Settlement;
 use group_types::Partition;
 use partition_replica::Replica;
+use std::alloc::{AllocError, Global};
+
+/// Room for what is settled up to a number.
+pub fn room(alloc: Global, number: u64, replica: &Replica) -> Result<Vec<Settlement>, AllocError>
+    ensures empty { IfOk result (λ room. room.items ≡ []) }
+    ensures fits { IfOk result (λ room. length (up_to number replica.now.replica) ≤ vec_capacity room) }
+{
+    let reached = number.min(replica.last());
+    Vec::with_capacity(alloc, reached.saturating_sub(replica.applied()) as usize)
+}
 
 /// Applies the partition up to a number, and adds what is settled to the list. It takes no memory. The
 /// caller owes a `tidy` of each key that is settled.
@@ -27,6 +37,7 @@ pub fn settle_to<B: Beneath>(
     ensures shape { replica.new.shape ≡ replica.old.shape }
     ensures replica { replica.new.replica ≡ applied_to number replica.old.replica }
     ensures below { B.shape below.new ≡ B.shape below.old }
+    ensures pages { B.made below.new ≡ B.made below.old }
     ensures bytes { B.process below.new ≡ bytes_after (B.shape below.old) partition.0 (up_to number replica.old.replica) (B.process below.old) }
     ensures settled { settled.new.items ≡ settled.old.items ++ settlements partition.0 (up_to number replica.old.replica) }
     ensures capacity { vec_capacity settled.old ≤ vec_capacity settled.new }

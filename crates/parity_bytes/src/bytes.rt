@@ -94,6 +94,8 @@ impl Beneath for ParityBytes {
 
     ghost process = { λ b. b.process };
 
+    ghost made = { λ b. b.made };
+
     ghost is_ready = { λ b d u. IsReady b d u };
 
     fn name(&self) -> ProcessId {
@@ -105,16 +107,10 @@ impl Beneath for ParityBytes {
     }
 
     fn find(&self, partition: Partition, run: Run) -> Result<Found, AllocError> {
-        if self.shape.k() <= partition.0 {
-            return Err(AllocError);
-        }
         rebuilt(&self.sessions, partition, run)
     }
 
-    fn reserve(&mut self, partition: Partition, update: &Update) -> Result<(), AllocError> {
-        if self.shape.k() <= partition.0 {
-            return Err(AllocError);
-        }
+    fn reserve(&mut self, _: Partition, update: &Update) -> Result<(), AllocError> {
         if let Body::Put { run, .. } = &update.body {
             self.space.reserve(*run)?;
         }

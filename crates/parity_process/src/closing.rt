@@ -29,6 +29,7 @@ pub fn notice(
     requires over { IsOver service.old bytes.old }
     ensures shape { service.new.shape ≡ service.old.shape }
     ensures over { IsOver service.new bytes.new }
+    ensures pages { bytes.new.made ≡ bytes.old.made }
     ensures step { IfOk result (λ step. notice_comes service.old.shape dead (serving service.old bytes.old.process)
         ≡ stepped (serving service.new bytes.new.process) step) }
     ensures service_err { OnErr result (service.new ≡ service.old) }

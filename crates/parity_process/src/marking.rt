@@ -46,6 +46,7 @@ pub fn receive_mark(
     requires own { WaitForOwnRow bytes.old.process }
     ensures shape { service.new.shape ≡ service.old.shape }
     ensures over { IsOver service.new bytes.new }
+    ensures pages { bytes.new.made ≡ bytes.old.made }
     ensures step { IfOk result (λ step. mark_comes service.old.shape (parity_number mark.session.leader) mark.session.number mark.rank.0 mark.block
         mark.partition.0 mark.number (serving service.old bytes.old.process) ≡ stepped (serving service.new bytes.new.process) step) }
     ensures service_err { OnErr result (service.new ≡ service.old) }
@@ -104,6 +105,7 @@ pub fn take(
     requires over { IsOver service.old bytes.old }
     ensures shape { service.new.shape ≡ service.old.shape }
     ensures over { IsOver service.new bytes.new }
+    ensures pages { bytes.new.made ≡ bytes.old.made }
     ensures name { bytes.new.process.name ≡ bytes.old.process.name }
     ensures own { WaitForOwnRow bytes.old.process → WaitForOwnRow bytes.new.process }
     ensures whole { IfSome result (IsWhole service.old.shape) }

@@ -38,6 +38,7 @@ pub fn retry(
     requires sessions { bytes.old.process.as_leader.last_session < 2 ^ 62 }
     ensures shape { service.new.shape ≡ service.old.shape }
     ensures over { IsOver service.new bytes.new }
+    ensures pages { bytes.new.made ≡ bytes.old.made }
     ensures step { IfOk result (λ step. retry_block service.old.shape block
         (oldest_inherited (serving service.old bytes.old.process) (range_with_len 0 service.old.shape.k)) (serving service.old bytes.old.process)
         ≡ called (serving service.new bytes.new.process) step) }
@@ -75,6 +76,7 @@ fn start(
     requires sessions { bytes.old.process.as_leader.last_session < 2 ^ 62 }
     ensures shape { service.new.shape ≡ service.old.shape }
     ensures over { IsOver service.new bytes.new }
+    ensures pages { bytes.new.made ≡ bytes.old.made }
     ensures step { IfOk result (λ step. start_session service.old.shape block (serving service.old bytes.old.process)
         ≡ stepped (serving service.new bytes.new.process) step) }
     ensures service_err { OnErr result (service.new ≡ service.old) }
@@ -153,6 +155,7 @@ fn mark_own(
     requires over { IsOver service.old bytes.old }
     ensures shape { service.new.shape ≡ service.old.shape }
     ensures over { IsOver service.new bytes.new }
+    ensures pages { bytes.new.made ≡ bytes.old.made }
     ensures step { for_each lost.now (own_mark service.old.shape leader number block) (serving service.old bytes.old.process)
         ≡ quiet (serving service.new bytes.new.process) }
 {
@@ -181,6 +184,7 @@ fn mark_at(
     requires copied { is_some (copy_in bytes.old.process.as_row.copies leader number) ≡ true }
     ensures shape { service.new.shape ≡ service.old.shape }
     ensures over { IsOver service.new bytes.new }
+    ensures pages { bytes.new.made ≡ bytes.old.made }
     ensures step { own_mark service.old.shape leader number block partition.0 (serving service.old bytes.old.process) ≡ quiet (serving service.new bytes.new.process) }
 {
     let session = Session {

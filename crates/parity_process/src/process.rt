@@ -1,4 +1,4 @@
-ghost use Rattle.std.specs.Prelude.{◌≡◌, ◌+◌, ◌<◌, ◌≤◌, ◌^◌, [], ◌↔◌, length, map, All, IsTrue, IsSome, None, true, IfOk, OnErr};
+ghost use Rattle.std.specs.Prelude.{◌≡◌, ◌+◌, ◌<◌, ◌≤◌, ◌^◌, [], length, map, IsSome, None, true, IfOk, OnErr};
 ghost use Rattle.std.specs.List.{range_with_len};
 ghost use Rattle.group_types.specs.Dimensions.{space_of};
 ghost use Rattle.group_types.specs.declared.process.ProcessId.TheVariants.{ParityNode};
@@ -14,8 +14,10 @@ ghost use Rattle.group_run.specs.Receiving as machine;
 ghost use Rattle.group_run.specs.Replica.{callers, last_of};
 ghost use Rattle.group_run.specs.World.{flush_process};
 ghost use Rattle.head_service.specs.Acting.{name_of};
+ghost use Rattle.head_service.specs.Paging.{MakesNoneOf};
 ghost use Rattle.process_service.specs.Current.{is_current};
 ghost use Rattle.process_service.specs.Noticing.{waiting};
+ghost use Rattle.process_service.specs.Paging.{CallMisses, MessageMisses};
 ghost use Rattle.process_service.specs.Steps.{called, stepped};
 ghost use Rattle.leader_role.specs.Sound.{IsOfGroup};
 
@@ -69,9 +71,10 @@ impl ParityProcess {
     /// A call is asked. After want of memory nothing but room has changed.
     pub fn ask(&mut self, call: Call, op: &Op) -> Result<CallStep, AllocError>
         requires caller { call.caller < callers }
-        requires numbers { All (λ r. last_of r < 2 ^ 62) self.old.process.replicas }
+        requires numbers { last_of (replica_of self.old.process (home_of (key_of op.now.act) self.old.shape.k)) < 2 ^ 62 }
         requires sessions { self.old.process.as_leader.last_session < 2 ^ 62 }
         ensures shape { self.new.shape ≡ self.old.shape }
+        ensures pages { MakesNoneOf (CallMisses self.old.shape op.now self.old.process) self.old.made self.new.made }
         ensures step { IfOk result (λ step. ask_process self.old.shape (name_of call) op.now self.old.process ≡ called self.new.process step) }
         ensures wanted { OnErr result (IsSome (at None self.old.process.heads (home_of (key_of op.now.act) self.old.shape.k))) }
         ensures err { OnErr result (self.new.process ≡ self.old.process) }
@@ -85,6 +88,7 @@ impl ParityProcess {
     /// A held call is answered once its update is settled, and forgotten then. It takes no memory.
     pub fn collect(&mut self, caller: u32, call: u64) -> Answer
         ensures shape { self.new.shape ≡ self.old.shape }
+        ensures pages { self.new.made ≡ self.old.made }
         ensures answer { collect_from caller call self.old.process (range_with_len 0 self.old.shape.k) ≡ only result self.new.process }
     {
         self.service.collect(caller, call)
@@ -112,6 +116,7 @@ impl ParityProcess {
         requires fits { Fits self.old.shape from message.now self.old.process }
         requires group { IsOfGroup self.old.shape message.now self.old.process }
         ensures shape { self.new.shape ≡ self.old.shape }
+        ensures pages { MakesNoneOf (MessageMisses self.old.shape.block message.now) self.old.made self.new.made }
         ensures step { IfOk result (λ step. machine.receive self.old.shape from message.now self.old.process ≡ stepped self.new.process step) }
         ensures wanted { OnErr result (is_current self.old.process message.now ≡ true) }
         ensures err { OnErr result (self.new.process ≡ self.old.process) }
@@ -144,14 +149,6 @@ impl ParityProcess {
         ensures { IfOk result (λ n. n ≡ waiting self.now.process.replicas) }
     {
         self.service.waiting()
-    }
-
-    /// Whether neither a partition nor the process's sessions have nearly used up their numbers, which is a
-    /// condition of `ask`.
-    pub fn has_numbers(&self) -> bool
-        ensures { IsTrue result ↔ (All (λ r. last_of r < 2 ^ 62) self.now.process.replicas × (self.now.process.as_leader.last_session < 2 ^ 62)) }
-    {
-        self.service.has_numbers() && self.bytes.last() < 1 << 62
     }
 
     /// The number up to which each partition is applied.

@@ -5,8 +5,10 @@ ghost use Rattle.group_message.specs.declared.message.Message.TheVariants as tel
 ghost use Rattle.group_run.specs.Applying.{quiet};
 ghost use Rattle.group_run.specs.Fitting.{BlockFits, Fits, RowFits};
 ghost use Rattle.group_run.specs.Receiving as machine;
+ghost use Rattle.head_service.specs.Paging.{MakesNoneOf};
 ghost use Rattle.head_service.specs.Serving.{Serving, serving};
 ghost use Rattle.process_service.specs.Current.{is_current};
+ghost use Rattle.process_service.specs.Paging.{MessageMisses};
 ghost use Rattle.process_service.specs.Standing.{is_under};
 ghost use Rattle.process_service.specs.Steps.{stepped};
 ghost use Rattle.parity_bytes.specs.Bytes.{Stays};
@@ -32,6 +34,7 @@ pub fn receive(
     requires ready { IsReadyFor service.old bytes.old }
     ensures shape { service.new.shape ≡ service.old.shape }
     ensures over { IsOver service.new bytes.new }
+    ensures pages { MakesNoneOf (MessageMisses service.old.shape.block message.now) bytes.old.made bytes.new.made }
     ensures step { IfOk result (λ step. machine.receive service.old.shape from message.now (serving service.old bytes.old.process)
         ≡ stepped (serving service.new bytes.new.process) step) }
     ensures wanted { OnErr result (is_current (serving service.old bytes.old.process) message.now ≡ true) }
@@ -116,6 +119,7 @@ fn acknowledge(
     requires over { IsOver service.old bytes.old }
     ensures shape { service.new.shape ≡ service.old.shape }
     ensures over { IsOver service.new bytes.new }
+    ensures pages { bytes.new.made ≡ bytes.old.made }
     ensures step { IfOk result (λ step. machine.receive service.old.shape from (tells.Ack rank partition number) (serving service.old bytes.old.process)
         ≡ stepped (serving service.new bytes.new.process) step) }
     ensures wanted { OnErr result (is_under rank.0 (at None service.old.heads partition.0) ≡ true) }

@@ -1,5 +1,6 @@
 -- What a process keeps of one partition, as its contracts see it, and what it keeps once the partition's part changed.
-use Rattle.std.proofs.Common.{ℕ, ◌≡◌, ◌<◌, ◌≤◌, ◌+◌, List, ◌++◌, Option, None, Some, length, map, slice_index_or, All, refl, sym, ap, subst, ◌∙◌, arith}
+use Rattle.std.proofs.Common.{ℕ, ◌≡◌, ◌<◌, ◌≤◌, ◌+◌, ◌-◌, List, ◌++◌, Option, None, Some, length, map, take, drop, slice_index_or, All, refl, sym, ap, subst, ◌∙◌, arith}
+use Rattle.std.proofs.lemmas.List.{length-append, take-append-drop}
 use Rattle.std.specs.Prelude.{set}
 use Rattle.group_types.specs.Dimensions.{Dimensions}
 use Rattle.group_types.specs.Lists.{at, put}
@@ -124,6 +125,14 @@ module _ {inside : Inside} {now : Serving} {d : ℕ} {state : State} (lent : IsL
   -- the room of a list for what waits, before and after the partition's updates are settled into it
   pub waits-in : length state.replica.log ≤ waiting now.replicas
   waits-in = one-waits now.replicas d state.replica here has-replica
+
+  -- and so what is settled up to a number
+  pub up-in : (n : ℕ) → length (up_to n state.replica) ≤ waiting now.replicas
+  up-in n =
+      let behind : ℕ = n - state.replica.applied in
+      let whole : length (take behind state.replica.log) + length (drop behind state.replica.log) ≡ length state.replica.log
+      = sym (length-append (take behind state.replica.log) (drop behind state.replica.log)) ∙ ap length (take-append-drop behind state.replica.log) in
+      omega (arith, waits-in, whole)
 
   pub room-left : (n : ℕ) (t : State) (long long2 room room2 : ℕ) (before after : List Settlement) → t.replica ≡ applied_to n state.replica
       → after ≡ before ++ settlements d (up_to n state.replica) → long ≡ length before → long2 ≡ length after → room ≤ room2

@@ -12,3 +12,4 @@ mod Counted
 mod Judged
 mod Taken
 mod Lent
+mod Paging

@@ -1,5 +1,6 @@
 pub mod Current
 pub mod Inherited
 pub mod Noticing
+pub mod Paging
 pub mod Standing
 pub mod Steps

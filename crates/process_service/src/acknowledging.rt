@@ -28,6 +28,7 @@ impl Service {
         ensures shape { self.new.shape ≡ self.old.shape }
         ensures name { self.new.name ≡ self.old.name }
         ensures beneath { IsBeneath self.new (B.shape below.new) (B.process below.new) (B.is_ready below.new) }
+        ensures pages { B.made below.new ≡ B.made below.old }
         ensures settled { IfOk result (λ settled.
             acknowledge self.old.shape parity rank.0 partition.0 number (head_at (serving self.old (B.process below.old)) partition.0)
             (serving self.old (B.process below.old))

@@ -6,8 +6,9 @@ ghost use Rattle.head_service.specs.Serving.{serving};
 ghost use Rattle.process_service.specs.Standing.{IsBeneath};
 
 use crate::service::Service;
-use follower_service::apply::{apply, room};
+use follower_service::apply::apply;
 use group_types::Partition;
+use head_service::settle::room;
 use head_service::{Beneath, Settlement};
 use std::alloc::AllocError;
 
@@ -38,6 +39,7 @@ impl Service {
         ensures known { self.new.known ≡ self.old.known }
         ensures heads { self.new.heads ≡ self.old.heads }
         ensures beneath { IsBeneath self.new (B.shape below.new) (B.process below.new) (B.is_ready below.new) }
+        ensures pages { B.made below.new ≡ B.made below.old }
         ensures process { serving self.new (B.process below.new) ≡ apply_to self.old.shape partition.0 number (serving self.old (B.process below.old)) }
     {
         let replica = &mut self.replicas[partition.0 as usize];

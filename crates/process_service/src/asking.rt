@@ -1,14 +1,12 @@
-ghost use Rattle.std.specs.Prelude.{◌≡◌, ◌<◌, ◌^◌, ℕ, false, IsSome, None, List, Option, length, map, All, IfOk, IfSome, OnErr};
-ghost use Rattle.group_types.specs.Dimensions.{Dimensions};
+ghost use Rattle.std.specs.Prelude.{◌≡◌, ◌<◌, ◌^◌, IsSome, None, IfOk, OnErr};
 ghost use Rattle.group_types.specs.Hash.{home_of};
 ghost use Rattle.group_types.specs.Lists.{at};
 ghost use Rattle.memc_table.specs.Act.{key_of};
-ghost use Rattle.group_run.specs.Process.{Process};
-ghost use Rattle.group_run.specs.Replica.{callers, last_of};
-ghost use Rattle.partition_replica.specs.State.{IsTidyBut};
+ghost use Rattle.group_run.specs.Replica.{callers, empty_replica, last_of};
 ghost use Rattle.head_service.specs.Acting.{NeedsOf, name_of};
-ghost use Rattle.head_service.specs.Laws.{ArePeers};
-ghost use Rattle.head_service.specs.Serving.{Serving, serving};
+ghost use Rattle.head_service.specs.Paging.{MakesNoneOf};
+ghost use Rattle.head_service.specs.Serving.{serving};
+ghost use Rattle.process_service.specs.Paging.{CallMisses};
 ghost use Rattle.process_service.specs.Standing.{IsBeneath};
 ghost use Rattle.process_service.specs.Steps.{IsAsked};
 
@@ -29,11 +27,12 @@ impl Service {
         below: &mut B,
     ) -> Result<Asked, AllocError>
         requires caller { call.caller < callers }
-        requires numbers { All (λ r. last_of r < 2 ^ 62) self.old.replicas }
+        requires numbers { last_of (at empty_replica self.old.replicas (home_of (key_of op.now.act) self.old.shape.k)) < 2 ^ 62 }
         requires beneath { IsBeneath self.old (B.shape below.old) (B.process below.old) (B.is_ready below.old) }
         ensures shape { self.new.shape ≡ self.old.shape }
         ensures name { self.new.name ≡ self.old.name }
         ensures beneath { IsBeneath self.new (B.shape below.new) (B.process below.new) (B.is_ready below.new) }
+        ensures pages { MakesNoneOf (CallMisses self.old.shape op.now (serving self.old (B.process below.old))) (B.made below.old) (B.made below.new) }
         ensures asked { IfOk result (λ asked. IsAsked self.old.shape (name_of call) op.now (serving self.old (B.process below.old)) asked
             (serving self.new (B.process below.new))) }
         ensures block { IfOk result (NeedsOf self.old.shape) }

@@ -3,6 +3,7 @@ ghost use Rattle.group_types.specs.Lists.{at};
 ghost use Rattle.group_run.specs.Fitting.{AdoptFits, UpdateFits};
 ghost use Rattle.group_run.specs.Receiving.{adopt_comes, stable_comes, update_comes};
 ghost use Rattle.group_run.specs.Replica.{empty_replica};
+ghost use Rattle.head_service.specs.Paging.{AllMiss, MakesNoneOf, Misses};
 ghost use Rattle.head_service.specs.Serving.{serving};
 ghost use Rattle.process_service.specs.Standing.{IsBeneath};
 ghost use Rattle.process_service.specs.Steps.{stepped};
@@ -37,6 +38,7 @@ impl Service {
         ensures shape { self.new.shape ≡ self.old.shape }
         ensures name { self.new.name ≡ self.old.name }
         ensures beneath { IsBeneath self.new (B.shape below.new) (B.process below.new) (B.is_ready below.new) }
+        ensures pages { MakesNoneOf (Misses self.old.shape.block update.now.body) (B.made below.old) (B.made below.new) }
         ensures step { IfOk result (λ step. update_comes self.old.shape from rank.0 partition.0 update.now stable (serving self.old (B.process below.old))
             ≡ stepped (serving self.new (B.process below.new)) step) }
         ensures wanted { OnErr result (at 0 self.old.ranks partition.0 ≤ rank.0) }
@@ -66,6 +68,7 @@ impl Service {
         ensures shape { self.new.shape ≡ self.old.shape }
         ensures name { self.new.name ≡ self.old.name }
         ensures beneath { IsBeneath self.new (B.shape below.new) (B.process below.new) (B.is_ready below.new) }
+        ensures pages { B.made below.new ≡ B.made below.old }
         ensures step { IfOk result (λ step. stable_comes self.old.shape rank.0 partition.0 number (serving self.old (B.process below.old))
             ≡ stepped (serving self.new (B.process below.new)) step) }
         ensures wanted { OnErr result (at 0 self.old.ranks partition.0 ≤ rank.0) }
@@ -98,6 +101,7 @@ impl Service {
         ensures shape { self.new.shape ≡ self.old.shape }
         ensures name { self.new.name ≡ self.old.name }
         ensures beneath { IsBeneath self.new (B.shape below.new) (B.process below.new) (B.is_ready below.new) }
+        ensures pages { MakesNoneOf (AllMiss self.old.shape.block list.now) (B.made below.old) (B.made below.new) }
         ensures step { IfOk result (λ step. adopt_comes self.old.shape from rank.0 partition.0 base list.now (serving self.old (B.process below.old))
             ≡ stepped (serving self.new (B.process below.new)) step) }
         ensures wanted { OnErr result (at 0 self.old.ranks partition.0 ≤ rank.0) }

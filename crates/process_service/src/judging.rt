@@ -18,6 +18,7 @@ impl Service {
         requires beneath { IsBeneath self.old (B.shape below.old) (B.process below.old) (B.is_ready below.old) }
         requires room { vec_len settled.old + waiting self.old.replicas ≤ vec_capacity settled.old }
         ensures beneath { IsBeneath self.new (B.shape below.new) (B.process below.new) (B.is_ready below.new) }
+        ensures pages { B.made below.new ≡ B.made below.old }
         ensures shape { self.new.shape ≡ self.old.shape }
         ensures name { self.new.name ≡ self.old.name }
         ensures room { vec_len settled.new + waiting self.new.replicas ≤ vec_capacity settled.new }
@@ -39,6 +40,7 @@ impl Service {
         requires beneath { IsBeneath self.old (B.shape below.old) (B.process below.old) (B.is_ready below.old) }
         requires room { vec_len settled.old + waiting self.old.replicas ≤ vec_capacity settled.old }
         ensures beneath { IsBeneath self.new (B.shape below.new) (B.process below.new) (B.is_ready below.new) }
+        ensures pages { B.made below.new ≡ B.made below.old }
         ensures shape { self.new.shape ≡ self.old.shape }
         ensures name { self.new.name ≡ self.old.name }
         ensures room { vec_len settled.new + waiting self.new.replicas ≤ vec_capacity settled.new }

@@ -62,6 +62,7 @@ impl Service {
         ensures shape { self.new.shape ≡ self.old.shape }
         ensures name { self.new.name ≡ self.old.name }
         ensures beneath { IsBeneath self.new (B.shape below.new) (B.process below.new) (B.is_ready below.new) }
+        ensures pages { B.made below.new ≡ B.made below.old }
         ensures step { mourned self.old.shape (serving (bereaved dead self.old) (B.process below.old))
             ≡ record {
               process = serving self.new (B.process below.new);
@@ -90,14 +91,14 @@ impl Service {
         let mut d = self.replicas.len();
         'partitions: while 0 < d {
             d -= 1;
-            all = all.checked_add(long(&self.replicas[d])?).ok_or(AllocError)?;
+            all = all.checked_add(long(&self.replicas[d])).ok_or(AllocError)?;
         }
         Ok(all)
     }
 }
 
-fn long(replica: &Replica) -> Result<usize, AllocError>
-    ensures { IfOk result (λ n. n ≡ length replica.now.replica.log) }
+fn long(replica: &Replica) -> usize
+    ensures { result ≡ length replica.now.replica.log }
 {
-    usize::try_from(replica.last() - replica.applied()).map_err(|_| AllocError)
+    (replica.last() - replica.applied()) as usize
 }

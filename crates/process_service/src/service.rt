@@ -1,4 +1,4 @@
-ghost use Rattle.std.specs.Prelude.{◌≡◌, ◌↔◌, ◌<◌, ◌^◌, false, [], None, All, IsTrue, IfOk, length, map, replicate};
+ghost use Rattle.std.specs.Prelude.{◌≡◌, ◌<◌, false, [], None, All, IfOk, length, map, replicate};
 ghost use Rattle.group_types.specs.Lists.{at};
 ghost use Rattle.group_types.specs.Names.{IsProcess};
 ghost use Rattle.group_types.specs.Shape.{IsShape};
@@ -121,16 +121,12 @@ impl Service {
         self.ranks[partition.0 as usize]
     }
 
-    /// Whether no partition has nearly used up its numbers, which is a condition of `ask`.
-    pub fn has_numbers(&self) -> bool
-        ensures { IsTrue result ↔ All (λ r. last_of r < 2 ^ 62) self.now.replicas }
+    /// The last number that an update of a partition has.
+    pub fn last(&self, partition: Partition) -> u64
+        requires { partition.0 < self.now.shape.k }
+        ensures { result ≡ last_of (at empty_replica self.now.replicas partition.0) }
     {
-        'partitions: for d in 0..self.replicas.len() {
-            if 1 << 62 <= self.replicas[d].last() {
-                return false;
-            }
-        }
-        true
+        self.replicas[partition.0 as usize].last()
     }
 
     /// The other parity processes, as the process knows them.

@@ -69,6 +69,7 @@ pub updates-preserved : goal.updates-preserved
 updates-preserved g c = record {
   shape = c.settle_next.ensures.shape ∙ c.updates.invariant.shape;
   below = c.add.ensures.shape ∙ c.updates.invariant.below;
+  pages = c.add.ensures.pages ∙ c.updates.invariant.pages;
   replica = ap (applied_to c.args.number) (replica-is g c) ∙ next-applied (n g c) (r g c) (u g c) (first g c) (low g c) ∙ c.updates.invariant.replica;
   bytes = bytes-are g c ∙ c.updates.invariant.bytes;
   blocks = blocks-are g c;

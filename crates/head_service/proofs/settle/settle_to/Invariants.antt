@@ -10,6 +10,7 @@ abbrev pub invariant-updates : goal.invariant-updates
 invariant-updates g l = record {
   shape : l.replica.shape ≡ l.initial.replica.shape;
   below : g.B.Beneath.shape l.below ≡ g.B.Beneath.shape l.initial.below;
+  pages : g.B.Beneath.made l.below ≡ g.B.Beneath.made l.initial.below;
   replica : applied_to l.number l.replica.replica ≡ applied_to l.number l.initial.replica.replica;
   bytes : bytes_after (g.B.Beneath.shape l.initial.below) l.partition.0 (up_to l.number l.replica.replica) (g.B.Beneath.process l.below)
       ≡ bytes_after (g.B.Beneath.shape l.initial.below) l.partition.0 (up_to l.number l.initial.replica.replica) (g.B.Beneath.process l.initial.below);

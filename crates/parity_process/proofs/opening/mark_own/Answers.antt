@@ -22,6 +22,7 @@ lost-init c =
     record {
       shape = refl;
       over = c.requires.over;
+      pages = refl;
       left = all-left c.args.service.now.shape c.args.leader c.args.number c.args.block c.args.lost.now p (c.requires.markable (grind (arith, common_steps)));
       step = refl;
     }
@@ -83,6 +84,7 @@ lost-preserved c =
     record {
       shape = c.mark_at.ensures.shape ∙ c.lost.invariant.shape;
       over = c.mark_at.ensures.over;
+      pages = c.mark_at.ensures.pages ∙ c.lost.invariant.pages;
       left = subst (λ (step : ProcessStep). AreLeft s c.args.leader c.args.number c.args.block rest step.process) is
           (left-next s c.args.leader c.args.number c.args.block d rest p m);
       step = sym (each-quiet s c.args.leader c.args.number c.args.block d rest p q is)

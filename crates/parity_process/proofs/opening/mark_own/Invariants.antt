@@ -10,6 +10,7 @@ abbrev pub invariant-lost : goal.invariant-lost
 invariant-lost l = record {
   shape : l.service.shape ≡ l.initial.service.shape;
   over : IsOver l.service l.bytes;
+  pages : l.bytes.made ≡ l.initial.bytes.made;
   left : AreLeft l.initial.service.shape l.leader l.number l.block (drop l.d-index l.lost) (serving l.service l.bytes.process);
   step : for_each (drop l.d-index l.lost) (own_mark l.initial.service.shape l.leader l.number l.block) (serving l.service l.bytes.process)
       ≡ for_each l.lost (own_mark l.initial.service.shape l.leader l.number l.block) (serving l.initial.service l.initial.bytes.process);

@@ -1,5 +1,11 @@
+use Rattle.head_service.proofs.Paging.{put-pages}
 use Rattle.data_process.proofs.Adding.{still-ready}
 use Rattle.data_process.proofs.values.ValuesBeneath.reserve.Goals as goal
+
+pub returns-in_ok-reserve-clause-pages : goal.returns-in_ok-reserve-clause-pages
+returns-in_ok-reserve-clause-pages c =
+    rw (← c.self.view_is) (put-pages c.self.inside.space.shape.block c.args.update.now.body c.in-Put.flags c.in-Put.until c.in-Put.run' c.in-Put.delta
+    c.self.inside.space.made c.reserve.new.self.made c.in-Put.is c.in_ok-reserve.ensures.made)
 
 pub returns-in_ok-reserve-clause-kept : goal.returns-in_ok-reserve-clause-kept
 returns-in_ok-reserve-clause-kept c =

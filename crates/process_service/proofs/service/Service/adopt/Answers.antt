@@ -1,4 +1,4 @@
-use Rattle.std.proofs.Common.{ℕ, ◌≡◌, nat_le, true, List, map, sym, ap, ◌∙◌}
+use Rattle.std.proofs.Common.{ℕ, ◌≡◌, ◌<◌, nat_le, true, List, map, sym, ap, subst, ◌∙◌}
 use Rattle.std.specs.Prelude.{set}
 use Rattle.std.proofs.lemmas.Bool.{leb-true}
 use Rattle.group_types.specs.Dimensions.{Dimensions}
@@ -7,6 +7,7 @@ use Rattle.group_run.specs.Fitting.{AdoptFits}
 use Rattle.group_run.specs.Process.{Process}
 use Rattle.group_run.specs.Receiving.{ack_to, adopt_comes}
 use Rattle.group_run.specs.Replica.{Replica, empty_replica}
+use Rattle.head_service.specs.Paging.{AllMiss, MakesNoneOf}
 use Rattle.head_service.specs.Serving.{Serving, serving}
 use Rattle.process_service.proofs.Followed.{acknowledged-as, adoption-made}
 use Rattle.process_service.proofs.Lent.{IsLent, here, lends, other-heads, put-back, put-same, ranks-put, ready-of, stands-applied, stands-same, written}
@@ -20,6 +21,9 @@ module _ (g : given.Over) (c : goal.After-adopt-arg-2-1 g) where
 
   current : nat_le (at 0 c.args.self.now.ranks c.args.partition.0) c.args.rank.0 ≡ true
   current = sym c.is_current.ensures ∙ c.if-not-is_current.false
+
+pub adopt-requires-clause-partition : goal.adopt-requires-clause-partition
+adopt-requires-clause-partition g c = subst (λ (x : Dimensions). c.args.partition.0 < x.k) (sym c.requires.beneath.shape) c.requires.partition
 
 pub adopt-requires-clause-fits : goal.adopt-requires-clause-fits
 adopt-requires-clause-fits g c = lends (lent g c) (λ s r. AdoptFits s r c.args.base c.args.list.now) (c.requires.fits (leb-true _ _ (current g c)))
@@ -63,3 +67,11 @@ returns-clause-step g c =
     ∙ ap (λ (w : Serving). ack_to c.args.from c.args.rank.0 d c.reach.result (serving (record w { ranks = ranks }) b2)) (sym (put-back (lent g f) c.adopt.new.replica))
     ∙ acknowledged-as c.args.from c.args.rank.0 d c.reach.result (serving (record (written (lent g f) c.adopt.new.replica) { ranks = ranks }) b2)
     c.sending.result.sent.items c.sending.result.settled.items (c.sending.ensures.sent ∙ c.in_ok-sent.ensures) c.sending.ensures.settled
+
+pub returns-in_err-adopt-clause-pages : goal.returns-in_err-adopt-clause-pages
+returns-in_err-adopt-clause-pages g c = subst (λ (x : Dimensions). MakesNoneOf (AllMiss x.block c.args.list.now) (g.B.Beneath.made c.args.below.now) (g.B.Beneath.made c.adopt.new.below))
+    c.requires.beneath.shape c.adopt.ensures.pages
+
+pub returns-clause-pages : goal.returns-clause-pages
+returns-clause-pages g c = subst (λ (x : Dimensions). MakesNoneOf (AllMiss x.block c.args.list.now) (g.B.Beneath.made c.args.below.now) (g.B.Beneath.made c.adopt.new.below))
+    c.requires.beneath.shape c.adopt.ensures.pages

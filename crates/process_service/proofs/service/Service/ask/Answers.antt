@@ -15,13 +15,17 @@ use Rattle.partition_replica.specs.State.{IsTidyBut, State}
 use Rattle.head_service.specs.Acting.{IsMade, acts, name_of}
 use Rattle.head_service.specs.Beneath.{found_in}
 use Rattle.head_service.specs.Laws.{Heads}
+use Rattle.head_service.specs.Paging.{DecisionMisses, MakesNoneOf}
+use Rattle.head_service.proofs.Paging.{makes-none}
 use Rattle.head_service.specs.Serving.{Serving, serving}
 use Rattle.head_service.specs.declared.peers.Peers.{Peers}
+use Rattle.process_service.specs.Paging.{CallMisses}
 use Rattle.process_service.specs.Standing.{IsBeneath}
 use Rattle.process_service.specs.Steps.{IsAsked}
 use Rattle.process_service.proofs.Asked.{asked-at, moved}
-use Rattle.process_service.proofs.Lent.{HasPlace, IsLent, has-replica, head-at, heads-as, lends, narrow, put-back, put-same, ready-of, same-shape, stands, written}
-use Rattle.process_service.proofs.Lists.{all-at, long-set, part-at, part-put}
+use Rattle.process_service.proofs.Lent.{HasPlace, IsLent, head-at, heads-as, lends, narrow, put-back, put-same, ready-of, same-shape, stands, written}
+use Rattle.process_service.proofs.Paging.{pages-at}
+use Rattle.process_service.proofs.Lists.{long-set, part-at, part-put}
 use Rattle.process_service.proofs.Results.{on-err, on-err-any, on-ok}
 use Rattle.process_service.proofs.Standing.{AreKept, made-kept, peers-are}
 use Rattle.process_service.proofs.service.Service.ask.Given as given
@@ -56,11 +60,18 @@ module _ (g : given.Over) (c : goal.After-ask-arg-1 g) where
       ∙ part-at (λ x. x.items) [] c.self.inside.held.items d c.index_mut-in-Some.result.now has_held c.index_mut-in-Some.ensures.value
 
 pub ask-requires-clause-numbers : goal.ask-requires-clause-numbers
-ask-requires-clause-numbers g c = lends (lent g c) (λ _ r. last_of r < 4611686018427387904)
-    (all-at (λ (r : Replica). last_of r < 4611686018427387904) empty_replica c.args.self.now.replicas c.home-partition.result.0 (has-replica (lent g c)) c.requires.numbers)
+ask-requires-clause-numbers g c =
+    let wide : c.self.inside.shape.k ≡ c.args.self.now.shape.k = ap (λ (w : Serving). w.shape.k) c.self.view_is in
+    let home : c.home-partition.result.0 ≡ home_of (key_of c.args.op.now.act) c.args.self.now.shape.k
+    = c.home-partition.ensures.value ∙ home-same c.key.result.now c.act.result.now c.args.op.now.act c.k.result c.args.self.now.shape.k c.key.ensures c.act.ensures (c.k.ensures.value ∙ wide) in
+    lends (lent g c) (λ _ r. last_of r < 4611686018427387904)
+    (subst (λ (d : ℕ). last_of (at empty_replica c.args.self.now.replicas d) < 4611686018427387904) (sym home) c.requires.numbers)
 
 pub ask-requires-clause-ready : goal.ask-requires-clause-ready
 ask-requires-clause-ready g c = ready-of (lent g c) c.requires.beneath
+
+pub ask-requires-clause-partition : goal.ask-requires-clause-partition
+ask-requires-clause-partition g c = subst (λ (x : Dimensions). c.home-partition.result.0 < x.k) (sym c.requires.beneath.shape) (lent g c).place.below
 
 pub invariant_of-self : goal.invariant_of-self
 invariant_of-self g c =
@@ -143,6 +154,28 @@ returns-in-Some-clause-asked g c = on-ok c.ask.result (λ asked made.
     (subst (λ (xs : List Held). IsMade (decide (space_of c.index_mut.result.now.shape) h.inherited r c.args.op.now (found_in s (d g f) b))
     (acts s (d g f) peers h name c.args.op.now r xs b (decide (space_of c.index_mut.result.now.shape) h.inherited r c.args.op.now (found_in s (d g f) b)))
     asked r2 c.ask.new.held.items b2) (sym (held-is g f)) made)))))) c.ask.ensures.made
+
+pub returns-in-None-clause-pages : goal.returns-in-None-clause-pages
+returns-in-None-clause-pages g c =
+    makes-none (CallMisses c.args.self.now.shape c.args.op.now (serving c.args.self.now (g.B.Beneath.process c.args.below.now))) (g.B.Beneath.made c.args.below.now)
+
+pub returns-in-Some-clause-pages : goal.returns-in-Some-clause-pages
+returns-in-Some-clause-pages g c =
+    let f : goal.After-ask-arg-1 g = c.before.before.before in
+    let s : Dimensions = g.B.Beneath.shape c.args.below.now in
+    let v : Serving = c.args.self.now in
+    let r : Replica = c.index_mut.result.now.replica in
+    let b : Process = g.B.Beneath.process c.args.below.now in
+    let h : Head = c.in-Some.head in
+    let old : List ℕ = g.B.Beneath.made c.args.below.now in
+    let new : List ℕ = g.B.Beneath.made c.ask.new.below in
+    let same : c.index_mut.result.now.shape ≡ s = same-shape (lent g f) ∙ ap (λ (x : Serving). x.shape) c.self.view_is ∙ sym c.requires.beneath.shape in
+    let home : d g f ≡ home_of (key_of c.args.op.now.act) s.k
+    = c.home-partition.ensures.value ∙ home-same c.key.result.now c.act.result.now c.args.op.now.act c.k.result s.k c.key.ensures c.act.ensures
+    (c.k.ensures.value ∙ ap (λ (x : Serving). x.shape.k) c.self.view_is ∙ sym (ap (λ (x : Dimensions). x.k) c.requires.beneath.shape)) in
+    subst (λ (x : Dimensions). MakesNoneOf (CallMisses x c.args.op.now (serving v b)) old new) c.requires.beneath.shape
+    (pages-at s v b h r c.args.op.now old new (d g f) home (heads-are g f).head (heads-are g f).replica
+    (subst (λ (x : Dimensions). MakesNoneOf (DecisionMisses s.block (decide (space_of x) h.inherited r c.args.op.now (found_in s (d g f) b))) old new) same c.ask.ensures.pages))
 
 pub returns-in-Some-clause-self_err : goal.returns-in-Some-clause-self_err
 returns-in-Some-clause-self_err g c = on-err c.ask.result (λ replica same.

@@ -1,4 +1,4 @@
-use Rattle.std.proofs.Common.{◌≡◌, nat_le, true, sym, ap, ◌∙◌}
+use Rattle.std.proofs.Common.{◌≡◌, ◌<◌, nat_le, true, sym, ap, subst, ◌∙◌}
 use Rattle.std.proofs.lemmas.Bool.{leb-true}
 use Rattle.group_types.specs.Dimensions.{Dimensions}
 use Rattle.group_types.specs.Lists.{at}
@@ -6,6 +6,7 @@ use Rattle.group_message.specs.declared.update.Update.{Update}
 use Rattle.group_run.specs.Fitting.{UpdateFits}
 use Rattle.group_run.specs.Process.{Process}
 use Rattle.group_run.specs.Receiving.{ack_to, update_comes}
+use Rattle.head_service.specs.Paging.{MakesNoneOf, Misses}
 use Rattle.head_service.specs.Serving.{Serving, serving}
 use Rattle.process_service.proofs.Followed.{acknowledged-as, update-made}
 use Rattle.process_service.proofs.Lent.{IsLent, here, lends, put-back, put-same, ready-of, stands-applied, stands-same, written}
@@ -19,6 +20,9 @@ module _ (g : given.Over) (c : goal.After-follow-arg-2-1 g) where
 
   current : nat_le (at 0 c.args.self.now.ranks c.args.partition.0) c.args.rank.0 ≡ true
   current = sym c.is_current.ensures ∙ c.if-not-is_current.false
+
+pub follow-requires-clause-partition : goal.follow-requires-clause-partition
+follow-requires-clause-partition g c = subst (λ (x : Dimensions). c.args.partition.0 < x.k) (sym c.requires.beneath.shape) c.requires.partition
 
 pub follow-requires-clause-fits : goal.follow-requires-clause-fits
 follow-requires-clause-fits g c = lends (lent g c) (λ s r. UpdateFits s r c.args.update.now c.args.stable) (c.requires.fits (leb-true _ _ (current g c)))
@@ -56,3 +60,11 @@ returns-clause-step g c =
     ∙ ap (λ (w : Serving). ack_to c.args.from c.args.rank.0 c.args.partition.0 u.number (serving w b2)) (sym (put-back (lent g f) c.follow.new.replica))
     ∙ acknowledged-as c.args.from c.args.rank.0 c.args.partition.0 u.number (serving (written (lent g f) c.follow.new.replica) b2) c.sending.result.sent.items c.sending.result.settled.items
     (c.sending.ensures.sent ∙ c.in_ok-sent.ensures) c.sending.ensures.settled
+
+pub returns-in_err-follow-clause-pages : goal.returns-in_err-follow-clause-pages
+returns-in_err-follow-clause-pages g c = subst (λ (x : Dimensions). MakesNoneOf (Misses x.block c.args.update.now.body) (g.B.Beneath.made c.args.below.now) (g.B.Beneath.made c.follow.new.below))
+    c.requires.beneath.shape c.follow.ensures.pages
+
+pub returns-clause-pages : goal.returns-clause-pages
+returns-clause-pages g c = subst (λ (x : Dimensions). MakesNoneOf (Misses x.block c.args.update.now.body) (g.B.Beneath.made c.args.below.now) (g.B.Beneath.made c.follow.new.below))
+    c.requires.beneath.shape c.follow.ensures.pages

@@ -21,6 +21,7 @@ partitions-preserved g c =
       shape = c.judge_at.ensures.shape ∙ c.partitions.invariant.shape;
       name = c.judge_at.ensures.name ∙ c.partitions.invariant.name;
       beneath = c.judge_at.ensures.beneath;
+      pages = c.judge_at.ensures.pages ∙ c.partitions.invariant.pages;
       room = c.judge_at.ensures.room;
       ahead = left-next (judge s) s.k c.partitions.d p q c.partitions.settled.items c.judge_at.new.settled.items c.args.settled.now.items
           (for_each (range_with_len 0 s.k) (judge s) (serving c.args.self.now (g.B.Beneath.process c.args.below.now))) below

@@ -13,6 +13,7 @@ invariant-partitions g l = record {
   shape : l.self.shape ≡ l.initial.self.shape;
   name : l.self.name ≡ l.initial.self.name;
   beneath : IsBeneath l.self (g.B.Beneath.shape l.below) (g.B.Beneath.process l.below) (g.B.Beneath.is_ready l.below);
+  pages : g.B.Beneath.made l.below ≡ g.B.Beneath.made l.initial.below;
   room : vec_len l.settled + waiting l.self.replicas ≤ vec_capacity l.settled;
   ahead : IsLeft (judge l.initial.self.shape) l.initial.self.shape.k l.d (serving l.self (g.B.Beneath.process l.below)) l.settled.items
       (for_each (range_with_len 0 l.initial.self.shape.k) (judge l.initial.self.shape) (serving l.initial.self (g.B.Beneath.process l.initial.below))) l.initial.settled.items;

@@ -7,7 +7,7 @@ use Rattle.head_service.specs.Peers.{settles}
 use Rattle.head_service.specs.Serving.{Serving, serving}
 use Rattle.process_service.specs.Steps.{HasMade}
 use Rattle.process_service.proofs.Judged.{judged-made, unjudged}
-use Rattle.process_service.proofs.Lent.{HasPlace, IsLent, head-at, heads-as, put-back, ready-of, room-left, stands-applied, waits-in, written}
+use Rattle.process_service.proofs.Lent.{HasPlace, IsLent, head-at, heads-as, put-back, ready-of, room-left, stands-applied, up-in, written}
 use Rattle.process_service.proofs.Standing.{peers-are}
 use Rattle.process_service.proofs.service.Service.judge_at.Given as given
 use Rattle.process_service.proofs.service.Service.judge_at.Goals as goal
@@ -23,7 +23,7 @@ pub judge-requires-clause-ready : goal.judge-requires-clause-ready
 judge-requires-clause-ready g c = ready-of (lent g c) c.requires.beneath
 
 pub judge-requires-clause-room : goal.judge-requires-clause-room
-judge-requires-clause-room g c = omega (arith, c.requires.room, waits-in (lent g c))
+judge-requires-clause-room g c = omega (arith, c.requires.room, up-in (lent g c) (number g c))
 
 pub returns-in-Some-clause-beneath : goal.returns-in-Some-clause-beneath
 returns-in-Some-clause-beneath g c =

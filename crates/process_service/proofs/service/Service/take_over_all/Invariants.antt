@@ -14,6 +14,7 @@ invariant-partitions g l = record {
   shape : l.self.shape ≡ l.initial.self.shape;
   name : l.self.name ≡ l.initial.self.name;
   beneath : IsBeneath l.self (g.B.Beneath.shape l.below) (g.B.Beneath.process l.below) (g.B.Beneath.is_ready l.below);
+  pages : g.B.Beneath.made l.below ≡ g.B.Beneath.made l.initial.below;
   room : vec_len l.settled + waiting l.self.replicas ≤ vec_capacity l.settled;
   long : length l.heads.items ≡ l.initial.self.shape.k;
   heads : (e : ℕ) → l.d ≤ e → e < l.initial.self.shape.k → at None l.heads.items e ≡ heir_at l.self e;

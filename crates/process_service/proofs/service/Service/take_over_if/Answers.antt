@@ -10,7 +10,7 @@ use Rattle.head_service.specs.Peers.{settles}
 use Rattle.head_service.specs.Serving.{Serving, serving}
 use Rattle.process_service.specs.Noticing.{heir_at}
 use Rattle.process_service.specs.Steps.{HasMade}
-use Rattle.process_service.proofs.Lent.{IsLent, has-replica, headed, headed-is, here, other-heads, ready-of, room-left, same-shape, stands-applied, waits-in}
+use Rattle.process_service.proofs.Lent.{IsLent, has-replica, headed, headed-is, here, other-heads, ready-of, room-left, same-shape, stands-applied, up-in}
 use Rattle.process_service.proofs.Lists.{long-set}
 use Rattle.process_service.proofs.Standing.{peers-are}
 use Rattle.process_service.proofs.Taken.{heir-long, taken-made}
@@ -31,7 +31,7 @@ pub judge-requires-clause-ready : goal.judge-requires-clause-ready
 judge-requires-clause-ready g c = ready-of (lent g c) c.requires.beneath
 
 pub judge-requires-clause-room : goal.judge-requires-clause-room
-judge-requires-clause-room g c = omega (arith, c.requires.room, waits-in (lent g c))
+judge-requires-clause-room g c = omega (arith, c.requires.room, up-in (lent g c) (number g c))
 
 pub invariant_of-self : goal.invariant_of-self
 invariant_of-self g c =
