@@ -31,6 +31,7 @@ returns-in_default c =
     let v : Holding = c.args.self.now in
     record {
       shape = refl;
+      pages = refl;
       process = update-added v.number v.space v.space c.args.arg2.0 c.args.update.now c.requires.ready.0 refl
           (nothing-added v.space.shape v.number c.args.arg2.0 c.args.update.now.body v.space.bytes c.in_default.not-Put);
       kept = λ d u ready. ready;
