@@ -33,7 +33,7 @@ use Rattle.law_log.proofs.Calls.{each-contained}
 use Rattle.law_log.proofs.HeldCalls.{held_of}
 use Rattle.law_log.proofs.Holds.{holds-judge}
 use Rattle.law_answers.proofs.Walks.{found-there}
-use Rattle.law_causes.specs.Calls.{ForgottenAlways, HeldAlways, HoldsTicket, RepliedAreForgotten, TicketsAreHeld}
+use Rattle.law_causes.specs.Calls.{CollectedAlways, TicketsHeldAlways, HoldsTicket, RepliedAreForgotten, TicketsAreHeld}
 use Rattle.law_causes.proofs.Holding.{calls-differ, calls-stand, held-stand, one-partition, reached-book}
 
 -- the call of this name is held behind the others
@@ -97,8 +97,8 @@ tickets-held w caller op p n may is = by (node_of w p).down (node_of w p).dead i
       ticket (subst (HeldBehind (process_of w p) (home_in w op) (next_name w caller) n) (sym same)
       (ask-held w.shape (next_name w caller) op (home_in w op) n (process_of w p) (head_at (process_of w p) (home_in w op)) is))
 
-pub held_always : HeldAlways
-held_always s es run = tickets-held (after s es)
+pub tickets_held_always : TicketsHeldAlways
+tickets_held_always s es run = tickets-held (after s es)
 
 -- what is left of a list passes
 filtered : {X : Type 0} (test : X → Bool) (xs : List X) → Each (λ x. test x ≡ true) (filter test xs)
@@ -165,8 +165,8 @@ forgotten w caller call p one r is d x holds = by (node_of w p).down (node_of w 
   by false false isdown isdead is same =
       walk-none w p caller call (one isdown isdead) r w.shape.k 0 (omega arith) is d x holds.partition (subst (λ (q : Process). Contains (held_at q d) x) same holds.held) holds.named
 
-pub forgotten_always : ForgottenAlways
-forgotten_always s es run = subst RepliedAreForgotten (book-world s es) (λ caller call p reply may is.
+pub collected_always : CollectedAlways
+collected_always s es run = subst RepliedAreForgotten (book-world s es) (λ caller call p reply may is.
     forgotten w caller call p (λ isdown isdead. one-partition (book_of s es).history (reached-book s es run) (held-stand s es run) p (may.1, isdead) (book_of s es).issued (calls-stand s es run)
     (up_from w.shape w.nodes (book_of s es).history.settled (book-framed s es run) p may.1 isdown) (calls-differ s es run) caller call) reply is) where
       w : World

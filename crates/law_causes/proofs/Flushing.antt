@@ -25,22 +25,22 @@ use Rattle.law_histories.proofs.Steps.{sent_to-append}
 use Rattle.law_answers.proofs.Leaves.{IsWide, ledger-stays, wide_always}
 use Rattle.law_answers.proofs.Walks.{framed-after}
 use Rattle.law_progress.proofs.Outward.{none-to, treated-out}
-use Rattle.law_causes.specs.Flushing.{HasToldStables, TellsAlways, stable_of}
+use Rattle.law_causes.specs.Flushing.{HasToldStables, TellsAlways, stable_told}
 use Rattle.law_causes.proofs.Standing.{named-always}
 
 module _ (s : Dimensions) (p : Process) where
   -- to another parity process that isn't known dead go all of them
   module _ (i : ℕ) (low : i < s.m) (other : ParityNode i ≢ p.name) (living : knows_dead p.known (ParityNode i) ≡ false) where
-    one-told : (d : ℕ) (o : Option Head) → sent_to (ParityNode i) (tell_stable s p d o) ≡ stable_of p d o
+    one-told : (d : ℕ) (o : Option Head) → sent_to (ParityNode i) (tell_stable s p d o) ≡ stable_told p d o
     one-told d None = refl
     one-told d (Some h) = sent-one s p (Stable (rank h.rank) (partition d) (replica_of p d).applied) i low other living
 
-    all-told : (ds : List ℕ) → sent_to (ParityNode i) (tell_stables s p ds) ≡ flat_map (λ d. stable_of p d (head_at p d)) ds
+    all-told : (ds : List ℕ) → sent_to (ParityNode i) (tell_stables s p ds) ≡ flat_map (λ d. stable_told p d (head_at p d)) ds
     all-told [] = refl
     all-told (d ∷ ds) =
         sent_to-append (ParityNode i) (tell_stable s p d (head_at p d)) (tell_stables s p ds)
         ∙ ap (λ (ms : List Message). ms ++ sent_to (ParityNode i) (tell_stables s p ds)) (one-told d (head_at p d))
-        ∙ ap (λ (ms : List Message). stable_of p d (head_at p d) ++ ms) (all-told ds)
+        ∙ ap (λ (ms : List Message). stable_told p d (head_at p d) ++ ms) (all-told ds)
 
   -- to data processes none
   none-to-data : (e : ℕ) (m : Message) (is : List ℕ) → sent_to (DataNode e) (to_parities is m) ≡ []

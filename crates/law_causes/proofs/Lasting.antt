@@ -42,7 +42,7 @@ use Rattle.law_log.proofs.Calls.{Acts, Answers, Delivers, Dies, Fails, Idle, Not
 use Rattle.law_log.proofs.HeldCalls.{held_of}
 use Rattle.law_log.proofs.Holds.{holds-judge, holds-receive, holds-start, holds-when}
 use Rattle.law_answers.proofs.Walks.{found-there}
-use Rattle.law_causes.specs.Calls.{HeldLast, IsCollected, LastAlways}
+use Rattle.law_causes.specs.Calls.{HeldLast, IsCollected, HeldLastAlways}
 
 -- what passes a test is left
 filter-keeps : {X : Type 0} (test : X → Bool) (xs : List X) (x : X) → Contains xs x → test x ≡ true → Contains (filter test xs) x
@@ -194,5 +194,5 @@ module _ (h : History) (framed : FramedHistory h) (p : ProcessId) (pin : IsProce
     by {w} (Was same) = same-kept w same
     by {w} (Dies died) = subst (λ (y : Process). Contains (held_at y d) x) (sym (died.processes p pin)) there
 
-pub last_always : LastAlways
-last_always s es run = subst HeldLast (book-world s es) (λ e p d x may pin there. lasts (book_of s es).history (book-framed s es run) p pin d x there e may)
+pub held_last_always : HeldLastAlways
+held_last_always s es run = subst HeldLast (book-world s es) (λ e p d x may pin there. lasts (book_of s es).history (book-framed s es run) p pin d x there e may)

@@ -45,11 +45,11 @@ HeldLast w = (e : Event) (p : ProcessId) (d : ℕ) (h : Held) → MayCome w e �
     → Contains (held_at (process_of (step w e).world p) d) h ⊎ IsCollected e p h (step w e).turn.answer
 
 -- along every run
-abbrev pub HeldAlways : Type 0
-HeldAlways = (s : Dimensions) (es : List Event) → IsRun s es → TicketsAreHeld (after s es)
+abbrev pub TicketsHeldAlways : Type 0
+TicketsHeldAlways = (s : Dimensions) (es : List Event) → IsRun s es → TicketsAreHeld (after s es)
 
-abbrev pub LastAlways : Type 0
-LastAlways = (s : Dimensions) (es : List Event) → IsRun s es → HeldLast (after s es)
+abbrev pub HeldLastAlways : Type 0
+HeldLastAlways = (s : Dimensions) (es : List Event) → IsRun s es → HeldLast (after s es)
 
-abbrev pub ForgottenAlways : Type 0
-ForgottenAlways = (s : Dimensions) (es : List Event) → IsRun s es → RepliedAreForgotten (after s es)
+abbrev pub CollectedAlways : Type 0
+CollectedAlways = (s : Dimensions) (es : List Event) → IsRun s es → RepliedAreForgotten (after s es)

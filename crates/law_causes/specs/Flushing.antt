@@ -20,19 +20,19 @@ use Rattle.group_run.specs.Process.{Head, Process}
 use Rattle.group_run.specs.World.{World, after, node_of, step}
 
 -- what is told of partition d, if it is headed: its settled number, under the head's rank
-abbrev pub stable_of : Process → ℕ → Option Head → List Message
-stable_of p d None = []
-stable_of p d (Some h) = Stable (rank h.rank) (partition d) (replica_of p d).applied ∷ []
+abbrev pub stable_told : Process → ℕ → Option Head → List Message
+stable_told p d None = []
+stable_told p d (Some h) = Stable (rank h.rank) (partition d) (replica_of p d).applied ∷ []
 
 -- what is told of all k partitions, in order
-abbrev pub stables_of : Process → ℕ → List Message
-stables_of p k = flat_map (λ d. stable_of p d (head_at p d)) (range_with_len 0 k)
+abbrev pub stables_told : Process → ℕ → List Message
+stables_told p k = flat_map (λ d. stable_told p d (head_at p d)) (range_with_len 0 k)
 
 -- the process has told this, behind each link to another parity process that it doesn't know dead, and nothing else
 -- has changed
 pub record HasToldStables (w after : World) (p : ProcessId) : Type 0 where
   pub told : (i : ℕ) → i < w.shape.m → ParityNode i ≢ p → knows_dead (process_of w p).known (ParityNode i) ≡ false
-      → link after p (ParityNode i) ≡ link w p (ParityNode i) ++ stables_of (process_of w p) w.shape.k
+      → link after p (ParityNode i) ≡ link w p (ParityNode i) ++ stables_told (process_of w p) w.shape.k
   pub to_data : (d : ℕ) → d < w.shape.k → link after p (DataNode d) ≡ link w p (DataNode d)
   pub to_dead : (q : ProcessId) → IsProcess w.shape q → knows_dead (process_of w p).known q ≡ true → link after p q ≡ link w p q
   pub to_itself : link after p p ≡ link w p p

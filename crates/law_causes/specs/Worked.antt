@@ -14,9 +14,9 @@ use Rattle.group_calls.specs.declared.event.Event.TheVariants.{Ask, Collect, Del
 use Rattle.group_run.specs.Heading.{partition}
 use Rattle.group_run.specs.World.{after, step}
 
--- the smallest shape with a parity process, and its two processes
-abbrev pub shape : Dimensions
-shape = record { k = 1; m = 1; blocks = 1; block = 16 }
+-- the smallest small_shape with a parity process, and its two processes
+abbrev pub small_shape : Dimensions
+small_shape = record { k = 1; m = 1; blocks = 1; block = 16 }
 
 abbrev pub data_process : ProcessId
 data_process = DataNode 0
@@ -28,22 +28,22 @@ parity_process = ParityNode 0
 abbrev pub setting : Asked
 setting = record { moment = 0; act = Set (codes "a") 0 (pos 0) (1 ∷ 2 ∷ []) }
 
--- they are asked for, and then acknowledged
-abbrev pub asked : List Event
-asked = Ask 0 setting data_process ∷ []
+-- they are asked_events for, and then acked_events
+abbrev pub asked_events : List Event
+asked_events = Ask 0 setting data_process ∷ []
 
-abbrev pub acknowledged : List Event
-acknowledged = Ask 0 setting data_process ∷ Deliver data_process parity_process ∷ Deliver parity_process data_process ∷ []
+abbrev pub acked_events : List Event
+acked_events = Ask 0 setting data_process ∷ Deliver data_process parity_process ∷ Deliver parity_process data_process ∷ []
 
 -- the answer to an event behind others
 abbrev pub answer_behind : List Event → Event → Answer
-answer_behind es e = (step (after shape es) e).turn.answer
+answer_behind es e = (step (after small_shape es) e).turn.answer
 
 -- a ticket, and while it is unfinished another ask, a collect and a trace that have to wait, and a flush; and then the reply
 pub record AnswersCome : Type 0 where
   pub ticket : answer_behind [] (Ask 0 setting data_process) ≡ Ticket 1
-  pub pending : answer_behind asked (Ask 1 setting data_process) ≡ Retry (Pending (partition 0) 1)
-  pub not_yet : answer_behind asked (Collect 0 0 data_process) ≡ NotYet
-  pub traced : answer_behind asked (Trace 0 0 (partition 0) data_process) ≡ NotYet
-  pub flushed : answer_behind asked (Flush data_process) ≡ Done
-  pub replied : answer_behind acknowledged (Collect 0 0 data_process) ≡ Reply Stored
+  pub pending : answer_behind asked_events (Ask 1 setting data_process) ≡ Retry (Pending (partition 0) 1)
+  pub not_yet : answer_behind asked_events (Collect 0 0 data_process) ≡ NotYet
+  pub traced : answer_behind asked_events (Trace 0 0 (partition 0) data_process) ≡ NotYet
+  pub flushed : answer_behind asked_events (Flush data_process) ≡ Done
+  pub replied : answer_behind acked_events (Collect 0 0 data_process) ≡ Reply Stored

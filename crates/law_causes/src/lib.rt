@@ -4,7 +4,7 @@
 //! every run, and of the event that follows it. How the answers come about is left to the crate of the answers.
 #![tactic(auto)]
 
-ghost use Rattle.law_causes.specs.Calls.{ForgottenAlways, HeldAlways, LastAlways};
+ghost use Rattle.law_causes.specs.Calls.{CollectedAlways, TicketsHeldAlways, HeldLastAlways};
 ghost use Rattle.law_causes.specs.Drained.{NextAlways};
 ghost use Rattle.law_causes.specs.Flushing.{TellsAlways};
 ghost use Rattle.law_causes.specs.Unfinished.{UnfinishedAlways};
@@ -28,18 +28,18 @@ pub fn tells_always()
 {}
 
 /// After a ticket the process holds the call.
-pub fn held_always()
-    ensures { HeldAlways }
+pub fn tickets_held_always()
+    ensures { TicketsHeldAlways }
 {}
 
 /// A held call stays held until a collect of it is replied to.
-pub fn last_always()
-    ensures { LastAlways }
+pub fn held_last_always()
+    ensures { HeldLastAlways }
 {}
 
 /// After a collect that is replied to the process holds the call no longer.
-pub fn forgotten_always()
-    ensures { ForgottenAlways }
+pub fn collected_always()
+    ensures { CollectedAlways }
 {}
 
 /// No delivery is next exactly where the group is drained.

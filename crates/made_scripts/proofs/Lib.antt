@@ -1,0 +1,4 @@
+pub mod Lines
+pub mod Made
+pub mod Rounds
+pub mod Words
