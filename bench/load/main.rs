@@ -1,7 +1,9 @@
 // A load over memcached's text protocol, or redis's, by threads that each hold some connections. Every value tells its key and a running
 // number, and every value that is read is checked: see `value.rs` and `ledger.rs`. Built and used by bench/serve.sh: rustc -O main.rs
 
+mod connection;
 mod histogram;
+mod judge;
 mod ledger;
 mod options;
 mod poll;

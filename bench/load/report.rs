@@ -13,12 +13,14 @@ pub struct Tally {
     pub missing: u64,
     // Of the wrong and missing ones those that were read at the end, when nothing was under way.
     pub lost: u64,
+    // Keys that were read at the end, as they should be or not.
+    pub read_back: u64,
     pub acknowledged: u64,
 }
 
 impl Tally {
     pub fn new() -> Tally {
-        Tally { times: Histogram::new(), refused: 0, wrong: 0, missing: 0, lost: 0, acknowledged: 0 }
+        Tally { times: Histogram::new(), refused: 0, wrong: 0, missing: 0, lost: 0, read_back: 0, acknowledged: 0 }
     }
 
     pub fn add(&mut self, other: Tally) {
@@ -27,6 +29,7 @@ impl Tally {
         self.wrong += other.wrong;
         self.missing += other.missing;
         self.lost += other.lost;
+        self.read_back += other.read_back;
         self.acknowledged += other.acknowledged;
     }
 
@@ -48,7 +51,7 @@ impl Display for Report {
         write!(to, "requests {} a_second {:.0}", times.total(), times.total() as f64 / self.seconds)?;
         write!(to, " p50_us {:.1} p99_us {:.1} max_us {:.0}", times.micros(500), times.micros(990), times.most_micros())?;
         write!(to, " sets {} errors {} wrong {} missing {}", tally.acknowledged, tally.refused, tally.wrong, tally.missing)?;
-        write!(to, " lost {} client_cpu_s {:.2}", tally.lost, self.cpu)
+        write!(to, " read_back {} lost {} client_cpu_s {:.2}", tally.read_back, tally.lost, self.cpu)
     }
 }
 

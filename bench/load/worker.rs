@@ -1,18 +1,15 @@
 // A thread of the load and its connections: each sends a number of requests in one piece, and the next ones when all are answered.
 
 use crate::Shared;
+use crate::connection::{Act, Connection, PATIENCE, Pending, connect};
 use crate::poll::{self, Entry};
 use crate::protocol::{Answer, Protocol};
 use crate::report::Tally;
 use crate::value::{self, Pattern};
-use std::collections::{HashSet, VecDeque};
 use std::io::{Read, Result, Write};
-use std::net::TcpStream;
 use std::sync::atomic::Ordering;
 use std::time::{Duration, Instant};
 
-const PATIENCE: Duration = Duration::from_secs(10);
-const TOLD: u64 = 5;
 // After so many broken connections a thread sends nothing more.
 const BROKEN: u32 = 10;
 
@@ -23,59 +20,16 @@ enum Stage {
     ReadBack,
 }
 
-enum Act {
-    Set { number: u64 },
-    // The last acknowledged and the last sent number when it was sent.
-    Get { least: u64, most: u64 },
-}
-
-struct Pending {
-    key: usize,
-    act: Act,
-    begun: Instant,
-}
-
-struct Connection {
-    stream: TcpStream,
-    input: Vec<u8>,
-    output: Vec<u8>,
-    pending: VecDeque<Pending>,
-    // Its number: its keys are those that leave this rest.
-    rest: usize,
-    // The next of its keys to fill or to read back.
-    next: usize,
-    // Keys of which a set was not answered, as a connection broke: they are not written again.
-    retired: HashSet<usize>,
-}
-
-struct Worker<'a> {
-    shared: &'a Shared,
+pub struct Worker<'a> {
+    pub shared: &'a Shared,
     protocol: Protocol,
-    pattern: Pattern,
-    tally: Tally,
+    pub pattern: Pattern,
+    pub tally: Tally,
     random: u64,
     stage: Stage,
     end: Instant,
     broken: u32,
     piece: Vec<u8>,
-}
-
-fn connect(address: &str) -> Result<TcpStream> {
-    let stream = TcpStream::connect(address)?;
-    stream.set_nodelay(true)?;
-    stream.set_read_timeout(Some(PATIENCE))?;
-    stream.set_write_timeout(Some(PATIENCE))?;
-    Ok(stream)
-}
-
-impl Connection {
-    fn new(shared: &Shared, rest: usize) -> Connection {
-        let stream = connect(&shared.options.address).unwrap_or_else(|error| {
-            eprintln!("{}: {error}", shared.options.address);
-            std::process::exit(2)
-        });
-        Connection { stream, input: Vec::new(), output: Vec::new(), pending: VecDeque::new(), rest, next: rest, retired: HashSet::new() }
-    }
 }
 
 impl Worker<'_> {
@@ -145,8 +99,10 @@ impl Worker<'_> {
             let set = matches!(pending.act, Act::Set { .. });
             let Some((answer, length)) = self.protocol.answer(&connection.input[from..], set) else { break };
             self.judge(connection.rest, pending, &answer, &connection.input[from..from + length]);
-            if self.stage == Stage::Load {
-                self.tally.times.count(now - pending.begun);
+            match self.stage {
+                Stage::Load => self.tally.times.count(now - pending.begun),
+                Stage::ReadBack if !matches!(answer, Answer::Refused(_)) => self.tally.read_back += 1,
+                _ => {}
             }
             connection.pending.pop_front();
             (from, answers) = (from + length, answers + 1);
@@ -154,45 +110,6 @@ impl Worker<'_> {
         connection.input.drain(..from);
         self.shared.answered.fetch_add(answers, Ordering::Relaxed);
         Ok(())
-    }
-
-    fn judge(&mut self, rest: usize, pending: &Pending, answer: &Answer, bytes: &[u8]) {
-        let ledger = &self.shared.ledger;
-        match (&pending.act, answer) {
-            (Act::Set { number }, Answer::Stored) => {
-                ledger.acknowledge(pending.key, *number);
-                self.tally.acknowledged += 1;
-            }
-            (Act::Get { least, most }, Answer::Value(at)) => {
-                let own = pending.key % self.shared.options.connections == rest;
-                let (least, most) = if own { (ledger.acknowledged(pending.key), *most) } else { (*least, ledger.sent(pending.key)) };
-                let number = self.pattern.number(pending.key, self.shared.options.size, &bytes[at.clone()]);
-                if !number.is_some_and(|number| least <= number && number <= most) {
-                    self.tally.wrong += 1;
-                    self.tell(&format!("key {}: read {number:?}, not of {least} to {most}", pending.key));
-                }
-            }
-            (Act::Get { least: 0, .. }, Answer::Missing) => {}
-            (Act::Get { least, .. }, Answer::Missing) => {
-                self.tally.missing += 1;
-                self.tell(&format!("key {}: missing, {least} was acknowledged", pending.key));
-            }
-            (_, Answer::Refused(at)) => {
-                self.tally.refused += 1;
-                self.tell(&format!("key {}: {}", pending.key, String::from_utf8_lossy(&bytes[at.clone()])));
-            }
-            _ => {
-                self.tally.refused += 1;
-                self.tell("an answer to another request");
-            }
-        }
-    }
-
-    // The first few of what went wrong.
-    fn tell(&self, text: &str) {
-        if self.tally.refused + self.tally.wrong + self.tally.missing <= TOLD {
-            eprintln!("{text}");
-        }
     }
 
     // A new connection in place of one that broke.
