@@ -122,21 +122,35 @@ def many_lines(link):
         reader = threading.Thread(target=drain, args=(bad,), daemon=True)
         reader.start()
         beside("1 GB of lines that are no command", link, lambda: pour(bad, (b"z" * 999 + b"\n") * 65, 20.0))
+        bad.shutdown(socket.SHUT_RDWR)
 
 
-# The workers that the innocent leaves are held, and one connection more is made.
+# How long a newcomer waits for its answer while one of the bad clients closes after a second.
+def wait_for(link, leaving):
+    begun = time.monotonic()
+    threading.Timer(1.0, leaving.close).start()
+    try:
+        answer = ask(link, b"get nothing\r\n", b"END\r\n")
+    except OSError as error:
+        answer = error
+    return f"{answer!r} after {time.monotonic() - begun:.1f} s"
+
+
+# The workers that the innocent leaves are held, then one connection more; a newcomer waits, and first the oldest and then the newest leaves.
 def all_held(link):
     bad = [connect() for _ in range(WORKERS - 1)]
     for one in bad:
         one.sendall(b"get held")
     time.sleep(0.3)
-    print(f"all {WORKERS} workers held: innocent {innocent(link)}; newcomer {newcomer()}", flush=True)
-    waiting = connect(10.0)
-    begun = time.monotonic()
-    threading.Timer(1.0, bad[0].close).start()
-    answer = ask(waiting, b"get nothing\r\n", b"END\r\n")
-    print(f"    one of them closes after 1 s: the next is answered {answer!r} after {time.monotonic() - begun:.2f} s", flush=True)
-    waiting.close()
+    told(f"all {WORKERS} workers held", link)
+    bad.append(connect())
+    bad[-1].sendall(b"get held")
+    time.sleep(0.3)
+    told("and one connection more", link)
+    with connect(5.0) as waiting:
+        print(f"    a newcomer, while the oldest leaves: {wait_for(waiting, bad[0])}", flush=True)
+    with connect(5.0) as waiting:
+        print(f"    a newcomer, while the newest leaves: {wait_for(waiting, bad[-1])}", flush=True)
     for one in bad:
         one.close()
     time.sleep(0.3)
