@@ -10,7 +10,7 @@ if [ -n "${ADDRESS:-}" ]; then
 fi
 work=$(mktemp -d)
 pid=
-trap 'if [ -n "$pid" ]; then kill "$pid"; wait "$pid" || true; fi; rm -rf "$work"' EXIT
+trap 'if [ -n "$pid" ]; then kill "$pid"; wait "$pid" 2> /dev/null || true; fi; rm -rf "$work"' EXIT
 trap 'exit 1' INT TERM
 printf 'k = 4\nm = 2\nblocks = 4096\nblock = 4096\naddress = "127.0.0.1:21211"\nworkers = 4\n' > "$work/settings.toml"
 "$program" serve < "$work/settings.toml" > "$work/served" & pid=$!

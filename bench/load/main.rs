@@ -31,10 +31,10 @@ pub struct Shared {
 }
 
 // Sends one order of the project's own on a connection of its own, and gives its answer.
-fn order(address: &str, process: &str) -> std::io::Result<String> {
+fn order(address: &str, failure: &str) -> std::io::Result<String> {
     let mut stream = TcpStream::connect(address)?;
     stream.set_read_timeout(Some(Duration::from_secs(10)))?;
-    stream.write_all(format!("cocytus_fail {process} all\r\n").as_bytes())?;
+    stream.write_all(format!("cocytus_fail {failure}\r\n").as_bytes())?;
     let mut answer = [0; 256];
     let many = stream.read(&mut answer)?;
     Ok(String::from_utf8_lossy(&answer[..many]).trim_end().to_string())
@@ -48,8 +48,8 @@ fn watch(shared: &Shared) {
     while begun.elapsed().as_secs_f64() < options.seconds {
         std::thread::sleep(Duration::from_millis(20));
         let at = begun.elapsed().as_secs_f64();
-        while let Some((_, process)) = fails.next_if(|(due, _)| *due <= at) {
-            eprintln!("{at:.1} s: cocytus_fail {process} all: {:?}", order(&options.address, process));
+        while let Some((_, failure)) = fails.next_if(|(due, _)| *due <= at) {
+            eprintln!("{at:.1} s: cocytus_fail {failure}: {:?}", order(&options.address, failure));
         }
         if options.tell > 0.0 && at - told >= options.tell {
             let now = shared.answered.load(Ordering::Relaxed);

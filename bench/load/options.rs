@@ -1,10 +1,10 @@
 // What is asked for on the command line.
 
 pub const USAGE: &str = "load ADDRESS [--threads 4] [--connections 4] [--depth 1] [--gets 90] [--size 100] [--keys 10000] [--seconds 2]
-     [--tell SECONDS] [--fail PROCESS@SECONDS].. [--redis REPLICAS]
+     [--tell SECONDS] [--fail PROCESS[:KEEP]@SECONDS].. [--redis REPLICAS]
 Each connection sends --depth requests in one piece and the next ones when all are answered; --gets of 100 are a get, the others a set of --size
-bytes. Times are from sending to the answer. --fail lets a process fail by `cocytus_fail`, on a further connection. --redis speaks redis's
-protocol: behind each set stands WAIT REPLICAS, where it isn't 0.";
+bytes. Times are from sending to the answer. --fail lets a process fail by `cocytus_fail`, on a further connection; its links keep KEEP messages,
+or all. --redis speaks redis's protocol: behind each set stands WAIT REPLICAS, where it isn't 0.";
 
 pub struct Options {
     pub address: String,
@@ -16,6 +16,7 @@ pub struct Options {
     pub keys: usize,
     pub seconds: f64,
     pub tell: f64,
+    // When, and which process with how many messages kept.
     pub fails: Vec<(f64, String)>,
     pub redis: Option<u32>,
 }
@@ -26,8 +27,9 @@ fn number<T: std::str::FromStr>(word: &str, text: Option<String>) -> Result<T, S
 
 fn failure(text: Option<String>) -> Result<(f64, String), String> {
     let text = text.unwrap_or_default();
-    let (process, at) = text.split_once('@').ok_or("--fail wants PROCESS@SECONDS")?;
-    Ok((number("--fail", Some(at.to_string()))?, process.to_string()))
+    let (who, at) = text.split_once('@').ok_or("--fail wants PROCESS@SECONDS")?;
+    let (process, keep) = who.split_once(':').unwrap_or((who, "all"));
+    Ok((number("--fail", Some(at.to_string()))?, format!("{process} {keep}")))
 }
 
 impl Options {
