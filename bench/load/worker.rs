@@ -164,8 +164,7 @@ impl Worker<'_> {
 // Fills its connections' keys, loads the server, and reads the keys back.
 pub fn work(shared: &Shared, thread: usize) -> Tally {
     let options = &shared.options;
-    let mut connections: Vec<Connection> =
-        (thread..options.connections).step_by(options.threads).map(|rest| Connection::new(shared, rest)).collect();
+    let mut connections: Vec<Connection> = (thread..options.connections).step_by(options.threads).map(|rest| Connection::new(shared, rest)).collect();
     let mut worker = Worker {
         shared,
         protocol: options.redis.map_or(Protocol::Memcached, Protocol::Redis),
