@@ -1,0 +1,163 @@
+# What a client that behaves badly does to others: python3 hostile.py HOST PORT WORKERS [PID of the server]. Called by bench/hostile.sh.
+# While each of the bad ones is there, an innocent on a connection that it had before sets and gets for a second, and reads what it wrote;
+# then a newcomer connects and does a get. Bounded in time and bytes.
+
+import socket
+import sys
+import threading
+import time
+
+HOST, PORT, WORKERS = sys.argv[1], int(sys.argv[2]), int(sys.argv[3])
+PID = sys.argv[4] if len(sys.argv) > 4 else None
+GARBAGE = 1_000_000_000
+
+
+def connect(timeout=5.0):
+    return socket.create_connection((HOST, PORT), timeout=timeout)
+
+
+# An answer up to its end, or what came of it.
+def ask(link, request, end):
+    link.sendall(request)
+    answer = b""
+    while not answer.endswith(end):
+        piece = link.recv(65536)
+        if not piece:
+            return answer + b" (closed)"
+        answer += piece
+    return answer
+
+
+# How many calls the innocent made in so many seconds, the longest, and how many answers were wrong.
+def innocent(link, seconds=1.0):
+    begun, calls, longest, wrong = time.monotonic(), 0, 0.0, 0
+    while time.monotonic() - begun < seconds:
+        at = time.monotonic()
+        value = b"%020d" % calls
+        wrong += ask(link, b"set innocent 0 0 20\r\n" + value + b"\r\n", b"\r\n") != b"STORED\r\n"
+        wrong += ask(link, b"get innocent\r\n", b"END\r\n") != b"VALUE innocent 0 20\r\n" + value + b"\r\nEND\r\n"
+        longest, calls = max(longest, time.monotonic() - at), calls + 2
+    return f"{calls} calls, the longest pair {longest * 1000:.1f} ms, wrong {wrong}"
+
+
+def newcomer():
+    try:
+        with connect(2.0) as link:
+            begun = time.monotonic()
+            answer = ask(link, b"get nothing\r\n", b"END\r\n")
+            return f"{answer!r} in {(time.monotonic() - begun) * 1000:.1f} ms"
+    except OSError as error:
+        return f"no answer ({error})"
+
+
+def memory():
+    if PID is None:
+        return ""
+    with open(f"/proc/{PID}/status", encoding="ascii") as status:
+        resident = [line.split()[1] for line in status if line.startswith("VmRSS")]
+    return f"; server {int(resident[0]) // 1024} MiB" if resident else "; server gone"
+
+
+def told(name, link):
+    print(f"{name}: innocent {innocent(link)}; newcomer {newcomer()}{memory()}", flush=True)
+
+
+# Sends pieces until so many bytes are sent, the other side closes, or the time is over; gives the bytes sent and how it ended.
+def pour(link, piece, seconds, most=GARBAGE):
+    begun, sent = time.monotonic(), 0
+    link.settimeout(1.0)
+    try:
+        while sent < most and time.monotonic() - begun < seconds:
+            sent += link.send(piece)
+    except OSError as error:
+        return f"{sent} bytes, then {error}"
+    return f"{sent} bytes in {time.monotonic() - begun:.1f} s"
+
+
+def drain(link):
+    try:
+        while link.recv(1 << 20):
+            pass
+    except OSError:
+        pass
+
+
+# A bad client that acts in a thread while the innocent works, and what it says of itself at the end.
+def beside(name, link, act):
+    said = []
+    thread = threading.Thread(target=lambda: said.append(act()), daemon=True)
+    thread.start()
+    time.sleep(0.3)
+    told(name, link)
+    thread.join(60)
+    print(f"    {name}: {said[0] if said else 'still at it'}{memory()}", flush=True)
+
+
+def half_a_line(link):
+    with connect() as bad:
+        bad.sendall(b"get half")
+        told("half a line", link)
+
+
+def reads_nothing(link):
+    ask(link, b"set large 0 0 1000000\r\n" + b"x" * 1_000_000 + b"\r\n", b"\r\n")
+    with connect() as bad:
+        beside("reads no answers", link, lambda: pour(bad, b"get large\r\n" * 100, 4.0))
+
+
+def half_a_block(link):
+    for _ in range(20):
+        with connect() as bad:
+            bad.sendall(b"set innocent 0 0 100000\r\n" + b"y" * 50_000)
+    told("closes inside a block (20 times)", link)
+
+
+def one_line(link):
+    with connect() as bad:
+        beside("1 GB without a line feed", link, lambda: pour(bad, b"z" * 65536, 10.0))
+
+
+def many_lines(link):
+    with connect() as bad:
+        reader = threading.Thread(target=drain, args=(bad,), daemon=True)
+        reader.start()
+        beside("1 GB of lines that are no command", link, lambda: pour(bad, (b"z" * 999 + b"\n") * 65, 20.0))
+        bad.shutdown(socket.SHUT_RDWR)
+
+
+# How long a newcomer waits for its answer while one of the bad clients closes after a second.
+def wait_for(link, leaving):
+    begun = time.monotonic()
+    threading.Timer(1.0, leaving.close).start()
+    try:
+        answer = ask(link, b"get nothing\r\n", b"END\r\n")
+    except OSError as error:
+        answer = error
+    return f"{answer!r} after {time.monotonic() - begun:.1f} s"
+
+
+# The workers that the innocent leaves are held, then one connection more; a newcomer waits, and first the oldest and then the newest leaves.
+def all_held(link):
+    bad = [connect() for _ in range(WORKERS - 1)]
+    for one in bad:
+        one.sendall(b"get held")
+    time.sleep(0.3)
+    told(f"all {WORKERS} workers held", link)
+    bad.append(connect())
+    bad[-1].sendall(b"get held")
+    time.sleep(0.3)
+    told("and one connection more", link)
+    with connect(5.0) as waiting:
+        print(f"    a newcomer, while the oldest leaves: {wait_for(waiting, bad[0])}", flush=True)
+    with connect(5.0) as waiting:
+        print(f"    a newcomer, while the newest leaves: {wait_for(waiting, bad[-1])}", flush=True)
+    for one in bad:
+        one.close()
+    time.sleep(0.3)
+    told("all gone", link)
+
+
+with connect() as before:
+    told("nothing bad", before)
+    for trial in [half_a_line, reads_nothing, half_a_block, one_line, many_lines, all_held]:
+        trial(before)
