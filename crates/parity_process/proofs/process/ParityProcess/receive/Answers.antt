@@ -11,3 +11,6 @@ invariant_of-self c = received-ready c.self.inside.service c.receive.new.service
     (subst (λ (p : Standing). Fits p.shape c.args.from c.args.message.now p.process) (sym c.self.view_is) c.requires.fits)
     (subst (λ (p : Standing). IsOfGroup p.shape c.args.message.now p.process) (sym c.self.view_is) c.requires.group)
     c.receive.ensures.shape c.receive.ensures.over c.receive.ensures.step c.receive.ensures.service_err c.receive.ensures.bytes_err
+
+pub returns-clause-pages : goal.returns-clause-pages
+returns-clause-pages c = rw (← c.self.view_is) c.receive.ensures.pages
