@@ -1,11 +1,11 @@
 -- A seat after a call.
 use Rattle.std.proofs.Common.{ℕ, ◌≡◌, ◌≢◌, ◌<◌, ◌≤◌, ◌+◌, Bool, true, false, eqb, [], ◌∷◌, length, refl, sym, ap, subst, ◌∙◌, arith, cond, eq-eqb, ⊎_elim}
-use Rattle.std.specs.Prelude.{Result, Ok, Err, MatchResult}
+use Rattle.std.specs.Prelude.{Result, Ok, Err}
 use Rattle.std.proofs.lemmas.Bool.{cases_eq}
 use Rattle.std.specs.declared.alloc.AllocError.{AllocError}
 use Rattle.group_calls.specs.declared.event.Event.{Event}
 use Rattle.group_stage.specs.Conditions.{IsReady}
-use Rattle.group_stage.specs.Ended.{Ended, HasReturned, IsSeat, IsUnmade}
+use Rattle.group_stage.specs.Ended.{HasEnded, HasReturned, IsSeat}
 use Rattle.group_stage.specs.Kept.{most_calls}
 use Rattle.group_stage.specs.Schedules.{ask_by}
 use Rattle.group_stage.specs.Seated.{made_in}
@@ -22,11 +22,7 @@ not-worn calls is few = ⊎_elim (λ (e : calls ≡ most_calls). absurd (let yes
 pub ready : (m : Sat) (caller calls asks : ℕ) → IsSeat m caller calls asks → calls < most_calls → IsReady m
 ready m caller calls asks seat low = record { part = seat.part; calls = let same = seat.counted in omega (arith, same, low); idle = seat.idle; slots = seat.slots }
 
--- what a call ended in, wherever that was
-abbrev pub Ending : Event → View → Result StageAnswer AllocError → View → Type 0
-Ending e v r w = MatchResult r (λ a. Ended e v a w) (λ _. IsUnmade v w)
-
-pub returned : (e : Event) (v w : View) (r : Result StageAnswer AllocError) → v.calls < most_calls → Ending e v r w → HasReturned v w
+pub returned : (e : Event) (v w : View) (r : Result StageAnswer AllocError) → v.calls < most_calls → HasEnded e v r w → HasReturned v w
 returned e v w (Ok (Made a)) low ended = ended.0
 returned e v w (Ok (Busy p)) low ended = ended.0
 returned e v w (Ok Worn) low ended = absurd (let spent = ended.spent in omega (arith, spent, low))
@@ -39,7 +35,7 @@ more_asks n (Ok (Busy p)) = 0
 more_asks n (Ok Worn) = 0
 more_asks n (Err x) = 0
 
-pub asks-after : (e : Event) (c : ℕ) (v w : View) (r : Result StageAnswer AllocError) → v.calls < most_calls → Ending e v r w → asks_by c w.made ≡ asks_by c v.made + more_asks (ask_by c e) r
+pub asks-after : (e : Event) (c : ℕ) (v w : View) (r : Result StageAnswer AllocError) → v.calls < most_calls → HasEnded e v r w → asks_by c w.made ≡ asks_by c v.made + more_asks (ask_by c e) r
 asks-after e c v w (Ok (Made a)) low ended =
     let es = ended.1.0 in
     let more = asks-append c v.made (record { number = length es; event = e; answer = a } ∷ []) in
@@ -67,7 +63,7 @@ one-most (Ok (Busy p)) = omega arith
 one-most (Ok Worn) = omega arith
 one-most (Err x) = omega arith
 
-module _ (e : Event) (m n : Sat) (caller calls asks : ℕ) (seat : IsSeat m caller calls asks) (r : Result StageAnswer AllocError) (low : calls < most_calls) (ended : Ending e m.0 r n.0) (slots : n.1 ≡ []) where
+module _ (e : Event) (m n : Sat) (caller calls asks : ℕ) (seat : IsSeat m caller calls asks) (r : Result StageAnswer AllocError) (low : calls < most_calls) (ended : HasEnded e m.0 r n.0) (slots : n.1 ≡ []) where
   few : m.0.calls < most_calls
   few = let same = seat.counted in omega (arith, same, low)
 

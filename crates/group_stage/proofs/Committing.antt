@@ -12,7 +12,8 @@ use Rattle.group_run.specs.Locality.{times}
 use Rattle.group_run.specs.World.{names}
 use Rattle.group_node.specs.Standing.{Standing}
 use Rattle.group_stage.specs.Conditions.{CanCommit}
-use Rattle.group_stage.specs.Counts.{Each, bit, flag, total}
+use Rattle.group_types.specs.Each.{Each}
+use Rattle.group_stage.specs.Counts.{bit, flag, total}
 use Rattle.group_stage.specs.Kept.{Fits, Kept}
 use Rattle.group_stage.specs.Places.{history_of, word_in, word_of}
 use Rattle.group_stage.specs.Schedules.{standing_at}
@@ -20,7 +21,7 @@ use Rattle.group_stage.specs.Steps.{Sat}
 use Rattle.group_stage.specs.Views.{asks_by, cleared_of, drawn, holding, met_of}
 use Rattle.group_stage.specs.declared.view.Plan.{Plan}
 use Rattle.group_stage.specs.declared.view.View.{View}
-use Rattle.group_stage.proofs.Sums.{each-weaker, flag_le, term_le, terms_le, times-here, total-set}
+use Rattle.group_stage.proofs.Sums.{flag_le, term_le, terms_le, times-here, total-set}
 use Rattle.group_stage.proofs.Moves.{St, knows, next_in, stage}
 use Rattle.std.proofs.Common.{append_assoc, append-nil}
 use Rattle.group_run.specs.Headline.{IsRun}
@@ -30,9 +31,11 @@ use Rattle.group_stage.specs.Schedules.{StartsWith, answer_at}
 use Rattle.group_stage.specs.Steps.{Commits}
 use Rattle.group_stage.specs.Views.{committed, held_at}
 use Rattle.group_stage.specs.declared.view.Numbered.{Numbered}
-use Rattle.group_stage.proofs.Sums.{bit-more, each-both, each-snoc}
+use Rattle.group_types.proofs.Eaches.{each-both, each-weaker}
+use Rattle.group_stage.proofs.Sums.{bit-more, each-snoc}
 use Rattle.group_stage.proofs.Moves.{few_events, owned_asks}
-use Rattle.group_stage.proofs.Runs.{asked-more, last-answered, run-more, shape-after, stands, still-answered}
+use Rattle.group_stage.proofs.Runs.{asked-more, last-answered, run-more, stands, still-answered}
+use Rattle.group_core.proofs.Schedules.{shape-is}
 use Rattle.group_stage.proofs.Taking.{Goes}
 
 pub drawn-append : (k : ℕ) (xs ys : List Numbered) → drawn k (xs ++ ys) ≡ drawn k xs + drawn k ys
@@ -85,7 +88,7 @@ module _ (plan : Plan) (st : St) (o : Kept plan st) (id : ℕ) (v : View) (me : 
   still q low none_held = stands plan.shape es e q o.run low (not-named q low none_held)
 
   run : IsRun plan.shape (es ++ e ∷ [])
-  run = run-more plan.shape es e o.run (can.may (after plan.shape es) (shape-after plan.shape es) (λ c own. owned_asks plan st o id v me c own))
+  run = run-more plan.shape es e o.run (can.may (after plan.shape es) (shape-is plan.shape es) (λ c own. owned_asks plan st o id v me c own))
 
   starts : (u : View) → StartsWith es u.seen → StartsWith (es ++ e ∷ []) u.seen
   starts u seen = record { rest = seen.rest ++ e ∷ []; whole = ap (λ (xs : List Event). xs ++ e ∷ []) seen.whole ∙ append_assoc u.seen seen.rest (e ∷ []) }
@@ -99,7 +102,7 @@ module _ (plan : Plan) (st : St) (o : Kept plan st) (id : ℕ) (v : View) (me : 
         held = held-fits plan.shape v.shape (es ++ e ∷ []) v.held shape;
         named = each-place (λ q. 0 < times q (names plan.shape e)) v.shape (es ++ e ∷ []) v.held fits.named;
         made = each-snoc (IsAnswered plan.shape (es ++ e ∷ [])) v.made _
-            (each-weaker (IsAnswered plan.shape es) (IsAnswered plan.shape (es ++ e ∷ [])) v.made (λ x is. still-answered plan.shape es (e ∷ []) x is) fits.made)
+            (each-weaker (IsAnswered plan.shape es) (IsAnswered plan.shape (es ++ e ∷ [])) (λ x is. still-answered plan.shape es (e ∷ []) x is) v.made fits.made)
             (subst (λ (s : Dimensions). IsAnswered plan.shape (es ++ e ∷ []) (record { number = length es; event = e; answer = answer_at s es e })) (sym shape) (last-answered plan.shape es e));
         few = let long = length-append v.made (record { number = length es; event = e; answer = answer_at v.shape es e } ∷ []) in let few = fits.few in let due = can.due in omega (arith, long, few, due);
         calls = fits.calls;
@@ -118,14 +121,15 @@ module _ (plan : Plan) (st : St) (o : Kept plan st) (id : ℕ) (v : View) (me : 
       record {
         shape = fits.shape;
         inside = fits.inside;
-        held = each-both (λ h. (0 < times h.0 (map (λ h. h.0) u.held)) × (h.0 < processes_of plan.shape)) (λ h. h.1 ≡ standing_at plan.shape es h.0) (λ h. h.1 ≡ standing_at plan.shape (es ++ e ∷ []) h.0) u.held
-            (λ h some_held is. is ∙ sym (still h.0 some_held.1
-            (let two = terms_le (holding h.0) st.views id j v u apart me at_j in let one = flag_le (word_in st.words h.0) in omega (arith, two, one, o.taken h.0 some_held.1, some_held.0))))
-            (each-both (λ h. 0 < times h.0 (map (λ h. h.0) u.held)) (λ h. h.0 < processes_of plan.shape) (λ h. (0 < times h.0 (map (λ h. h.0) u.held)) × (h.0 < processes_of plan.shape)) u.held (λ h a b. (a, b))
-            (each-counted u.held u.held (λ q. omega arith)) fits.inside)
-            fits.held;
+        held = each-weaker (λ h. ((0 < times h.0 (map (λ h. h.0) u.held)) × (h.0 < processes_of plan.shape)) × (h.1 ≡ standing_at plan.shape es h.0)) (λ h. h.1 ≡ standing_at plan.shape (es ++ e ∷ []) h.0)
+            (λ h is. is.1 ∙ sym (still h.0 is.0.1
+            (let two = terms_le (holding h.0) st.views id j v u apart me at_j in let one = flag_le (word_in st.words h.0) in omega (arith, two, one, o.taken h.0 is.0.1, is.0.0))))
+            u.held
+            (each-both (λ h. (0 < times h.0 (map (λ h. h.0) u.held)) × (h.0 < processes_of plan.shape)) (λ h. h.1 ≡ standing_at plan.shape es h.0) u.held
+            (each-both (λ h. 0 < times h.0 (map (λ h. h.0) u.held)) (λ h. h.0 < processes_of plan.shape) u.held (each-counted u.held u.held (λ q. omega arith)) fits.inside)
+            fits.held);
         named = fits.named;
-        made = each-weaker (IsAnswered plan.shape es) (IsAnswered plan.shape (es ++ e ∷ [])) u.made (λ x is. still-answered plan.shape es (e ∷ []) x is) fits.made;
+        made = each-weaker (IsAnswered plan.shape es) (IsAnswered plan.shape (es ++ e ∷ [])) (λ x is. still-answered plan.shape es (e ∷ []) x is) u.made fits.made;
         few = fits.few;
         calls = fits.calls;
         numbers = fits.numbers;

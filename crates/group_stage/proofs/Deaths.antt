@@ -19,7 +19,7 @@ use Rattle.group_core.proofs.Changed.{many-nodes}
 use Rattle.group_core.proofs.Runs as core_runs
 use Rattle.group_core.proofs.Schedules.{has-run}
 use Rattle.group_stage.specs.Conditions.{CanCommit, HasLast, InHand, IsReady}
-use Rattle.group_stage.specs.Counts.{Each}
+use Rattle.group_types.specs.Each.{Each}
 use Rattle.group_stage.specs.Ended.{Ended}
 use Rattle.group_stage.specs.Gathered.{AllFailed, CanFail, Failed, GaveBack, HasAll, NamesAll, OneMet, hand_of, holding_all, sat_with, slots_left}
 use Rattle.group_stage.specs.Places.{slot_of}
@@ -32,7 +32,10 @@ use Rattle.group_stage.specs.declared.view.Plan.{Plan}
 use Rattle.group_stage.specs.declared.view.View.{View}
 use Rattle.group_run.proofs.Locality.{times-range}
 use Rattle.group_stage.proofs.Releasing.{tally-append, tally-else}
-use Rattle.group_stage.proofs.Runs.{after-more, run-more, shape-after, size-after}
+use Rattle.group_types.proofs.Eaches.{each-append}
+use Rattle.law_answers.proofs.Entries.{after-more}
+use Rattle.group_core.proofs.Schedules.{many-after, shape-is}
+use Rattle.group_stage.proofs.Runs.{run-more}
 use Rattle.group_stage.proofs.Stacks.{AreRun, all-nodes, all-run, each-run, hand-more, in-stack, run-shapes, run-stack, same-slots}
 
 -- some went back, and these are still in hand
@@ -47,10 +50,6 @@ none-back plan m ys all = record {
   below = tt;
   seat = all.seat ∙ (λ i. (record m.0 { held = hand_of ys; cleared = (sym (append-nil m.0.cleared)) i }, slots_left (hand_of ys)));
 }
-
-each-append : {X : Type 0} (P : X → Type 0) (xs ys : List X) → Each P xs → Each P ys → Each P (xs ++ ys)
-each-append P [] ys a b = b
-each-append P (x ∷ xs) ys a b = (a.0, each-append P xs ys a.1 b)
 
 append-two : {X : Type 0} (xs ys zs : List X) → (xs ++ ys) ++ zs ≡ xs ++ (ys ++ zs)
 append-two [] ys zs = refl
@@ -101,13 +100,13 @@ one-more v ys y m w p here is taken =
 -- all are in hand: what the machine makes of the failure
 module _ (s : Dimensions) (es : List Event) (run : IsRun s es) (p : ProcessId) (pin : IsProcess s p) (keep : ℕ) (ys : List Standing) (many : length ys ≡ s.k + s.m) (are : AreRun s es 0 ys) where
   size : length ys ≡ length (after s es).nodes
-  size = many ∙ sym (size-after s es run)
+  size = many ∙ sym (many-after s es run)
 
   nodes : nodes_of ys ≡ (after s es).nodes
   nodes = all-nodes s es ys size are
 
   shape : (after s es).shape ≡ s
-  shape = shape-after s es
+  shape = shape-is s es
 
   pub seated : AreSeated s ys
   seated = record { many = many; shapes = run-shapes s es 0 ys are }
@@ -239,7 +238,7 @@ failed-ended v p keep slots first m w a ready pin taken failed = by a (subst (λ
     (
       es,
       record {
-        run = run-more v.shape es (Fail p keep) all.knows.run (subst (λ (t : Dimensions). IsProcess t p) (sym (shape-after v.shape es)) pin);
+        run = run-more v.shape es (Fail p keep) all.knows.run (subst (λ (t : Dimensions). IsProcess t p) (sym (shape-is v.shape es)) pin);
         seen = all.knows.seen;
         earlier = all.knows.made;
         position = all.knows.asked;

@@ -14,7 +14,8 @@ use Rattle.group_run.specs.World.{after, opening_node}
 use Rattle.group_node.specs.Standing.{Standing}
 use Rattle.group_core.specs.Seats.{nodes_of}
 use Rattle.group_stage.specs.Closed.{HasClosed}
-use Rattle.group_stage.specs.Counts.{Each, total}
+use Rattle.group_types.specs.Each.{Each}
+use Rattle.group_stage.specs.Counts.{total}
 use Rattle.group_stage.specs.Emptied.{AreTaken}
 use Rattle.group_stage.specs.Kept.{IsAnswered, IsWhole, Kept}
 use Rattle.group_stage.specs.Places.{slot_of}
@@ -27,7 +28,8 @@ use Rattle.group_stage.specs.declared.view.Plan.{Plan}
 use Rattle.group_stage.specs.declared.view.View.{View}
 use Rattle.group_stage.proofs.Committing.{drawn-append}
 use Rattle.group_stage.proofs.Moves.{St}
-use Rattle.group_stage.proofs.Runs.{get-last, get-more, size-after}
+use Rattle.group_core.proofs.Schedules.{many-after}
+use Rattle.group_stage.proofs.Runs.{get-last, get-more}
 use Rattle.group_stage.proofs.Starting.{at-home, whole}
 use Rattle.group_stage.proofs.Sums.{each-snoc, total-append}
 
@@ -147,7 +149,7 @@ module _ (plan : Plan) (st : St) (o : Kept plan st) (id : ℕ) (v : View) (me : 
         run = o.run;
         whole = gathered es (whole plan st o id v me all);
         seated = record { many = many; shapes = shapes-match s nodes (λ p. at (opening_node s (process_at s p)) (after s es).nodes p) each };
-        nodes = nodes-match s nodes (after s es).nodes (λ p. opening_node s (process_at s p)) (many ∙ sym (size-after s es o.run)) each;
+        nodes = nodes-match s nodes (after s es).nodes (λ p. opening_node s (process_at s p)) (many ∙ sym (many-after s es o.run)) each;
       }
 
 -- one seat of the stage more

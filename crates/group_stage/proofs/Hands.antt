@@ -1,14 +1,21 @@
 -- What a step on a word found, and the node in hand.
 use Rattle.std.proofs.Common.{ℕ, zero, suc, ◌≡◌, ◌<◌, ◌≤◌, List, ◌∷◌, get_or, refl, sym, ap, subst, ◌∙◌, arith}
-use Rattle.std.specs.Prelude.{Option, Some, None}
+use Rattle.std.specs.Prelude.{Option, Some, None, false}
 use Rattle.atomic_table.specs.Table.{rest}
+use Rattle.group_types.specs.Dimensions.{Dimensions}
+use Rattle.group_types.specs.Each.{Each}
+use Rattle.group_types.specs.Names.{IsProcess, index_of}
+use Rattle.group_types.specs.declared.process.ProcessId.{ProcessId}
 use Rattle.group_calls.specs.declared.event.Event.{Event}
+use Rattle.group_run.specs.Headline.{IsRun}
 use Rattle.group_node.specs.Standing.{Standing}
-use Rattle.group_stage.specs.Conditions.{HasLast, Took}
+use Rattle.group_stage.specs.Conditions.{HasLast, InHand, Took}
+use Rattle.group_stage.specs.Ended.{WasUp}
+use Rattle.group_stage.specs.Kept.{IsAnswered}
 use Rattle.group_stage.specs.Places.{place_of, slot_of, word_of}
-use Rattle.group_stage.specs.Schedules.{standing_at}
-use Rattle.group_stage.specs.Steps.{IsTaken, Sat, Takes}
-use Rattle.group_stage.specs.Views.{released, with_met}
+use Rattle.group_stage.specs.Schedules.{StartsWith, standing_at}
+use Rattle.group_stage.specs.Steps.{IsTaken, Knows, Sat, Takes}
+use Rattle.group_stage.specs.Views.{begun, released, with_held, with_met}
 use Rattle.group_stage.specs.declared.view.Plan.{Plan}
 use Rattle.group_stage.specs.declared.view.View.{View}
 use Rattle.group_stage.proofs.Taking.{place-is}
@@ -65,3 +72,37 @@ given m w x p i found y slot is here has =
 pub none-took : (v : View) (p : ℕ) (slots : List (ℕ × Option Standing)) (r : Option Standing) (w : Sat) → ((x : Standing) → r ≡ Some x → ⊥) → Took v p slots r w → w ≡ (with_met v p, slots)
 none-took v p slots None w not took = took
 none-took v p slots (Some y) w not took = absurd (not y refl)
+
+-- the node of a process is in hand for the call of an event
+pub record Holds (v : View) (e : Event) (q : ProcessId) (p : ℕ) (slots : List (ℕ × Option Standing)) (y : Standing) (m : Sat) : Type 0 where
+  pub inside : IsProcess v.shape q
+  pub here : p ≡ index_of v.shape q
+  pub taken : (es : List Event) × InHand (begun e v) p slots y m es
+
+pub holds : (plan : Plan) (v : View) (f e : Event) (q : ProcessId) (p : ℕ) (slots : List (ℕ × Option Standing)) (y : Standing) (m : Sat) → v.shape ≡ plan.shape → f ≡ e
+    → IsProcess plan.shape q → p ≡ index_of plan.shape q → (es : List Event) × InHand (begun f v) p slots y m es → Holds v e q p slots y m
+holds plan v f e q p slots y m shape event inside here taken = record {
+  inside = subst (λ (s : Dimensions). IsProcess s q) (sym shape) inside;
+  here = here ∙ ap (λ (s : Dimensions). index_of s q) (sym shape);
+  taken = subst (λ (x : Event). (es : List Event) × InHand (begun x v) p slots y m es) event taken;
+}
+
+-- a node that is neither down nor dead shows that its process was up
+pub up-at : (v u : View) (q : ProcessId) (p : ℕ) (y : Standing) (es : List Event) → u.shape ≡ v.shape → u.seen ≡ v.seen → u.made ≡ v.made → Knows es u → p ≡ index_of v.shape q → y ≡ standing_at v.shape es p
+    → y.node.down ≡ false → y.node.dead ≡ false → WasUp v q
+up-at v u q p y es shape seen made knows here is up lives =
+    let stands : y ≡ standing_at v.shape es (index_of v.shape q) = is ∙ ap (standing_at v.shape es) here in (
+      es,
+      record {
+        run = subst (λ (s : Dimensions). IsRun s es) shape knows.run;
+        seen = subst (StartsWith es) seen knows.seen;
+        earlier = subst (λ (s : Dimensions). Each (IsAnswered s es) v.made) shape (subst (Each (IsAnswered u.shape es)) made knows.made);
+        up = ap (λ (z : Standing). z.node.down) (sym stands) ∙ up;
+        lives = ap (λ (z : Standing). z.node.dead) (sym stands) ∙ lives;
+      },
+    )
+
+pub was-up : (v : View) (e : Event) (q : ProcessId) (p : ℕ) (slots : List (ℕ × Option Standing)) (y : Standing) (m : Sat) → Holds v e q p slots y m → y.node.down ≡ false → y.node.dead ≡ false → WasUp v q
+was-up v e q p slots y m held up lives =
+    let es = held.taken.0 in
+    up-at v (with_held (begun e v) p y) q p y es refl refl refl held.taken.1.knows held.here held.taken.1.node up lives

@@ -10,7 +10,8 @@ use Rattle.group_calls.specs.declared.event.Event.{Event}
 use Rattle.group_run.specs.Headline.{IsRun}
 use Rattle.group_run.specs.Locality.{times}
 use Rattle.group_node.specs.Standing.{Standing}
-use Rattle.group_stage.specs.Counts.{Each, bit, flag, total}
+use Rattle.group_types.specs.Each.{Each}
+use Rattle.group_stage.specs.Counts.{bit, flag, total}
 use Rattle.group_stage.specs.Kept.{Fits, IsAnswered, Kept, most_calls}
 use Rattle.group_stage.specs.Places.{drawing_of, history_of, slot_of, word_in}
 use Rattle.group_stage.specs.Schedules.{asked_at, standing_at}

@@ -1,6 +1,6 @@
 -- A delivery: the two nodes in hand treat it as the machine does, and so the call is the event.
 use Rattle.std.proofs.Common.{ℕ, ◌≡◌, ◌≢◌, ◌<◌, ◌+◌, ◌-◌, List, [], ◌∷◌, ◌++◌, length, map, refl, sym, ap, subst, ◌∙◌, arith}
-use Rattle.std.specs.Prelude.{Option, None, false}
+use Rattle.std.specs.Prelude.{Bool, Option, None, true, false}
 use Rattle.group_types.specs.Dimensions.{Dimensions, processes_of}
 use Rattle.group_types.specs.Lists.{at, put}
 use Rattle.group_types.specs.Names.{IsProcess, index_of, process_at}
@@ -19,12 +19,14 @@ use Rattle.group_node.specs.Delivering.{Comes}
 use Rattle.group_node.specs.Standing.{Standing}
 use Rattle.group_node.specs.Steps.{made}
 use Rattle.group_node.specs.declared.node.NodeOut.{NodeOut}
+use Rattle.group_core.specs.Pairs.{Delivered}
 use Rattle.group_core.specs.Runs.{HasRun}
 use Rattle.group_core.proofs.Known.{first-comes}
 use Rattle.group_core.proofs.Runs as core_runs
-use Rattle.group_core.proofs.Schedules.{has-run}
+use Rattle.group_core.proofs.Schedules.{has-run, many-after, node-is, shape-is}
 use Rattle.group_stage.specs.Conditions.{CanFinishTwo, InHand, IsReady}
-use Rattle.group_stage.specs.Ended.{Ended, IsUnmade}
+use Rattle.group_stage.specs.Ended.{Ended, WasUp}
+use Rattle.group_stage.specs.Pairing.{CanDeliver, one_of, other_of}
 use Rattle.group_stage.specs.Places.{slot_of}
 use Rattle.group_stage.specs.Schedules.{answer_at, ask_by, standing_at}
 use Rattle.group_stage.specs.Steps.{Knows, Sat}
@@ -32,10 +34,11 @@ use Rattle.group_stage.specs.Views.{asks_by, begun, committed, released, with_he
 use Rattle.group_stage.specs.declared.answer.StageAnswer.TheVariants.{Busy, Made}
 use Rattle.group_stage.specs.declared.view.Plan.{Plan}
 use Rattle.group_stage.specs.declared.view.View.{View}
+use Rattle.group_stage.proofs.Hands.{up-at}
 use Rattle.group_stage.proofs.Releasing.{tally-append, tally-else}
 use Rattle.group_stage.proofs.Sums.{times-here}
-use Rattle.group_stage.proofs.Runs.{after-more, run-more, shape-after, size-after}
-use Rattle.group_stage.proofs.Treating.{node-is}
+use Rattle.law_answers.proofs.Entries.{after-more}
+use Rattle.group_stage.proofs.Runs.{run-more}
 
 -- an event of two processes, which the caller of this view may make
 pub record IsTwo (s : Dimensions) (v : View) (e : Event) (p q : ℕ) : Type 0 where
@@ -62,12 +65,12 @@ module _ (s : Dimensions) (es : List Event) (run : IsRun s es) (from to : Proces
 
   nodes-are : (after s (es ++ Deliver from to ∷ [])).nodes ≡ put (opening_node s to) (put (opening_node s from) (after s es).nodes (index_of s from) t.sender) (index_of s to) t.receiver.node
   nodes-are =
-      let shape = shape-after s es in
+      let shape = shape-is s es in
       ap (λ (v : World). v.nodes) (after-more (opening s) es (Deliver from to)) ∙ ap (λ (g : GroupStep). g.nodes) is
       ∙ (λ i. put (opening_node (shape i) to) (put (opening_node (shape i) from) (after s es).nodes (index_of (shape i) from) t.sender) (index_of (shape i) to) t.receiver.node)
 
   many : length (put (opening_node s from) (after s es).nodes (index_of s from) t.sender) ≡ s.k + s.m
-  many = let low = index-below s from fin in let size = size-after s es run in length-put (opening_node s from) (after s es).nodes (index_of s from) t.sender (omega (arith, low, size)) ∙ size
+  many = let low = index-below s from fin in let size = many-after s es run in length-put (opening_node s from) (after s es).nodes (index_of s from) t.sender (omega (arith, low, size)) ∙ size
 
   other : index_of s from ≢ index_of s to
   other same = apart (index-one s from to fin tin same)
@@ -98,7 +101,7 @@ module _ (s : Dimensions) (es : List Event) (run : IsRun s es) (from to : Proces
   has = has-run s es run
 
   shape : (after s es).shape ≡ s
-  shape = shape-after s es
+  shape = shape-is s es
 
   fin' : IsProcess (after s es).shape from
   fin' = subst (λ (t : Dimensions). IsProcess t from) (sym shape) fin
@@ -107,10 +110,10 @@ module _ (s : Dimensions) (es : List Event) (run : IsRun s es) (from to : Proces
   tin' = subst (λ (t : Dimensions). IsProcess t to) (sym shape) tin
 
   sender-node : sender.node ≡ node_of (after s es) from
-  sender-node = ap (λ (z : Standing). z.node) sent ∙ sym (node-is s es from fin)
+  sender-node = ap (λ (z : Standing). z.node) sent ∙ node-is s es from fin
 
   receiver-node : receiver.node ≡ node_of (after s es) to
-  receiver-node = ap (λ (z : Standing). z.node) received ∙ sym (node-is s es to tin)
+  receiver-node = ap (λ (z : Standing). z.node) received ∙ node-is s es to tin
 
   sender-name : sender.node.process.name ≡ from
   sender-name = ap (λ (n : Node). n.process.name) sender-node ∙ core_runs.named (after s es) has from fin'
@@ -121,11 +124,10 @@ module _ (s : Dimensions) (es : List Event) (run : IsRun s es) (from to : Proces
   receiver-shape : receiver.shape ≡ (after s es).shape
   receiver-shape = ap (λ (z : Standing). z.shape) received ∙ sym shape
 
-  pub same-shapes : sender.shape ≡ receiver.shape
+  same-shapes : sender.shape ≡ receiver.shape
   same-shapes = ap (λ (z : Standing). z.shape) sent ∙ sym (ap (λ (z : Standing). z.shape) received)
 
-  -- what comes may come
-  pub comes : receiver.node.down ≡ false → receiver.node.dead ≡ false → (m : Message) (rest : List Message)
+  comes : receiver.node.down ≡ false → receiver.node.dead ≡ false → (m : Message) (rest : List Message)
       → at [] sender.node.links (index_of receiver.shape receiver.node.process.name) ≡ m ∷ rest → Comes receiver.shape sender.node.process.name m receiver.node.process
   comes up lives m rest first =
       let named = core_runs.named (after s es) has to tin' in
@@ -136,6 +138,10 @@ module _ (s : Dimensions) (es : List Event) (run : IsRun s es) (from to : Proces
       let by_name : Comes receiver.shape sender.node.process.name m (node_of (after s es) to).process = subst (λ (x : ProcessId). Comes receiver.shape x m (node_of (after s es) to).process) (sym sender-name) at_shape in
       subst (λ (x : Process). Comes receiver.shape sender.node.process.name m x) (sym (ap (λ (n : Node). n.process) receiver-node)) by_name
 
+  -- what comes may come
+  can-deliver : CanDeliver sender receiver
+  can-deliver = record { same = same-shapes; comes = comes }
+
   -- what the nodes made is what the machine makes
   pub delivered-as : (t : DeliveryStep) → deliver_nodes receiver.shape sender.node.process.name receiver.node.process.name sender.node receiver.node ≡ t
       → group_step (after s es) (Deliver from to) ≡ two_change (after s es) from to t
@@ -144,14 +150,13 @@ module _ (s : Dimensions) (es : List Event) (run : IsRun s es) (from to : Proces
 
 -- the two nodes after a delivery, the sender's and the receiver's
 pub delivery-treats : (s : Dimensions) (es : List Event) (run : IsRun s es) (from to : ProcessId) → IsProcess s from → IsProcess s to → from ≢ to → (sender receiver sender' receiver' : Standing) (out : NodeOut)
-    → sender ≡ standing_at s es (index_of s from) → receiver ≡ standing_at s es (index_of s to) → sender'.shape ≡ sender.shape → receiver'.shape ≡ receiver.shape
-    → deliver_nodes receiver.shape sender.node.process.name receiver.node.process.name sender.node receiver.node ≡ record { sender = sender'.node; receiver = made receiver'.node out }
+    → sender ≡ standing_at s es (index_of s from) → receiver ≡ standing_at s es (index_of s to) → Delivered sender receiver sender' receiver' out
     → (sender' ≡ standing_at s (es ++ Deliver from to ∷ []) (index_of s from)) × (receiver' ≡ standing_at s (es ++ Deliver from to ∷ []) (index_of s to)) × (out.answer ≡ answer_at s es (Deliver from to))
-delivery-treats s es run from to fin tin apart sender receiver sender' receiver' out sent received same same' is =
+delivery-treats s es run from to fin tin apart sender receiver sender' receiver' out sent received is =
     let t : DeliveryStep = record { sender = sender'.node; receiver = made receiver'.node out } in
-    let step = delivered-as s es run from to fin tin apart sender receiver sent received t is in
-    let a : sender'.shape ≡ s = same ∙ ap (λ (z : Standing). z.shape) sent in
-    let b : receiver'.shape ≡ s = same' ∙ ap (λ (z : Standing). z.shape) received in (
+    let step = delivered-as s es run from to fin tin apart sender receiver sent received t is.step in
+    let a : sender'.shape ≡ s = is.sender_shape ∙ ap (λ (z : Standing). z.shape) sent in
+    let b : receiver'.shape ≡ s = is.receiver_shape ∙ ap (λ (z : Standing). z.shape) received in (
       (λ i. record { shape = a i; node = sender'.node }) ∙ sym (sender-stands s es run from to fin tin apart t step),
       (λ i. record { shape = b i; node = receiver'.node }) ∙ sym (receiver-stands s es run from to fin tin apart t step),
       sym (delivery-answer s es run from to fin tin apart t step),
@@ -212,7 +217,7 @@ made-ended-two v e p q y z first second a m m' w slots ready two took taken trea
       (
         es,
         record {
-          run = run-more v.shape es e knows.run (two.may (after v.shape es) (shape-after v.shape es) knows.asked);
+          run = run-more v.shape es e knows.run (two.may (after v.shape es) (shape-is v.shape es) knows.asked);
           seen = knows.seen;
           earlier = knows.made;
           position = knows.asked;
@@ -227,40 +232,46 @@ made-ended-two v e p q y z first second a m m' w slots ready two took taken trea
 pub deliver-may : (s : Dimensions) (from to : ProcessId) → IsProcess s from → IsProcess s to → from ≢ to → (w : World) → w.shape ≡ s → MayCome w (Deliver from to)
 deliver-may s from to fin tin apart w shape = (subst (λ (t : Dimensions). IsProcess t from) (sym shape) fin, subst (λ (t : Dimensions). IsProcess t to) (sym shape) tin, apart)
 
--- from a node to one behind it, and from a node to one before it
-pub up-two : (v : View) (from to : ProcessId) (p q : ℕ) → IsProcess v.shape from → IsProcess v.shape to → from ≢ to → p ≡ index_of v.shape from → q ≡ index_of v.shape to → IsTwo v.shape v (Deliver from to) p q
-up-two v from to p q fin tin apart a b = record {
+-- from a node to one behind it, or turned
+pub is-two : (up : Bool) (v : View) (from to : ProcessId) (p q : ℕ) → IsProcess v.shape from → IsProcess v.shape to → from ≢ to → p ≡ index_of v.shape (one_of up from to) → q ≡ index_of v.shape (other_of up from to)
+    → IsTwo v.shape v (Deliver from to) p q
+is-two true v from to p q fin tin apart a b = record {
   named = λ x. let same : times x (index_of v.shape from ∷ index_of v.shape to ∷ []) ≡ times x (p ∷ q ∷ []) = λ i. times x ((sym a) i ∷ (sym b) i ∷ []) in omega (arith, same);
   own = λ c no. refl;
   may = λ w shape known. deliver-may v.shape from to fin tin apart w shape;
 }
-
-pub down-two : (v : View) (from to : ProcessId) (p q : ℕ) → IsProcess v.shape from → IsProcess v.shape to → from ≢ to → p ≡ index_of v.shape to → q ≡ index_of v.shape from → IsTwo v.shape v (Deliver from to) p q
-down-two v from to p q fin tin apart a b = record {
+is-two false v from to p q fin tin apart a b = record {
   named = λ x. (λ i. times x ((sym b) i ∷ (sym a) i ∷ []));
   own = λ c no. refl;
   may = λ w shape known. deliver-may v.shape from to fin tin apart w shape;
 }
 
-pub up-treats : (v : View) (from to : ProcessId) (p q : ℕ) (y z first second : Standing) (out : NodeOut) → IsProcess v.shape from → IsProcess v.shape to → from ≢ to → p ≡ index_of v.shape from → q ≡ index_of v.shape to
-    → first.shape ≡ y.shape → second.shape ≡ z.shape → deliver_nodes z.shape y.node.process.name z.node.process.name y.node z.node ≡ record { sender = first.node; receiver = made second.node out }
+pub treats-two : (up : Bool) (v : View) (from to : ProcessId) (p q : ℕ) (y z first second : Standing) (out : NodeOut) → IsProcess v.shape from → IsProcess v.shape to → from ≢ to
+    → p ≡ index_of v.shape (one_of up from to) → q ≡ index_of v.shape (other_of up from to) → Delivered (one_of up y z) (other_of up y z) (one_of up first second) (other_of up first second) out
     → TreatsTwo v (Deliver from to) p y q z first second out.answer
-up-treats v from to p q y z first second out fin tin apart a b same same' is es knows =
+treats-two true v from to p q y z first second out fin tin apart a b is es knows =
     let s = v.shape in
     let sent : y ≡ standing_at s es (index_of s from) = knows.held.1.0 ∙ ap (standing_at s es) a in
     let received : z ≡ standing_at s es (index_of s to) = knows.held.0 ∙ ap (standing_at s es) b in
-    let all = delivery-treats s es knows.run from to fin tin apart y z first second out sent received same same' is in
+    let all = delivery-treats s es knows.run from to fin tin apart y z first second out sent received is in
     (all.0 ∙ ap (standing_at s (es ++ Deliver from to ∷ [])) (sym a), all.1 ∙ ap (standing_at s (es ++ Deliver from to ∷ [])) (sym b), all.2)
-
-pub down-treats : (v : View) (from to : ProcessId) (p q : ℕ) (y z first second : Standing) (out : NodeOut) → IsProcess v.shape from → IsProcess v.shape to → from ≢ to → p ≡ index_of v.shape to → q ≡ index_of v.shape from
-    → first.shape ≡ y.shape → second.shape ≡ z.shape → deliver_nodes y.shape z.node.process.name y.node.process.name z.node y.node ≡ record { sender = second.node; receiver = made first.node out }
-    → TreatsTwo v (Deliver from to) p y q z first second out.answer
-down-treats v from to p q y z first second out fin tin apart a b same same' is es knows =
+treats-two false v from to p q y z first second out fin tin apart a b is es knows =
     let s = v.shape in
     let received : y ≡ standing_at s es (index_of s to) = knows.held.1.0 ∙ ap (standing_at s es) a in
     let sent : z ≡ standing_at s es (index_of s from) = knows.held.0 ∙ ap (standing_at s es) b in
-    let all = delivery-treats s es knows.run from to fin tin apart z y second first out sent received same' same is in
+    let all = delivery-treats s es knows.run from to fin tin apart z y second first out sent received is in
     (all.1 ∙ ap (standing_at s (es ++ Deliver from to ∷ [])) (sym a), all.0 ∙ ap (standing_at s (es ++ Deliver from to ∷ [])) (sym b), all.2)
+
+-- the processes are two
+apart-of : (up : Bool) (s : Dimensions) (from to : ProcessId) (p q : ℕ) → IsProcess s from → IsProcess s to → from ≢ to → p ≡ index_of s (one_of up from to) → q ≡ index_of s (other_of up from to) → p ≢ q
+apart-of true s from to p q fin tin apart a b = λ same. apart (index-one s from to fin tin (sym a ∙ same ∙ b))
+apart-of false s from to p q fin tin apart a b = λ same. apart (index-one s from to fin tin (sym b ∙ sym same ∙ a))
+
+-- what is in hand in this order, sender and receiver or turned, can be delivered
+deliver-of : (up : Bool) (s : Dimensions) (es : List Event) → IsRun s es → (from to : ProcessId) → IsProcess s from → IsProcess s to → from ≢ to → (y z : Standing)
+    → y ≡ standing_at s es (index_of s (one_of up from to)) → z ≡ standing_at s es (index_of s (other_of up from to)) → CanDeliver (one_of up y z) (other_of up y z)
+deliver-of true s es run from to fin tin apart y z a b = can-deliver s es run from to fin tin apart y z a b
+deliver-of false s es run from to fin tin apart y z a b = can-deliver s es run from to fin tin apart z y b a
 
 -- the second word was met held, and the first node went back
 pub busy-second : (v : View) (e : Event) (p q : ℕ) (r : ProcessId) (y : Standing) (m m' w : Sat) (slots : List (ℕ × Option Standing)) → IsReady (v, slots) → IsTwo v.shape v e p q → q ≡ index_of v.shape r → p ≢ q
@@ -280,29 +291,68 @@ busy-second v e p q r y m m' w slots ready two here apart took met back =
       },
     )
 
--- there was no memory, and both nodes went back
-pub unmade-two : (v : View) (e : Event) (p q : ℕ) (y z : Standing) (m m' w : Sat) (slots : List (ℕ × Option Standing)) → IsReady (v, slots) → (fs : List Event) × InHand (begun e v) p slots y m fs
-    → (es : List Event) × InHand m.0 q m.1 z m' es → (f : ℕ) × (g : ℕ) × (w.0 ≡ released (released m'.0 q f) p g) → IsUnmade v w.0
-unmade-two v e p q y z m m' w slots ready took taken back =
-    let after_all : w.0 ≡ released (released (two_held v e p y q z) q back.0) p back.1 =
-    back.2 ∙ ap (λ (x : Sat). released (released x.0 q back.0) p back.1) taken.1.seat ∙ ap (λ (x : Sat). released (released (with_held x.0 q z) q back.0) p back.1) took.1.seat in
-    subst (IsUnmade v) (sym after_all) (record {
-      returned = record { shape = refl; parts = refl; numbers = refl; calls = refl; idle = ready.idle };
-      made = refl;
-      seen = refl;
-      met = refl;
-    })
+-- both nodes of a delivery are in hand, in the order of processes
+module _ (plan : Plan) (v : View) (f : Event) (up : Bool) (from to one other : ProcessId) (p q : ℕ) (slots : List (ℕ × Option Standing)) (y : Standing) (m : Sat)
+    (ready : IsReady (v, slots)) (shape : v.shape ≡ plan.shape) (event : f ≡ Deliver from to) (from_in : IsProcess plan.shape from) (to_in : IsProcess plan.shape to) (apart : from ≢ to)
+    (one-is : one ≡ one_of up from to) (other-is : other ≡ other_of up from to) (low : p ≡ index_of plan.shape one) (high : q ≡ index_of plan.shape other)
+    (took : (es : List Event) × InHand (begun f v) p slots y m es) where
+  fin : IsProcess v.shape from
+  fin = subst (λ (s : Dimensions). IsProcess s from) (sym shape) from_in
 
--- both nodes in hand stand in the run of the schedule as of the second
-module _ (v : View) (e : Event) (p q : ℕ) (y z : Standing) (m m' : Sat) (slots : List (ℕ × Option Standing)) (took : (fs : List Event) × InHand (begun e v) p slots y m fs) (taken : (es : List Event) × InHand m.0 q m.1 z m' es) where
-  knows-two : Knows taken.0 (two_held v e p y q z)
-  knows-two = subst (λ (x : Sat). Knows taken.0 (with_held x.0 q z)) took.1.seat taken.1.knows
+  tin : IsProcess v.shape to
+  tin = subst (λ (s : Dimensions). IsProcess s to) (sym shape) to_in
 
-  pub held-first : y ≡ standing_at v.shape taken.0 p
-  held-first = knows-two.held.1.0
+  here : p ≡ index_of v.shape (one_of up from to)
+  here = low ∙ (λ i. index_of ((sym shape) i) (one-is i))
 
-  pub held-second : z ≡ standing_at v.shape taken.0 q
-  held-second = knows-two.held.0
+  there : q ≡ index_of v.shape (other_of up from to)
+  there = high ∙ (λ i. index_of ((sym shape) i) (other-is i))
 
-  pub run-second : IsRun v.shape taken.0
-  run-second = knows-two.run
+  two : IsTwo v.shape v (Deliver from to) p q
+  two = is-two up v from to p q fin tin apart here there
+
+  first_in : (es : List Event) × InHand (begun (Deliver from to) v) p slots y m es
+  first_in = subst (λ (e : Event). (es : List Event) × InHand (begun e v) p slots y m es) event took
+
+  -- the second word was met held
+  pub second-busy : (m' w : Sat) → m' ≡ (with_met m.0 q, m.1) → (found : ℕ) × (w.0 ≡ released m'.0 p found) → Ended (Deliver from to) v (Busy other) w.0
+  second-busy m' w met back = busy-second v (Deliver from to) p q other y m m' w slots ready two (high ∙ ap (λ (s : Dimensions). index_of s other) (sym shape)) (apart-of up v.shape from to p q fin tin apart here there) first_in met back
+
+  module _ (z : Standing) (m' : Sat) (taken : (es : List Event) × InHand m.0 q m.1 z m' es) where
+    knows-two : Knows taken.0 (two_held v (Deliver from to) p y q z)
+    knows-two = subst (λ (x : Sat). Knows taken.0 (with_held x.0 q z)) first_in.1.seat taken.1.knows
+
+    first-stands : y ≡ standing_at v.shape taken.0 (index_of v.shape (one_of up from to))
+    first-stands = knows-two.held.1.0 ∙ ap (standing_at v.shape taken.0) here
+
+    second-stands : z ≡ standing_at v.shape taken.0 (index_of v.shape (other_of up from to))
+    second-stands = knows-two.held.0 ∙ ap (standing_at v.shape taken.0) there
+
+    pub may-deliver : CanDeliver (one_of up y z) (other_of up y z)
+    may-deliver = deliver-of up v.shape taken.0 knows-two.run from to fin tin apart y z first-stands second-stands
+
+    -- the receiver was up
+    pub receiver-up : (other_of up y z).node.down ≡ false → (other_of up y z).node.dead ≡ false → WasUp v to
+    receiver-up = by up first-stands second-stands where
+      by : (b : Bool) → y ≡ standing_at v.shape taken.0 (index_of v.shape (one_of b from to)) → z ≡ standing_at v.shape taken.0 (index_of v.shape (other_of b from to))
+          → (other_of b y z).node.down ≡ false → (other_of b y z).node.dead ≡ false → WasUp v to
+      by true a b up lives = up-at v (two_held v (Deliver from to) p y q z) to (index_of v.shape to) z taken.0 refl refl refl knows-two refl b up lives
+      by false a b up lives = up-at v (two_held v (Deliver from to) p y q z) to (index_of v.shape to) y taken.0 refl refl refl knows-two refl a up lives
+
+    module _ (first second : Standing) (out : NodeOut) (delivered : Delivered (one_of up y z) (other_of up y z) (one_of up first second) (other_of up first second) out) where
+      treats : TreatsTwo v (Deliver from to) p y q z first second out.answer
+      treats = treats-two up v from to p q y z first second out fin tin apart here there delivered
+
+      within : (x : ℕ) (r : ProcessId) → x ≡ index_of plan.shape r → IsProcess plan.shape r → x < processes_of plan.shape
+      within x r is inside = let below = index-below plan.shape r inside in omega (arith, is, below)
+
+      inside : (b : Bool) → IsProcess plan.shape (one_of b from to) × IsProcess plan.shape (other_of b from to)
+      inside true = (from_in, to_in)
+      inside false = (to_in, from_in)
+
+      pub can-end : CanFinishTwo plan m' p q first second
+      can-end = can-finish-two plan v (Deliver from to) p q y z first second out.answer m m' slots ready shape
+          (within p one low (subst (IsProcess plan.shape) (sym one-is) (inside up).0)) (within q other high (subst (IsProcess plan.shape) (sym other-is) (inside up).1)) two first_in taken treats
+
+      pub ends : (w : Sat) → (es : List Event) × Knows es m'.0 × ((g : ℕ) × (h : ℕ) × (w ≡ (released (released (committed es m'.0) q g) p h, []))) → Ended (Deliver from to) v (Made out.answer) w.0
+      ends w fin = made-ended-two v (Deliver from to) p q y z first second out.answer m m' w slots ready two first_in taken treats fin

@@ -10,12 +10,14 @@ use Rattle.group_run.specs.Locality.{times}
 use Rattle.group_run.specs.World.{names}
 use Rattle.group_node.specs.Standing.{Standing}
 use Rattle.group_stage.specs.Conditions.{CanJoin, CanPart}
-use Rattle.group_stage.specs.Counts.{Each, total}
+use Rattle.group_types.specs.Each.{Each}
+use Rattle.group_stage.specs.Counts.{total}
 use Rattle.group_stage.specs.Kept.{Fits, Kept}
 use Rattle.group_stage.specs.Views.{asks_by, cleared_of, drawn, holding, joined, kept_part, met_of, new_part, nobody}
 use Rattle.group_stage.specs.declared.view.Plan.{Plan}
 use Rattle.group_stage.specs.declared.view.View.{View}
-use Rattle.group_stage.proofs.Sums.{each-append, times-append, total-append, total-set}
+use Rattle.group_types.proofs.Eaches.{each-append}
+use Rattle.group_stage.proofs.Sums.{times-append, total-append, total-set}
 use Rattle.group_stage.proofs.Moves.{St, next_in, stage}
 use Rattle.group_stage.proofs.Releasing.{tally-append}
 use Rattle.group_stage.proofs.Committing.{asks-append, drawn-append}

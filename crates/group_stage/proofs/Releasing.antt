@@ -10,7 +10,8 @@ use Rattle.group_types.specs.Dimensions.{processes_of}
 use Rattle.group_run.specs.Locality.{times}
 use Rattle.group_node.specs.Standing.{Standing}
 use Rattle.group_stage.specs.Conditions.{HasLast}
-use Rattle.group_stage.specs.Counts.{Each, flag}
+use Rattle.group_types.specs.Each.{Each}
+use Rattle.group_stage.specs.Counts.{flag}
 use Rattle.group_stage.specs.Kept.{Kept}
 use Rattle.group_stage.specs.Places.{slot_of, word_in, word_of}
 use Rattle.group_stage.specs.Schedules.{standing_at}

@@ -1,30 +1,21 @@
 -- What one event more makes of the run of a schedule.
-use Rattle.std.proofs.Common.{ℕ, zero, suc, ◌≡◌, ◌≢◌, ◌<◌, ◌+◌, ⊎_elim, Bool, true, false, eqb, eq-eqb, ne_eqb, cond, List, [], ◌∷◌, ◌++◌, length, take, refl, sym, ap, ◌∙◌, arith}
+use Rattle.std.proofs.Common.{ℕ, zero, suc, ◌≡◌, ◌≢◌, ◌<◌, ◌+◌, ⊎_elim, Bool, eqb, eq-eqb, ne_eqb, cond, List, [], ◌∷◌, ◌++◌, length, take, refl, sym, ap, ◌∙◌, arith}
 use Rattle.std.specs.Prelude.{slice_get, Some, None}
 use Rattle.std.proofs.lemmas.Bool.{cases_eq}
-use Rattle.std.proofs.lemmas.List.{length-map}
-use Rattle.std.proofs.lemmas.List.FromFn.{length-map-range_with_len}
 use Rattle.group_types.specs.Dimensions.{Dimensions}
 use Rattle.group_types.specs.Lists.{at, put}
-use Rattle.group_types.specs.Names.{IsProcess, index_of, process_at}
-use Rattle.group_types.specs.declared.process.ProcessId.{ProcessId}
-use Rattle.group_types.proofs.Lists.{at-put, at-put-other, length-put}
-use Rattle.group_types.proofs.Names.{index-below}
+use Rattle.group_types.proofs.Lists.{at-put, at-put-other}
 use Rattle.group_calls.specs.declared.event.Event.{Event}
 use Rattle.group_calls.specs.declared.event.Event.TheVariants.{Ask, Collect, Deliver, Fail, Flush, Trace}
 use Rattle.group_run.specs.Headline.{IsRun, IsRunFrom, MayCome}
 use Rattle.group_run.specs.Locality.{times}
 use Rattle.group_run.specs.Process.{Node}
-use Rattle.group_run.specs.World.{World, after, all_change, asked_after, call_of, group_step, names, node_of, opening, opening_node, step, with_node, world_after}
-use Rattle.group_run.proofs.Locality.{others_stay}
+use Rattle.group_run.specs.World.{World, after, asked_after, call_of, names, opening, step, world_after}
+use Rattle.law_answers.proofs.Entries.{after-more}
+use Rattle.group_core.proofs.Schedules.{stays}
 use Rattle.group_stage.specs.Kept.{IsAnswered}
-use Rattle.group_stage.specs.Schedules.{answer_at, ask_by, asked_at, node_at, standing_at}
+use Rattle.group_stage.specs.Schedules.{answer_at, ask_by, asked_at, standing_at}
 use Rattle.group_stage.specs.declared.view.Numbered.{Numbered}
-
--- one event more
-pub after-more : (w : World) (es : List Event) (e : Event) → world_after w (es ++ e ∷ []) ≡ (step (world_after w es) e).world
-after-more w [] e = refl
-after-more w (x ∷ es) e = after-more (step w x).world es e
 
 run-from : (w : World) (es : List Event) (e : Event) → IsRunFrom w es → MayCome (world_after w es) e → IsRunFrom w (es ++ e ∷ [])
 run-from w [] e run may = (may, tt)
@@ -33,13 +24,6 @@ run-from w (x ∷ es) e run may = (run.0, run-from (step w x).world es e run.1 m
 pub run-more : (s : Dimensions) (es : List Event) (e : Event) → IsRun s es → MayCome (after s es) e → IsRun s (es ++ e ∷ [])
 run-more s es e run may = (run.0, run-from (opening s) es e run.1 may)
 
-shape-from : (w : World) (es : List Event) → (world_after w es).shape ≡ w.shape
-shape-from w [] = refl
-shape-from w (e ∷ es) = shape-from (step w e).world es
-
-pub shape-after : (s : Dimensions) (es : List Event) → (after s es).shape ≡ s
-shape-after s es = shape-from (opening s) es
-
 events-from : (w : World) (es : List Event) → (world_after w es).events ≡ w.events + length es
 events-from w [] = omega arith
 events-from w (e ∷ es) = let rest = events-from (step w e).world es in omega (arith, rest)
@@ -47,39 +31,7 @@ events-from w (e ∷ es) = let rest = events-from (step w e).world es in omega (
 pub events-after : (s : Dimensions) (es : List Event) → (after s es).events ≡ length es
 events-after s es = let all = events-from (opening s) es in omega (arith, all)
 
--- the number of nodes stays
-size-put : (s : Dimensions) (p : ProcessId) (node : Node) (nodes : List Node) → IsProcess s p → length nodes ≡ s.k + s.m → length (with_node s p node nodes) ≡ s.k + s.m
-size-put s p node nodes pin size = length-put (opening_node s p) nodes (index_of s p) node (let low = index-below s p pin in omega (arith, low, size)) ∙ size
-
-size-failed : (dead : Bool) (s : Dimensions) (nodes : List Node) (p : ProcessId) (keep : ℕ) → IsProcess s p → length nodes ≡ s.k + s.m → length (all_change dead s nodes p keep).nodes ≡ s.k + s.m
-size-failed true s nodes p keep pin size = size
-size-failed false s nodes p keep pin size = length-map _ _ ∙ size-put s p _ nodes pin size
-
-size-step : (w : World) (e : Event) → MayCome w e → length w.nodes ≡ w.shape.k + w.shape.m → length (group_step w e).nodes ≡ w.shape.k + w.shape.m
-size-step w (Ask caller op p) may size = size-put w.shape p _ w.nodes may.1 size
-size-step w (Collect caller call p) may size = size-put w.shape p _ w.nodes may.1 size
-size-step w (Deliver from to) may size = size-put w.shape to _ _ may.1 (size-put w.shape from _ w.nodes may.0 size)
-size-step w (Fail p keep) may size = size-failed (node_of w p).dead w.shape w.nodes p keep may size
-size-step w (Flush p) may size = size-put w.shape p _ w.nodes may size
-size-step w (Trace caller call d p) may size = size-put w.shape p _ w.nodes may.3 size
-
-size-from : (w : World) (es : List Event) → IsRunFrom w es → length w.nodes ≡ w.shape.k + w.shape.m → length (world_after w es).nodes ≡ w.shape.k + w.shape.m
-size-from w [] run size = size
-size-from w (e ∷ es) run size = size-from (step w e).world es run.1 (size-step w e run.0 size)
-
-pub size-after : (s : Dimensions) (es : List Event) → IsRun s es → length (after s es).nodes ≡ s.k + s.m
-size-after s es run = size-from (opening s) es run.1 (length-map-range_with_len (λ x. opening_node s (process_at s x)) 0 (s.k + s.m))
-
--- a node that the event doesn't name stays
-pub stays : (s : Dimensions) (es : List Event) (e : Event) (x : ℕ) → IsRun s es → x < s.k + s.m → times x (names s e) ≡ 0 → node_at s (es ++ e ∷ []) x ≡ node_at s es x
-stays s es e x run within none =
-    let w : World = after s es in
-    let shape : w.shape ≡ s = shape-after s es in
-    let size : length w.nodes ≡ s.k + s.m = size-after s es run in
-    let d : Node = opening_node s (process_at s x) in
-    ap (λ (v : World). at d v.nodes x) (after-more (opening s) es e)
-    ∙ others_stay w e x d (omega (arith, size, ap (λ (t : Dimensions). t.k + t.m) shape)) (omega (arith, size, within)) (ap (λ (t : Dimensions). times x (names t e)) shape ∙ none)
-
+-- a node that the event doesn't name stands as it stood
 pub stands : (s : Dimensions) (es : List Event) (e : Event) (x : ℕ) → IsRun s es → x < s.k + s.m → times x (names s e) ≡ 0 → standing_at s (es ++ e ∷ []) x ≡ standing_at s es x
 stands s es e x run within none = ap (λ (n : Node). record { shape = s; node = n }) (stays s es e x run within none)
 

@@ -11,7 +11,7 @@ use Rattle.group_run.specs.Process.{Node}
 use Rattle.group_run.specs.World.{after, opening_node}
 use Rattle.group_node.specs.Standing.{Standing}
 use Rattle.group_core.specs.Seats.{AreOf, nodes_of}
-use Rattle.group_stage.specs.Counts.{Each}
+use Rattle.group_types.specs.Each.{Each}
 use Rattle.group_stage.specs.Gathered.{hand_of, slots_left, stacked}
 use Rattle.group_stage.specs.Places.{slot_of}
 use Rattle.group_stage.specs.Schedules.{standing_at}

@@ -1,10 +1,12 @@
 -- Sums over the views of all seats, of which one changes.
-use Rattle.std.proofs.Common.{◌≡◌, ℕ, zero, suc, ◌+◌, ◌*◌, ◌<◌, ◌≤◌, ◌≢◌, List, [], ◌∷◌, ◌++◌, map, length, set, sym, refl, ap, ◌∙◌, ⊎_elim, arith, nat_lt, eqb, lt-ltb, le-ltb, eq-eqb, ne_eqb, Bool, true, false, cond}
+use Rattle.std.proofs.Common.{◌≡◌, ℕ, zero, suc, ◌+◌, ◌*◌, ◌<◌, ◌≤◌, ◌≢◌, List, [], ◌∷◌, ◌++◌, length, set, sym, refl, ap, ◌∙◌, ⊎_elim, arith, nat_lt, eqb, lt-ltb, le-ltb, eq-eqb, ne_eqb, Bool, true, false, cond}
 use Rattle.std.proofs.lemmas.Bool.{cases_eq, cases_lt}
 use mathlib.Core.Option.{some, some-injective, some-ne-none}
 use lib.ListN.{get_elem?}
 use Rattle.group_run.specs.Locality.{times}
-use Rattle.group_stage.specs.Counts.{Each, bit, flag, total}
+use Rattle.group_types.proofs.Eaches.{each-append}
+use Rattle.group_types.specs.Each.{Each}
+use Rattle.group_stage.specs.Counts.{bit, flag, total}
 
 module _ {A : Type 0} where
   module _ (g : A → ℕ) where
@@ -60,24 +62,7 @@ module _ {A : Type 0} where
   only_one f g (x ∷ xs) (suc j) v e le h = let part = term_le f xs j v e in omega (arith, h zero x refl (omega arith), only_one f g xs j v e (omega arith) (λ k u e. h (suc k) u e))
 
   pub each-snoc : (P : A → Type 0) (l : List A) (x : A) → Each P l → P x → Each P (l ++ x ∷ [])
-  each-snoc P [] x all last = (last, tt)
-  each-snoc P (y ∷ ys) x all last = (all.0, each-snoc P ys x all.1 last)
-
-  pub each-append : (P : A → Type 0) (l m : List A) → Each P l → Each P m → Each P (l ++ m)
-  each-append P [] m all more = more
-  each-append P (y ∷ ys) m all more = (all.0, each-append P ys m all.1 more)
-
-  pub each-weaker : (P Q : A → Type 0) (l : List A) → ((x : A) → P x → Q x) → Each P l → Each Q l
-  each-weaker P Q [] f all = tt
-  each-weaker P Q (x ∷ xs) f all = (f x all.0, each-weaker P Q xs f all.1)
-
-  pub each-both : (P Q R : A → Type 0) (l : List A) → ((x : A) → P x → Q x → R x) → Each P l → Each Q l → Each R l
-  each-both P Q R [] f all more = tt
-  each-both P Q R (x ∷ xs) f all more = (f x all.0 more.0, each-both P Q R xs f all.1 more.1)
-
-  pub each-map : (P : A → Type 0) (f : A → A) (l : List A) → ((x : A) → P (f x)) → Each P (map f l)
-  each-map P f [] h = tt
-  each-map P f (x ∷ xs) h = (h x, each-map P f xs h)
+  each-snoc P l x all last = each-append P l (x ∷ []) all (last, tt)
 
 -- how often a number stands in a list
 pub times-append : (k : ℕ) (l m : List ℕ) → times k (l ++ m) ≡ times k l + times k m

@@ -12,7 +12,8 @@ use Rattle.group_run.specs.Locality.{times}
 use Rattle.group_run.specs.World.{names}
 use Rattle.group_node.specs.Standing.{Standing}
 use Rattle.group_stage.specs.Conditions.{CanBegin, CanTake}
-use Rattle.group_stage.specs.Counts.{Each, flag}
+use Rattle.group_types.specs.Each.{Each}
+use Rattle.group_stage.specs.Counts.{flag}
 use Rattle.group_stage.specs.Kept.{Fits, Kept}
 use Rattle.group_stage.specs.Places.{history_of, place_of, slot_of, word_in, word_of}
 use Rattle.group_stage.specs.Schedules.{standing_at}

@@ -8,7 +8,7 @@ use Rattle.group_types.specs.Names.{IsProcess, index_of, process_at}
 use Rattle.group_types.specs.declared.process.ProcessId.{ProcessId}
 use Rattle.group_types.specs.declared.process.Partition.{Partition}
 use Rattle.group_types.proofs.Lists.{at-put}
-use Rattle.group_types.proofs.Names.{index-below, process_at-index}
+use Rattle.group_types.proofs.Names.{index-below}
 use Rattle.memc_table.specs.Act.{value_of}
 use Rattle.memc_table.specs.Asked.{Asked}
 use Rattle.group_calls.specs.declared.event.Answer.{Answer}
@@ -25,17 +25,21 @@ use Rattle.group_run.specs.World.{GroupStep, NodeStep, World, after, ask_node, c
 use Rattle.group_node.specs.Standing.{Standing}
 use Rattle.group_node.specs.Steps.{made}
 use Rattle.group_node.specs.declared.node.NodeOut.{NodeOut}
-use Rattle.group_stage.specs.Conditions.{CanFinish, InHand, IsReady}
+use Rattle.group_stage.specs.Conditions.{CanFinish, IsReady}
 use Rattle.group_stage.specs.Ended.{Ended}
 use Rattle.group_stage.specs.Places.{slot_of}
-use Rattle.group_stage.specs.Schedules.{answer_at, ask_by, asked_at, node_at, standing_at}
+use Rattle.group_stage.specs.Schedules.{answer_at, ask_by, asked_at, standing_at}
 use Rattle.group_stage.specs.Steps.{Knows, Sat}
 use Rattle.group_stage.specs.Views.{asks_by, begun, committed, released, with_held}
 use Rattle.group_stage.specs.declared.answer.StageAnswer.TheVariants.{Made}
 use Rattle.group_stage.specs.declared.view.Plan.{Plan}
 use Rattle.group_stage.specs.declared.view.View.{View}
+use Rattle.group_stage.proofs.Hands.{Holds}
 use Rattle.group_stage.proofs.Sums.{times-here}
-use Rattle.group_stage.proofs.Runs.{after-more, events-after, run-more, shape-after}
+use Rattle.law_answers.proofs.Entries.{after-more}
+use Rattle.group_core.specs.Schedules.{node_at}
+use Rattle.group_core.proofs.Schedules.{node-is, shape-is}
+use Rattle.group_stage.proofs.Runs.{events-after, run-more}
 
 -- an event of one process, which the caller of this view may make
 pub record IsOne (s : Dimensions) (v : View) (e : Event) (p : ProcessId) : Type 0 where
@@ -47,20 +51,13 @@ pub record IsOne (s : Dimensions) (v : View) (e : Event) (p : ProcessId) : Type 
 abbrev pub Treats : View → Event → ℕ → Standing → Standing → Answer → Type 0
 Treats v e p y new a = (es : List Event) → Knows es (with_held (begun e v) p y) → (new ≡ standing_at v.shape (es ++ e ∷ []) p) × (a ≡ answer_at v.shape es e)
 
--- the node that the machine names is the one at the index
-pub node-is : (s : Dimensions) (es : List Event) (p : ProcessId) → IsProcess s p → node_of (after s es) p ≡ node_at s es (index_of s p)
-node-is s es p pin =
-    let shape = shape-after s es in
-    (λ i. at (opening_node (shape i) p) (after s es).nodes (index_of (shape i) p))
-    ∙ ap (λ (q : ProcessId). at (opening_node s q) (after s es).nodes (index_of s p)) (sym (process_at-index s p pin))
-
 pub one-treated : (s : Dimensions) (es : List Event) (e : Event) (p : ProcessId) (t : NodeStep) → IsProcess s p → group_step (after s es) e ≡ one_changes (after s es) p t
     → (standing_at s (es ++ e ∷ []) (index_of s p) ≡ record { shape = s; node = t.node }) × (answer_at s es e ≡ t.answer)
 one-treated s es e p t pin is =
     let w : World = after s es in
     let x : ℕ = index_of s p in
     let d : Node = opening_node s (process_at s x) in
-    let shape = shape-after s es in
+    let shape = shape-is s es in
     let node : node_at s (es ++ e ∷ []) x ≡ t.node =
     ap (λ (v : World). at d v.nodes x) (after-more (opening s) es e) ∙ ap (λ (g : GroupStep). at d g.nodes x) is
     ∙ (λ i. at d (put (opening_node (shape i) p) w.nodes (index_of (shape i) p) t.node) x) ∙ at-put d (opening_node s p) w.nodes x t.node in
@@ -72,10 +69,10 @@ module _ (v : View) (e : Event) (p : ℕ) (q : ProcessId) (y : Standing) (pin : 
   held-is es knows = knows.held.0 ∙ ap (standing_at v.shape es) here
 
   own-node : (es : List Event) → Knows es (with_held (begun e v) p y) → y.node ≡ node_of (after v.shape es) q
-  own-node es knows = ap (λ (z : Standing). z.node) (held-is es knows) ∙ sym (node-is v.shape es q pin)
+  own-node es knows = ap (λ (z : Standing). z.node) (held-is es knows) ∙ node-is v.shape es q pin
 
   own-shape : (es : List Event) → Knows es (with_held (begun e v) p y) → y.shape ≡ (after v.shape es).shape
-  own-shape es knows = ap (λ (z : Standing). z.shape) (held-is es knows) ∙ sym (shape-after v.shape es)
+  own-shape es knows = ap (λ (z : Standing). z.shape) (held-is es knows) ∙ sym (shape-is v.shape es)
 
   -- a step of the node by its shape, its node and the world
   pub treats : (new : Standing) (a : Answer) (f : World → Dimensions → Node → NodeStep) (t : NodeStep) → ((w : World) → group_step w e ≡ one_changes w q (f w w.shape (node_of w q)))
@@ -91,9 +88,11 @@ module _ (v : View) (e : Event) (p : ℕ) (q : ProcessId) (y : Standing) (pin : 
 
 -- what is in hand can be finished
 pub can-finish : (plan : Plan) (v : View) (e : Event) (p : ℕ) (q : ProcessId) (slots : List (ℕ × Option Standing)) (y new : Standing) (a : Answer) (m : Sat) → IsReady (v, slots) → v.shape ≡ plan.shape
-    → IsProcess plan.shape q → p ≡ index_of plan.shape q → IsOne v.shape v e q → (es : List Event) × InHand (begun e v) p slots y m es → Treats v e p y new a → CanFinish plan m p new
-can-finish plan v e p q slots y new a m ready shape pin here one taken treats =
-    let is = taken.1 in
+    → Holds v e q p slots y m → IsOne v.shape v e q → Treats v e p y new a → CanFinish plan m p new
+can-finish plan v e p q slots y new a m ready shape held one treats =
+    let is = held.taken.1 in
+    let here : p ≡ index_of plan.shape q = held.here ∙ ap (λ (s : Dimensions). index_of s q) shape in
+    let pin : IsProcess plan.shape q = subst (λ (s : Dimensions). IsProcess s q) shape held.inside in
     let ones : IsOne plan.shape v e q = subst (λ (s : Dimensions). IsOne s v e q) shape one in
     let u : View = with_held (begun e v) p y in
     subst (λ (x : Sat). CanFinish plan x p new) (sym (is.seat ∙ (λ i. (u, (slot_of p, None) ∷ ready.slots i)))) (record {
@@ -117,11 +116,11 @@ can-finish plan v e p q slots y new a m ready shape pin here one taken treats =
     })
 
 -- and is the event then
-pub made-ended : (v : View) (e : Event) (p : ℕ) (q : ProcessId) (slots : List (ℕ × Option Standing)) (y new : Standing) (a : Answer) (m w : Sat) → IsReady (v, slots) → IsOne v.shape v e q
-    → (es : List Event) × InHand (begun e v) p slots y m es → Treats v e p y new a
+pub made-ended : (v : View) (e : Event) (p : ℕ) (q : ProcessId) (slots : List (ℕ × Option Standing)) (y new : Standing) (a : Answer) (m w : Sat) → IsReady (v, slots) → Holds v e q p slots y m
+    → IsOne v.shape v e q → Treats v e p y new a
     → (fs : List Event) × Knows fs m.0 × ((found : ℕ) × (w ≡ (released (committed fs m.0) p found, []))) → Ended e v (Made a) w.0
-made-ended v e p q slots y new a m w ready one taken treats fin =
-    let is = taken.1 in
+made-ended v e p q slots y new a m w ready held one treats fin =
+    let is = held.taken.1 in
     let fs = fin.0 in
     let u : View = with_held (begun e v) p y in
     let view : m.0 ≡ u = ap (λ (x : Sat). x.0) is.seat in
@@ -139,7 +138,7 @@ made-ended v e p q slots y new a m w ready one taken treats fin =
       (
         fs,
         record {
-          run = run-more v.shape fs e knows.run (one.may (after v.shape fs) (shape-after v.shape fs) knows.asked);
+          run = run-more v.shape fs e knows.run (one.may (after v.shape fs) (shape-is v.shape fs) knows.asked);
           seen = knows.seen;
           earlier = knows.made;
           position = knows.asked;
@@ -199,23 +198,22 @@ ask-treats v p caller call op q y new out own asked pin here shape is =
     ap (λ (n : ℕ). ask_node y.shape (record { caller = caller; call = n }) op y.node) same ∙ is)
 
 -- the numbers at the node in hand can rise
-module _ (v : View) (e : Event) (p : ℕ) (q : ProcessId) (slots : List (ℕ × Option Standing)) (y : Standing) (m : Sat) (pin : IsProcess v.shape q) (here : p ≡ index_of v.shape q)
-    (taken : (es : List Event) × InHand (begun e v) p slots y m es) where
-  low-is : NumbersAreLow (after v.shape taken.0)
-  low-is = numbers_low_always v.shape taken.0 taken.1.knows.run
+module _ (v : View) (e : Event) (p : ℕ) (q : ProcessId) (slots : List (ℕ × Option Standing)) (y : Standing) (m : Sat) (held : Holds v e q p slots y m) where
+  low-is : NumbersAreLow (after v.shape held.taken.0)
+  low-is = numbers_low_always v.shape held.taken.0 held.taken.1.knows.run
 
-  node-same : y.node ≡ node_of (after v.shape taken.0) q
-  node-same = ap (λ (z : Standing). z.node) (taken.1.node ∙ ap (standing_at v.shape taken.0) here) ∙ sym (node-is v.shape taken.0 q pin)
+  node-same : y.node ≡ node_of (after v.shape held.taken.0) q
+  node-same = ap (λ (z : Standing). z.node) (held.taken.1.node ∙ ap (standing_at v.shape held.taken.0) held.here) ∙ node-is v.shape held.taken.0 q held.inside
 
-  few : (after v.shape taken.0).events < 4611686018427387904
-  few = let many = events-after v.shape taken.0 in let low = taken.1.knows.few in omega (arith, many, low)
+  few : (after v.shape held.taken.0).events < 4611686018427387904
+  few = let many = events-after v.shape held.taken.0 in let low = held.taken.1.knows.few in omega (arith, many, low)
 
-  lives : y.node.dead ≡ false → Lives (after v.shape taken.0) q
-  lives dead = (subst (λ (s : Dimensions). IsProcess s q) (sym (shape-after v.shape taken.0)) pin, ap (λ (n : Node). n.dead) (sym node-same) ∙ dead)
+  lives : y.node.dead ≡ false → Lives (after v.shape held.taken.0) q
+  lives dead = (subst (λ (s : Dimensions). IsProcess s q) (sym (shape-is v.shape held.taken.0)) held.inside, ap (λ (n : Node). n.dead) (sym node-same) ∙ dead)
 
   pub low-updates : y.node.dead ≡ false → All (λ r. last_of r < 4611686018427387904) y.node.process.replicas
   low-updates dead = subst (λ (n : Node). All (λ r. last_of r < 4611686018427387904) n.process.replicas) (sym node-same)
-      (All-weaker (λ r. last_of r ≤ (after v.shape taken.0).events) (λ r. last_of r < 4611686018427387904) (λ r low. let f = few in omega (arith, low, f)) _ (low-is.updates q (lives dead)))
+      (All-weaker (λ r. last_of r ≤ (after v.shape held.taken.0).events) (λ r. last_of r < 4611686018427387904) (λ r low. let f = few in omega (arith, low, f)) _ (low-is.updates q (lives dead)))
 
   pub low-sessions : y.node.dead ≡ false → y.node.process.as_leader.last_session < 4611686018427387904
   low-sessions dead = let low = low-is.sessions q (lives dead) in let f = few in let same = ap (λ (n : Node). n.process.as_leader.last_session) node-same in omega (arith, low, f, same)

@@ -15,8 +15,3 @@ bit false = 0
 abbrev pub flag : ℕ → ℕ
 flag zero = 0
 flag (suc n) = 1
-
--- each of the list has it
-abbrev pub Each : {X : Type 0} → (X → Type 0) → List X → Type 0
-Each P [] = Unit {0}
-Each P (x ∷ xs) = P x × Each P xs

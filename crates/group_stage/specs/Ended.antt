@@ -1,5 +1,6 @@
 -- What a call of a stage ended in.
-use Rattle.std.specs.Prelude.{◌≡◌, ℕ, ◌+◌, ◌<◌, ◌≤◌, List, [], ◌∷◌, ◌++◌, length}
+use Rattle.std.specs.Prelude.{◌≡◌, ℕ, ◌+◌, ◌<◌, ◌≤◌, false, List, [], ◌∷◌, ◌++◌, length, Result, MatchResult}
+use Rattle.std.specs.declared.alloc.AllocError.{AllocError}
 use Rattle.group_types.specs.Dimensions.{callers}
 use Rattle.group_types.specs.Names.{index_of}
 use Rattle.group_types.specs.declared.process.ProcessId.{ProcessId}
@@ -8,7 +9,8 @@ use Rattle.group_calls.specs.declared.event.Event.{Event}
 use Rattle.group_run.specs.Headline.{IsRun}
 use Rattle.group_run.specs.Locality.{times}
 use Rattle.group_run.specs.World.{names}
-use Rattle.group_stage.specs.Counts.{Each}
+use Rattle.group_core.specs.Schedules.{node_at}
+use Rattle.group_types.specs.Each.{Each}
 use Rattle.group_stage.specs.Kept.{IsAnswered, most_calls}
 use Rattle.group_stage.specs.Schedules.{StartsWith, answer_at, asked_at}
 use Rattle.group_stage.specs.Steps.{Sat}
@@ -52,6 +54,17 @@ pub record IsUnmade (v w : View) : Type 0 where
   pub seen : w.seen ≡ v.seen
   pub met : w.met ≡ v.met
 
+-- after the schedule es, in which all events of the seat stand, the process lived and the group wasn't down
+pub record WasUpAfter (es : List Event) (v : View) (p : ProcessId) : Type 0 where
+  pub run : IsRun v.shape es
+  pub seen : StartsWith es v.seen
+  pub earlier : Each (IsAnswered v.shape es) v.made
+  pub up : (node_at v.shape es (index_of v.shape p)).down ≡ false
+  pub lives : (node_at v.shape es (index_of v.shape p)).dead ≡ false
+
+abbrev pub WasUp : View → ProcessId → Type 0
+WasUp v p = (es : List Event) × WasUpAfter es v p
+
 -- the seat had made all its calls, and is as it was
 pub record IsWorn (v w : View) : Type 0 where
   pub spent : v.calls ≡ most_calls
@@ -62,6 +75,10 @@ abbrev pub Ended : Event → View → StageAnswer → View → Type 0
 Ended e v (Made a) w = HasReturned v w × ((es : List Event) × IsMade e v a w es)
 Ended e v (Busy p) w = HasReturned v w × IsBusy e v p w
 Ended e v Worn w = IsWorn v w
+
+-- the same, or there was no memory
+abbrev pub HasEnded : Event → View → Result StageAnswer AllocError → View → Type 0
+HasEnded e v result w = MatchResult result (λ a. Ended e v a w) (λ _. IsUnmade v w)
 
 -- a seat between two calls, with its caller number and how often it called and asked
 pub record IsSeat (m : Sat) (caller calls asks : ℕ) : Type 0 where

@@ -9,7 +9,7 @@ use Rattle.group_calls.specs.declared.event.Event.{Event}
 use Rattle.group_run.specs.Locality.{times}
 use Rattle.group_run.specs.World.{names}
 use Rattle.group_node.specs.Standing.{Standing}
-use Rattle.group_stage.specs.Counts.{Each}
+use Rattle.group_types.specs.Each.{Each}
 use Rattle.group_stage.specs.Places.{slot_of}
 use Rattle.group_stage.specs.Schedules.{answer_at}
 use Rattle.group_stage.specs.Steps.{Knows, Sat}

@@ -9,7 +9,8 @@ use Rattle.group_run.specs.Headline.{IsRun}
 use Rattle.group_run.specs.Locality.{times}
 use Rattle.group_run.specs.World.{names}
 use Rattle.group_node.specs.Standing.{Standing}
-use Rattle.group_stage.specs.Counts.{Each, bit, flag, total}
+use Rattle.group_types.specs.Each.{Each}
+use Rattle.group_stage.specs.Counts.{bit, flag, total}
 use Rattle.group_stage.specs.Places.{drawing_of, history_of, slot_of, word_in, word_of}
 use Rattle.group_stage.specs.Schedules.{StartsWith, answer_at, asked_at, standing_at}
 use Rattle.group_stage.specs.Views.{asks_by, cleared_of, drawn, holding, met_of}

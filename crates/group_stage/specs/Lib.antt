@@ -13,4 +13,5 @@ pub mod SeatList
 pub mod Closed
 pub mod Gathered
 pub mod Emptied
+pub mod Pairing
 pub mod Looked

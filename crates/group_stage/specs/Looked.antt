@@ -1,15 +1,16 @@
 -- What a look at a link found.
-use Rattle.std.specs.Prelude.{◌≡◌, ℕ, ◌==◌, Bool, true, false, List, [], length}
+use Rattle.std.specs.Prelude.{◌≡◌, ◌==◌, Bool, true, false, List, [], length}
 use Rattle.group_types.specs.Lists.{at}
 use Rattle.group_types.specs.Names.{index_of}
 use Rattle.group_types.specs.declared.process.ProcessId.{ProcessId}
 use Rattle.group_calls.specs.declared.event.Event.{Event}
 use Rattle.group_calls.specs.declared.event.Event.TheVariants.{Deliver}
 use Rattle.group_run.specs.Headline.{IsRun}
-use Rattle.group_stage.specs.Counts.{Each}
+use Rattle.group_core.specs.Schedules.{node_at}
+use Rattle.group_types.specs.Each.{Each}
 use Rattle.group_stage.specs.Ended.{HasReturned, IsBusy, IsUnmade, IsWorn}
 use Rattle.group_stage.specs.Kept.{IsAnswered}
-use Rattle.group_stage.specs.Schedules.{StartsWith, node_at}
+use Rattle.group_stage.specs.Schedules.{StartsWith}
 use Rattle.group_stage.specs.declared.looking.Looked.{Looked}
 use Rattle.group_stage.specs.declared.looking.Looked.TheVariants.{Busy, Empty, Waits, Worn}
 use Rattle.group_stage.specs.declared.view.View.{View}

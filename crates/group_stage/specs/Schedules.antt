@@ -2,19 +2,14 @@
 use Rattle.std.specs.Prelude.{◌≡◌, ℕ, ◌==◌, List, ◌++◌, if◌then◌else◌}
 use Rattle.group_types.specs.Dimensions.{Dimensions}
 use Rattle.group_types.specs.Lists.{at}
-use Rattle.group_types.specs.Names.{process_at}
 use Rattle.group_calls.specs.declared.event.Answer.{Answer}
 use Rattle.group_calls.specs.declared.event.Event.{Event}
 use Rattle.group_calls.specs.declared.event.Event.TheVariants.{Ask}
-use Rattle.group_run.specs.Process.{Node}
-use Rattle.group_run.specs.World.{after, group_step, opening_node}
+use Rattle.group_run.specs.World.{after, group_step}
 use Rattle.group_node.specs.Standing.{Standing}
+use Rattle.group_core.specs.Schedules.{node_at}
 
--- the machine's node of the process at an index, after a schedule
-abbrev pub node_at : Dimensions → List Event → ℕ → Node
-node_at s es p = at (opening_node s (process_at s p)) (after s es).nodes p
-
--- the same, as a node is seen
+-- the machine's node of the process at an index, after a schedule, as a node is seen
 abbrev pub standing_at : Dimensions → List Event → ℕ → Standing
 standing_at s es p = record { shape = s; node = node_at s es p }
 

@@ -2,7 +2,7 @@
 use Rattle.std.specs.Prelude.{◌≡◌, ℕ, List, Result, Ok, Err}
 use Rattle.std.specs.declared.alloc.AllocError.{AllocError}
 use Rattle.group_types.specs.Dimensions.{Dimensions}
-use Rattle.group_stage.specs.Counts.{Each}
+use Rattle.group_types.specs.Each.{Each}
 use Rattle.group_stage.specs.declared.answer.StageAnswer.{StageAnswer}
 use Rattle.group_stage.specs.declared.answer.StageAnswer.TheVariants.{Busy, Made, Worn}
 use Rattle.group_stage.specs.declared.seat.Seat.{Seat}

@@ -5,7 +5,7 @@ use Rattle.group_calls.specs.declared.event.Event.{Event}
 use Rattle.group_run.specs.Headline.{IsRun}
 use Rattle.group_run.specs.Locality.{times}
 use Rattle.group_node.specs.Standing.{Standing}
-use Rattle.group_stage.specs.Counts.{Each}
+use Rattle.group_types.specs.Each.{Each}
 use Rattle.group_stage.specs.Kept.{IsAnswered}
 use Rattle.group_stage.specs.Places.{place_of, slot_of}
 use Rattle.group_stage.specs.Schedules.{StartsWith, asked_at, standing_at}

@@ -1,9 +1,7 @@
-ghost use Rattle.std.specs.Prelude.{◌≡◌, ◌<◌, ◌≤◌, length, option_map, [], ◌∷◌};
+ghost use Rattle.std.specs.Prelude.{◌≡◌, ◌<◌, length};
 ghost use Rattle.group_types.specs.Dimensions as limits;
-ghost use Rattle.group_stage.specs.Gathered.{GaveBack, HasAll, NamesAll, TookAll, sat_with};
+ghost use Rattle.group_stage.specs.Gathered.{GaveBack, HasAll, NamesAll, TookAll};
 ghost use Rattle.group_stage.specs.Steps.{Knows};
-ghost use Rattle.group_node.specs.Standing.{Standing};
-ghost use Rattle.std.specs.Prelude.{List};
 
 use crate::places::processes_of;
 use crate::stage::{RawSeat, Stage};

@@ -1,4 +1,4 @@
-ghost use Rattle.std.specs.Prelude.{◌≡◌, ◌+◌, ◌≤◌, ◌<◌, ℕ, [], ◌∷◌, List, length, map, IfOk, IfErr, Some, slice_get};
+ghost use Rattle.std.specs.Prelude.{◌≡◌, ◌+◌, ◌<◌, ℕ, [], ◌∷◌, List, length, map, IfOk, IfErr, Some, slice_get};
 ghost use Rattle.std.specs.Slots.{slots_filled, slots_items, slots_len};
 ghost use mathlib.Core.Option as maybe;
 ghost use lib.ListN.{get_elem?};

@@ -1,12 +1,10 @@
-ghost use Rattle.std.specs.Prelude.{◌≡◌, ◌<◌, ℕ, [], ◌∷◌, List, All, IfOk, MatchResult};
+ghost use Rattle.std.specs.Prelude.{◌≡◌, ◌<◌, [], IsOk};
 ghost use Rattle.group_calls.specs.declared.event.Event.TheVariants as happens;
 ghost use Rattle.group_types.specs.Dimensions.{callers};
 ghost use Rattle.group_types.specs.Names.{IsProcess};
-ghost use Rattle.group_stage.specs.Conditions.{CanFinish, IsReady};
-ghost use Rattle.group_stage.specs.Ended.{Ended, IsUnmade, IsWorn};
+ghost use Rattle.group_stage.specs.Conditions.{IsReady};
+ghost use Rattle.group_stage.specs.Ended.{Ended, HasEnded};
 ghost use Rattle.group_stage.specs.Seated.{IsOf, shape_of, view_of};
-ghost use Rattle.group_stage.specs.Steps.{Knows};
-ghost use Rattle.group_stage.specs.Views.{asks_by, committed, released};
 
 use crate::answer::StageAnswer;
 use crate::plays::Calls;
@@ -29,7 +27,8 @@ impl Stage {
         requires process { IsProcess (shape_of self.now) at }
         ensures seat { IsOf self.now seat.new }
         ensures caller { seat.new.caller ≡ seat.old.caller }
-        ensures ended { MatchResult result (λ a. Ended (happens.Collect seat.old.caller call at) (view_of seat.old) a (view_of seat.new)) (λ _. IsUnmade (view_of seat.old) (view_of seat.new)) }
+        ensures ended { HasEnded (happens.Collect seat.old.caller call at) (view_of seat.old) result (view_of seat.new) }
+        ensures succeeds { IsOk result }
     {
         if seat.is_worn() {
             return Ok(StageAnswer::Worn);

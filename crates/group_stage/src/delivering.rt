@@ -1,10 +1,12 @@
-ghost use Rattle.std.specs.Prelude.{◌≡◌, ◌≢◌, ◌<◌, ℕ, [], List, MatchResult};
+ghost use Rattle.std.specs.Prelude.{◌≡◌, ◌≢◌, ℕ, [], List, false, IfOk, OnErr};
 ghost use Rattle.group_calls.specs.declared.event.Event.{Event};
 ghost use Rattle.group_calls.specs.declared.event.Event.TheVariants as happens;
-ghost use Rattle.group_types.specs.Names as names;
+ghost use Rattle.group_types.specs.Dimensions.{Dimensions};
 ghost use Rattle.group_types.specs.Names.{IsProcess};
+ghost use Rattle.group_core.specs.Pairs.{Delivered};
 ghost use Rattle.group_stage.specs.Conditions.{CanFinishTwo, HasTwo, IsReady};
-ghost use Rattle.group_stage.specs.Ended.{Ended, IsUnmade};
+ghost use Rattle.group_stage.specs.Ended.{HasEnded, WasUp};
+ghost use Rattle.group_stage.specs.Pairing.{CanDeliver, one_of, other_of};
 ghost use Rattle.group_stage.specs.Seated.{IsOf, shape_of, view_of};
 ghost use Rattle.group_stage.specs.Steps.{Knows};
 ghost use Rattle.group_stage.specs.Views.{committed, released};
@@ -13,8 +15,8 @@ use crate::answer::StageAnswer;
 use crate::plays::Calls;
 use crate::seat::Seat;
 use crate::stage::{RawSeat, Stage};
-use group_node::{Node, deliver_between, index_of};
-use group_types::ProcessId;
+use group_node::{Node, NodeOut, deliver_between, index_of};
+use group_types::{ProcessId, Shape};
 use std::alloc::AllocError;
 use std::marker::Brand;
 
@@ -32,7 +34,8 @@ impl Stage {
         requires apart { from ≢ to }
         ensures seat { IsOf self.now seat.new }
         ensures caller { seat.new.caller ≡ seat.old.caller }
-        ensures ended { MatchResult result (λ a. Ended (happens.Deliver from to) (view_of seat.old) a (view_of seat.new)) (λ _. IsUnmade (view_of seat.old) (view_of seat.new)) }
+        ensures ended { HasEnded (happens.Deliver from to) (view_of seat.old) result (view_of seat.new) }
+        ensures wanted { OnErr result (WasUp (view_of seat.old) to) }
     {
         if seat.is_worn() {
             return Ok(StageAnswer::Worn);
@@ -42,7 +45,7 @@ impl Stage {
         ended
     }
 
-    // The nodes are taken in the order of processes.
+    // The nodes are taken in the order of processes, so that of two calls with the same nodes one goes on.
     fn deliver_as<J: Calls>(
         &self,
         seat: &mut RawSeat,
@@ -58,83 +61,21 @@ impl Stage {
         requires ready { IsReady seat.old.me }
         ensures table { seat.new.table_id ≡ seat.old.table_id }
         ensures slots { seat.new.me.1 ≡ [] }
-        ensures ended { MatchResult result (λ a. Ended (happens.Deliver from to) seat.old.me.0 a seat.new.me.0) (λ _. IsUnmade seat.old.me.0 seat.new.me.0) }
+        ensures ended { HasEnded (happens.Deliver from to) seat.old.me.0 result seat.new.me.0 }
+        ensures wanted { OnErr result (WasUp seat.old.me.0 to) }
     {
-        if index_of(self.plan.shape, from) < index_of(self.plan.shape, to) {
-            self.deliver_up::<J>(seat, from, to)
-        } else {
-            self.deliver_down::<J>(seat, from, to)
-        }
-    }
-
-    // From a process to one behind it.
-    fn deliver_up<J: Calls>(
-        &self,
-        seat: &mut RawSeat,
-        from: ProcessId,
-        to: ProcessId,
-    ) -> Result<StageAnswer, AllocError>
-        requires table { seat.old.table_id ≡ self.now.table.shared.table_id }
-        requires event { J.event ≡ happens.Deliver from to }
-        requires from { IsProcess (shape_of self.now) from }
-        requires to { IsProcess (shape_of self.now) to }
-        requires apart { from ≢ to }
-        requires order { names.index_of self.now.plan.shape from < names.index_of self.now.plan.shape to }
-        requires shape { seat.old.me.0.shape ≡ self.now.plan.shape }
-        requires ready { IsReady seat.old.me }
-        ensures table { seat.new.table_id ≡ seat.old.table_id }
-        ensures slots { seat.new.me.1 ≡ [] }
-        ensures ended { MatchResult result (λ a. Ended (happens.Deliver from to) seat.old.me.0 a seat.new.me.0) (λ _. IsUnmade seat.old.me.0 seat.new.me.0) }
-    {
-        let low = index_of(self.plan.shape, from) as usize;
+        let up = is_before(self.plan.shape, from, to);
+        let (one, other) = in_order(up, from, to);
+        let low = index_of(self.plan.shape, one) as usize;
         let Some(mut first) = self.take_first::<J>(seat, low) else {
-            return Ok(StageAnswer::Busy(from));
+            return Ok(StageAnswer::Busy(one));
         };
-        let high = index_of(self.plan.shape, to) as usize;
+        let high = index_of(self.plan.shape, other) as usize;
         let Some(mut second) = self.take_next(seat, high) else {
             self.put_back(seat, low, first);
-            return Ok(StageAnswer::Busy(to));
+            return Ok(StageAnswer::Busy(other));
         };
-        match deliver_between(&mut first, &mut second) {
-            Ok(out) => {
-                self.finish_two(seat, low, high, first, second);
-                Ok(StageAnswer::Made(out.answer))
-            }
-            Err(error) => {
-                self.put_two_back(seat, low, high, first, second);
-                Err(error)
-            }
-        }
-    }
-
-    // From a process to one before it.
-    fn deliver_down<J: Calls>(
-        &self,
-        seat: &mut RawSeat,
-        from: ProcessId,
-        to: ProcessId,
-    ) -> Result<StageAnswer, AllocError>
-        requires table { seat.old.table_id ≡ self.now.table.shared.table_id }
-        requires event { J.event ≡ happens.Deliver from to }
-        requires from { IsProcess (shape_of self.now) from }
-        requires to { IsProcess (shape_of self.now) to }
-        requires apart { from ≢ to }
-        requires shape { seat.old.me.0.shape ≡ self.now.plan.shape }
-        requires ready { IsReady seat.old.me }
-        ensures table { seat.new.table_id ≡ seat.old.table_id }
-        ensures slots { seat.new.me.1 ≡ [] }
-        ensures ended { MatchResult result (λ a. Ended (happens.Deliver from to) seat.old.me.0 a seat.new.me.0) (λ _. IsUnmade seat.old.me.0 seat.new.me.0) }
-    {
-        let low = index_of(self.plan.shape, to) as usize;
-        let Some(mut first) = self.take_first::<J>(seat, low) else {
-            return Ok(StageAnswer::Busy(to));
-        };
-        let high = index_of(self.plan.shape, from) as usize;
-        let Some(mut second) = self.take_next(seat, high) else {
-            self.put_back(seat, low, first);
-            return Ok(StageAnswer::Busy(from));
-        };
-        match deliver_between(&mut second, &mut first) {
+        match deliver_in_order(up, &mut first, &mut second) {
             Ok(out) => {
                 self.finish_two(seat, low, high, first, second);
                 Ok(StageAnswer::Made(out.answer))
@@ -166,5 +107,39 @@ impl Stage {
     {
         self.put_back(seat, high, second);
         self.put_back(seat, low, first);
+    }
+}
+
+// Whether a process comes before another.
+fn is_before(shape: Shape, one: ProcessId, other: ProcessId) -> bool
+    requires one { IsProcess shape one }
+    requires other { IsProcess shape other }
+{
+    index_of(shape, one) < index_of(shape, other)
+}
+
+// The sender and the receiver, or turned.
+fn in_order(up: bool, from: ProcessId, to: ProcessId) -> (ProcessId, ProcessId)
+    ensures one { result.0 ≡ one_of up from to }
+    ensures other { result.1 ≡ other_of up from to }
+    ensures processes { (s : Dimensions) → IsProcess s from → IsProcess s to → IsProcess s result.0 × IsProcess s result.1 }
+{
+    if up { (from, to) } else { (to, from) }
+}
+
+// The first node sends and the second receives, or turned.
+fn deliver_in_order(up: bool, first: &mut Node, second: &mut Node) -> Result<NodeOut, AllocError>
+    requires can { CanDeliver (one_of up first.old second.old) (other_of up first.old second.old) }
+    ensures delivered { IfOk result (Delivered (one_of up first.old second.old) (other_of up first.old second.old)
+        (one_of up first.new second.new) (other_of up first.new second.new)) }
+    ensures down { OnErr result ((other_of up first.old second.old).node.down ≡ false) }
+    ensures dead { OnErr result ((other_of up first.old second.old).node.dead ≡ false) }
+    ensures first { OnErr result (first.new ≡ first.old) }
+    ensures second { OnErr result (second.new ≡ second.old) }
+{
+    if up {
+        deliver_between(first, second)
+    } else {
+        deliver_between(second, first)
     }
 }

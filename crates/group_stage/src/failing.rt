@@ -1,8 +1,8 @@
-ghost use Rattle.std.specs.Prelude.{◌≡◌, [], MatchResult};
+ghost use Rattle.std.specs.Prelude.{◌≡◌, []};
 ghost use Rattle.group_calls.specs.declared.event.Event.TheVariants as happens;
 ghost use Rattle.group_types.specs.Names.{IsProcess};
 ghost use Rattle.group_stage.specs.Conditions.{IsReady};
-ghost use Rattle.group_stage.specs.Ended.{Ended, IsUnmade};
+ghost use Rattle.group_stage.specs.Ended.{HasEnded};
 ghost use Rattle.group_stage.specs.Gathered.{CanFail, Failed};
 ghost use Rattle.group_types.specs.Dimensions as limits;
 ghost use Rattle.group_stage.specs.Seated.{IsOf, view_of};
@@ -30,7 +30,7 @@ impl Stage {
         requires process { IsProcess self.now.plan.shape at }
         ensures seat { IsOf self.now seat.new }
         ensures caller { seat.new.caller ≡ seat.old.caller }
-        ensures ended { MatchResult result (λ a. Ended (happens.Fail at keep) (view_of seat.old) a (view_of seat.new)) (λ _. IsUnmade (view_of seat.old) (view_of seat.new)) }
+        ensures ended { HasEnded (happens.Fail at keep) (view_of seat.old) result (view_of seat.new) }
     {
         if seat.is_worn() {
             return Ok(StageAnswer::Worn);
@@ -54,7 +54,7 @@ impl Stage {
         requires ready { IsReady seat.old.me }
         ensures table { seat.new.table_id ≡ seat.old.table_id }
         ensures slots { seat.new.me.1 ≡ [] }
-        ensures ended { MatchResult result (λ a. Ended (happens.Fail at keep) seat.old.me.0 a seat.new.me.0) (λ _. IsUnmade seat.old.me.0 seat.new.me.0) }
+        ensures ended { HasEnded (happens.Fail at keep) seat.old.me.0 result seat.new.me.0 }
     {
         let Some(first) = self.take_first::<J>(seat, 0) else {
             return Ok(StageAnswer::Busy(process_at(self.plan.shape, 0)));

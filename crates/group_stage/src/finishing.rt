@@ -1,12 +1,7 @@
-ghost use Rattle.std.specs.Prelude.{◌≡◌, ◌<◌, ℕ, [], ◌∷◌, List, All, IfOk, MatchResult};
-ghost use Rattle.group_calls.specs.declared.event.Event.TheVariants as happens;
-ghost use Rattle.group_types.specs.Dimensions.{callers};
-ghost use Rattle.group_types.specs.Names.{IsProcess};
-ghost use Rattle.group_stage.specs.Conditions.{CanFinish, IsReady};
-ghost use Rattle.group_stage.specs.Ended.{Ended, IsUnmade, IsWorn};
-ghost use Rattle.group_stage.specs.Seated.{IsOf, view_of};
+ghost use Rattle.std.specs.Prelude.{◌≡◌, ℕ, [], List};
+ghost use Rattle.group_stage.specs.Conditions.{CanFinish};
 ghost use Rattle.group_stage.specs.Steps.{Knows};
-ghost use Rattle.group_stage.specs.Views.{asks_by, committed, released};
+ghost use Rattle.group_stage.specs.Views.{committed, released};
 ghost use Rattle.group_calls.specs.declared.event.Event.{Event};
 
 use crate::stage::{RawSeat, Stage};

@@ -1,12 +1,9 @@
-ghost use Rattle.std.specs.Prelude.{◌≡◌, ◌<◌, ℕ, [], ◌∷◌, List, All, IfOk, MatchResult};
+ghost use Rattle.std.specs.Prelude.{◌≡◌, ◌<◌, [], OnErr};
 ghost use Rattle.group_calls.specs.declared.event.Event.TheVariants as happens;
-ghost use Rattle.group_types.specs.Dimensions.{callers};
 ghost use Rattle.group_types.specs.Names.{IsProcess};
-ghost use Rattle.group_stage.specs.Conditions.{CanFinish, IsReady};
-ghost use Rattle.group_stage.specs.Ended.{Ended, IsUnmade, IsWorn};
+ghost use Rattle.group_stage.specs.Conditions.{IsReady};
+ghost use Rattle.group_stage.specs.Ended.{HasEnded, WasUp};
 ghost use Rattle.group_stage.specs.Seated.{IsOf, shape_of, view_of};
-ghost use Rattle.group_stage.specs.Steps.{Knows};
-ghost use Rattle.group_stage.specs.Views.{asks_by, committed, released};
 
 use crate::answer::StageAnswer;
 use crate::plays::Calls;
@@ -24,7 +21,8 @@ impl Stage {
         requires process { IsProcess (shape_of self.now) at }
         ensures seat { IsOf self.now seat.new }
         ensures caller { seat.new.caller ≡ seat.old.caller }
-        ensures ended { MatchResult result (λ a. Ended (happens.Flush at) (view_of seat.old) a (view_of seat.new)) (λ _. IsUnmade (view_of seat.old) (view_of seat.new)) }
+        ensures ended { HasEnded (happens.Flush at) (view_of seat.old) result (view_of seat.new) }
+        ensures wanted { OnErr result (WasUp (view_of seat.old) at) }
     {
         if seat.is_worn() {
             return Ok(StageAnswer::Worn);
@@ -46,7 +44,8 @@ impl Stage {
         requires ready { IsReady seat.old.me }
         ensures table { seat.new.table_id ≡ seat.old.table_id }
         ensures slots { seat.new.me.1 ≡ [] }
-        ensures ended { MatchResult result (λ a. Ended (happens.Flush at) seat.old.me.0 a seat.new.me.0) (λ _. IsUnmade seat.old.me.0 seat.new.me.0) }
+        ensures ended { HasEnded (happens.Flush at) seat.old.me.0 result seat.new.me.0 }
+        ensures wanted { OnErr result (WasUp seat.old.me.0 at) }
     {
         let place = index_of(self.plan.shape, at) as usize;
         let Some(mut node) = self.take_first::<J>(seat, place) else {

@@ -1,12 +1,9 @@
-ghost use Rattle.std.specs.Prelude.{◌≡◌, ◌+◌, ◌-◌, ◌*◌, ◌≤◌, ◌<◌, [], List, length, replicate, IfOk, slice_get, Some, None};
-ghost use Rattle.std.specs.Vec.{vec_capacity, vec_len};
+ghost use Rattle.std.specs.Prelude.{◌≡◌, ◌+◌, ◌-◌, ◌*◌, ◌≤◌, ◌<◌, [], length, IfOk, Some, None};
+ghost use Rattle.std.specs.Vec.{vec_capacity};
 ghost use Rattle.group_types.specs.Dimensions as limits;
-ghost use Rattle.group_types.specs.Names as names;
-ghost use Rattle.group_types.specs.Names.{IsProcess};
 ghost use Rattle.group_stage.specs.Conditions.{CanDraw};
 ghost use Rattle.group_stage.specs.Dealt.{AreNew, IsNew};
 ghost use Rattle.group_stage.specs.Opened.{AreLaid};
-ghost use Rattle.group_stage.specs.Places as places;
 ghost use Rattle.group_stage.specs.Seated.{AreOf};
 ghost use Rattle.group_stage.specs.Views.{blank, numbered};
 

@@ -1,4 +1,4 @@
-ghost use Rattle.std.specs.Prelude.{◌≡◌, ◌↔◌, ◌<◌, ◌==◌, false, IsTrue};
+ghost use Rattle.std.specs.Prelude.{◌≡◌, ◌==◌};
 ghost use Rattle.group_stage.specs.Ended.{IsSeat};
 ghost use Rattle.group_stage.specs.Kept.{most_calls};
 

@@ -1,12 +1,11 @@
-ghost use Rattle.std.specs.Prelude.{◌≡◌, ◌<◌, ℕ, [], ◌∷◌, List, All, IfOk, MatchResult};
+ghost use Rattle.std.specs.Prelude.{◌≡◌, ◌<◌, [], ◌∷◌, IsOk};
 ghost use Rattle.group_calls.specs.declared.event.Event.TheVariants as happens;
 ghost use Rattle.group_types.specs.Dimensions.{callers};
 ghost use Rattle.group_types.specs.Names.{IsProcess};
-ghost use Rattle.group_stage.specs.Conditions.{CanFinish, IsReady};
-ghost use Rattle.group_stage.specs.Ended.{Ended, IsUnmade, IsWorn};
+ghost use Rattle.group_stage.specs.Conditions.{IsReady};
+ghost use Rattle.group_stage.specs.Ended.{Ended, HasEnded};
 ghost use Rattle.group_stage.specs.Seated.{IsOf, shape_of, view_of};
-ghost use Rattle.group_stage.specs.Steps.{Knows};
-ghost use Rattle.group_stage.specs.Views.{asks_by, committed, released};
+ghost use Rattle.group_stage.specs.Views.{asks_by};
 
 use crate::answer::StageAnswer;
 use crate::plays::Calls;
@@ -32,7 +31,8 @@ impl Stage {
         requires partition { partition.0 < (shape_of self.now).k }
         ensures seat { IsOf self.now seat.new }
         ensures caller { seat.new.caller ≡ seat.old.caller }
-        ensures ended { MatchResult result (λ a. Ended (happens.Trace seat.old.caller call partition at) (view_of seat.old) a (view_of seat.new)) (λ _. IsUnmade (view_of seat.old) (view_of seat.new)) }
+        ensures ended { HasEnded (happens.Trace seat.old.caller call partition at) (view_of seat.old) result (view_of seat.new) }
+        ensures succeeds { IsOk result }
     {
         if seat.is_worn() {
             return Ok(StageAnswer::Worn);

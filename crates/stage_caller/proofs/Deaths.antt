@@ -1,5 +1,5 @@
 -- What stands of a seat after an order that found no memory.
-use Rattle.std.proofs.Common.{OnErr, [], refl}
+use Rattle.std.proofs.Common.{OnErr, [], refl, ◌∙◌}
 use Rattle.std.specs.Prelude.{Result, Ok, Err}
 use Rattle.memc_table.specs.Asked.{Asked}
 use Rattle.memc_table.specs.declared.act.Act.TheVariants.{Get}
@@ -19,6 +19,12 @@ stopped before middle after idle same unmade = record {
 } where
   any : Asked
   any = record { moment = 0; act = Get [] }
+
+pub idle-on : (before middle after : Seat) → IsIdle before middle → IsSame middle after → IsUnmade (view_of middle) (view_of after) → IsIdle before after
+idle-on before middle after idle same unmade = record {
+  same = record { table = same.table ∙ idle.same.table; shape = same.shape ∙ idle.same.shape; caller = same.caller ∙ idle.same.caller };
+  made = unmade.made ∙ idle.made;
+}
 
 pub on-err : {T E : Type 0} (result : Result T E) (P : Type 0) → P → OnErr result P
 on-err (Ok t) P p = tt

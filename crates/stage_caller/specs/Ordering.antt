@@ -7,7 +7,7 @@ use Rattle.memc_proto.specs.declared.end.CallEnd.{CallEnd}
 use Rattle.memc_proto.specs.declared.end.FailEnd.{FailEnd}
 use Rattle.memc_proto.specs.declared.end.FailEnd.TheVariants as ends
 use Rattle.group_stage.specs.Seated.{shape_of}
-use Rattle.stage_caller.specs.Calling.{HasStopped, IsCalled}
+use Rattle.stage_caller.specs.Calling.{HasStopped, IsCalled, IsIdle}
 use Rattle.stage_caller.specs.Failing.{IsFailed}
 use Rattle.stage_caller.specs.declared.phase.Phase.TheVariants.{Asks}
 use Rattle.stage_caller.specs.declared.caller.StageCaller.{StageCaller}
@@ -26,6 +26,11 @@ pub record HasCalled (before : StageCaller) (op : Asked) (end : CallEnd) (after 
 pub record HasGone (before after : StageCaller) : Type 0 where
   pub same : IsKept before after
   pub stopped : HasStopped before.seat Asks after.seat
+
+-- what stands of an order after want of memory: no event was made
+pub record HasMadeNone (before after : StageCaller) : Type 0 where
+  pub same : IsKept before after
+  pub idle : IsIdle before.seat after.seat
 
 -- such orders are taken, and the group has the process
 pub record IsTaken (c : StageCaller) (p : ProcessId) : Type 0 where

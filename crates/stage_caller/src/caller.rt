@@ -1,8 +1,12 @@
-ghost use Rattle.std.specs.Prelude.{◌≡◌};
+ghost use Rattle.std.specs.Prelude.{◌≡◌, ◌<◌, IfOk, OnErr};
 ghost use Rattle.group_stage.specs.Seated.{IsOf};
+ghost use Rattle.stage_caller.specs.Calling.{HasStopped, IsCalled};
+ghost use Rattle.stage_caller.specs.Ordering.{IsKept};
+ghost use Rattle.stage_caller.specs.declared.phase.Phase.TheVariants.{Waits};
 
 use crate::calling::make_call;
 use crate::failing::{fail_process, has};
+use crate::phase::Phase;
 use front_end::Caller;
 use group_stage::{Seat, Stage};
 use group_types::ProcessId;
@@ -34,6 +38,16 @@ impl<'a> StageCaller<'a> {
         }
     }
 
+    /// Goes on with a call for the op whose ask of this number was given a ticket, as it stands after want of memory.
+    pub fn resume(&mut self, op: &Op, call: u64) -> Result<CallEnd, AllocError>
+        requires asked { call < self.old.seat.asks }
+        ensures same { IsKept self.old self.new }
+        ensures called { IfOk result (λ end. IsCalled self.old.seat op.now (Waits call) end self.new.seat) }
+        ensures stopped { OnErr result (HasStopped self.old.seat (Waits call) self.new.seat) }
+    {
+        make_call(self.stage, &mut self.seat, op, Phase::Waits { call })
+    }
+
     /// The seat, as the calls left it.
     pub fn into_seat(self) -> Seat
         ensures seat { result ≡ self.entry.seat }
@@ -49,7 +63,7 @@ impl<'a> StageCaller<'a> {
 }
 
 impl<'a> Caller for StageCaller<'a> {
-    ghost use Rattle.stage_caller.specs.Ordering.{HasCalled, HasGone, IsOrdered};
+    ghost use Rattle.stage_caller.specs.Ordering.{HasCalled, HasGone, HasMadeNone, IsOrdered};
 
     ghost made = { HasCalled };
 
@@ -58,10 +72,14 @@ impl<'a> Caller for StageCaller<'a> {
     ghost kept = { HasGone };
 
     fn call(&mut self, op: &Op) -> Result<CallEnd, AllocError> {
-        make_call(self.stage, &mut self.seat, op)
+        make_call(self.stage, &mut self.seat, op, Phase::Asks)
     }
 
-    fn fail(&mut self, at: ProcessId, keep: u32) -> Result<FailEnd, AllocError> {
+    fn fail(&mut self, at: ProcessId, keep: u32) -> Result<FailEnd, AllocError>
+        ensures failed { IfOk result (λ end. IsOrdered self.old at keep end self.new) }
+        ensures want { OnErr result (HasGone self.old self.new) }
+        ensures unmade { OnErr result (HasMadeNone self.old self.new) }
+    {
         if !self.control {
             return Ok(FailEnd::Off);
         }

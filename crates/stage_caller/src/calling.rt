@@ -1,5 +1,4 @@
 ghost use Rattle.std.specs.Prelude.{◌≡◌, ◌<◌, IfOk, OnErr};
-ghost use Rattle.memc_table.specs.Asked.{Asked};
 ghost use Rattle.group_stage.specs.Seated.{IsOf, shape_of};
 ghost use Rattle.stage_caller.specs.Calling.{HasStopped, IsCalled, IsIdle, wish_of};
 ghost use Rattle.stage_caller.specs.Moving.{CanMake, HasStepped, IsAsked};
@@ -20,37 +19,23 @@ use memc_proto::CallEnd;
 use memc_table::Op;
 use std::alloc::AllocError;
 
-/// Makes a call to its end. After want of memory the events that were made before it stand.
-pub(crate) fn make_call(stage: &Stage, seat: &mut Seat, op: &Op) -> Result<CallEnd, AllocError>
-    requires seat { IsOf stage.now seat.old }
-    ensures seat { IsOf stage.now seat.new }
-    ensures called { IfOk result (λ end. IsCalled seat.old op.now Phase.Asks end seat.new) }
-    ensures stopped { OnErr result (HasStopped seat.old Phase.Asks seat.new) }
-{
-    let shape = stage.shape();
-    let route = Route::new(shape, home(op.act().key(), shape.k()));
-    go_on(stage, seat, op, Phase::Asks, route)
-}
-
-/// Goes on with a call from a phase, at the process where the route begins.
-pub(crate) fn go_on(
+/// Makes a call to its end from a phase. After want of memory the events that were made before it stand.
+pub(crate) fn make_call(
     stage: &Stage,
     seat: &mut Seat,
     op: &Op,
     start: Phase,
-    route: Route,
 ) -> Result<CallEnd, AllocError>
     requires seat { IsOf stage.now seat.old }
     requires asked { IsAsked seat.old.asks start }
-    requires shape { route.shape ≡ shape_of stage.now }
-    requires home { route.partition.0 ≡ (wish_of seat.old op.now).home }
     ensures seat { IsOf stage.now seat.new }
     ensures called { IfOk result (λ end. IsCalled seat.old op.now start end seat.new) }
     ensures stopped { OnErr result (HasStopped seat.old start seat.new) }
 {
-    let partition = route.partition;
+    let shape = stage.shape();
+    let partition = home(op.act().key(), shape.k());
     let mut phase = start;
-    let mut progress = Progress::new(route, seat.caller());
+    let mut progress = Progress::new(Route::new(shape, partition), seat.caller());
     'moves: loop {
         let next = progress.next(phase);
         match make(stage, seat, op, partition, phase, next)? {

@@ -7,8 +7,6 @@ mod asking;
 mod caller;
 mod calling;
 mod collecting;
-#[cfg(test)]
-mod dying;
 mod failing;
 mod helping;
 mod link;

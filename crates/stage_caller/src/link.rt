@@ -1,6 +1,4 @@
 ghost use Rattle.std.specs.Prelude.{◌≡◌, ◌≢◌, ◌<◌, IfSome};
-ghost use Rattle.group_types.specs.Dimensions.{Dimensions};
-ghost use Rattle.group_types.specs.Names.{IsProcess};
 ghost use Rattle.stage_caller.specs.Moving.{IsLink};
 
 use crate::route::Route;

@@ -1,4 +1,3 @@
-ghost use Rattle.std.specs.Prelude.{◌≡◌};
 ghost use Rattle.stage_caller.specs.Moving.{Says};
 
 use crate::phase::{Next, Phase};

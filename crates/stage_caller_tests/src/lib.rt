@@ -7,4 +7,10 @@ mod acts;
 #[cfg(test)]
 mod alone;
 #[cfg(test)]
+mod dying;
+#[cfg(test)]
 mod losing;
+#[cfg(test)]
+mod own_keys;
+#[cfg(test)]
+mod place;

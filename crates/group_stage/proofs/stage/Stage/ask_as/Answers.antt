@@ -1,13 +1,9 @@
-use Rattle.std.proofs.Common.{◌<◌, ℕ, List, sym, ap, subst, ◌∙◌}
+use Rattle.std.proofs.Common.{◌<◌, ℕ, subst}
 use Rattle.std.specs.Prelude.{All}
 use Rattle.memc_table.specs.Act.{value_of}
 use Rattle.memc_table.specs.declared.act.Act.{Act}
-use Rattle.group_types.specs.Dimensions.{Dimensions}
-use Rattle.group_types.specs.Names.{IsProcess, index_of}
-use Rattle.group_calls.specs.declared.event.Event.{Event}
 use Rattle.group_calls.specs.declared.event.Event.TheVariants.{Ask}
-use Rattle.group_stage.specs.Conditions.{InHand}
-use Rattle.group_stage.specs.Views.{begun}
+use Rattle.group_stage.proofs.Hands.{holds, was-up}
 use Rattle.group_stage.proofs.Treating.{ask-one, ask-treats, can-finish, low-sessions, low-updates, made-ended}
 use Rattle.group_stage.proofs.stage.Stage.ask_as.Goals as goal
 
@@ -16,39 +12,39 @@ ask-requires-clause-numbers g c = λ up lives.
     let v = c.args.seat.now.me.0 in
     let q = c.args.at in
     let p : ℕ = c.index_of-place.result in
-    let pin = subst (λ (s : Dimensions). IsProcess s q) (sym c.requires.shape) c.requires.process in
-    let here = c.index_of-place.ensures ∙ ap (λ (s : Dimensions). index_of s q) (sym c.requires.shape) in
-    let taken = subst (λ (e : Event). (es : List Event) × InHand (begun e v) p c.args.seat.now.me.1 c.in-Some.node c.take_first.new.seat.me es) c.requires.event c.in-Some.ensures.took in
-    low-updates v (Ask c.args.call.caller c.args.op.now q) p q c.args.seat.now.me.1 c.in-Some.node c.take_first.new.seat.me pin here taken lives
+    let held = holds c.args.self.now.plan v g.J.Calls.event (Ask c.args.call.caller c.args.op.now q) q p c.args.seat.now.me.1 c.in-Some.node c.take_first.new.seat.me c.requires.shape c.requires.event c.requires.process c.index_of-place.ensures c.in-Some.ensures.took in
+    low-updates v (Ask c.args.call.caller c.args.op.now q) p q c.args.seat.now.me.1 c.in-Some.node c.take_first.new.seat.me held lives
 
 pub ask-requires-clause-sessions : goal.ask-requires-clause-sessions
 ask-requires-clause-sessions g c = λ up lives.
     let v = c.args.seat.now.me.0 in
     let q = c.args.at in
     let p : ℕ = c.index_of-place.result in
-    let pin = subst (λ (s : Dimensions). IsProcess s q) (sym c.requires.shape) c.requires.process in
-    let here = c.index_of-place.ensures ∙ ap (λ (s : Dimensions). index_of s q) (sym c.requires.shape) in
-    let taken = subst (λ (e : Event). (es : List Event) × InHand (begun e v) p c.args.seat.now.me.1 c.in-Some.node c.take_first.new.seat.me es) c.requires.event c.in-Some.ensures.took in
-    low-sessions v (Ask c.args.call.caller c.args.op.now q) p q c.args.seat.now.me.1 c.in-Some.node c.take_first.new.seat.me pin here taken lives
+    let held = holds c.args.self.now.plan v g.J.Calls.event (Ask c.args.call.caller c.args.op.now q) q p c.args.seat.now.me.1 c.in-Some.node c.take_first.new.seat.me c.requires.shape c.requires.event c.requires.process c.index_of-place.ensures c.in-Some.ensures.took in
+    low-sessions v (Ask c.args.call.caller c.args.op.now q) p q c.args.seat.now.me.1 c.in-Some.node c.take_first.new.seat.me held lives
 
 pub finish-requires-clause-can : goal.finish-requires-clause-can
 finish-requires-clause-can g c =
     let v = c.args.seat.now.me.0 in
     let q = c.args.at in
     let p : ℕ = c.index_of-place.result in
-    let pin = subst (λ (s : Dimensions). IsProcess s q) (sym c.requires.shape) c.requires.process in
-    let here = c.index_of-place.ensures ∙ ap (λ (s : Dimensions). index_of s q) (sym c.requires.shape) in
-    let taken = subst (λ (e : Event). (es : List Event) × InHand (begun e v) p c.args.seat.now.me.1 c.in-Some.node c.take_first.new.seat.me es) c.requires.event c.in-Some.ensures.took in
-    can-finish c.args.self.now.plan v (Ask c.args.call.caller c.args.op.now q) p q c.args.seat.now.me.1 c.in-Some.node c.ask.new.self c.in-Ok.out.answer c.take_first.new.seat.me c.requires.ready c.requires.shape c.requires.process
-    c.index_of-place.ensures (ask-one v.shape v c.args.call.caller c.args.op.now q c.requires.caller c.requires.own (subst (λ (x : Act). All (λ b. b < 256) (value_of x)) c.act.ensures c.values_are_bytes.ensures) pin) taken (ask-treats v p c.args.call.caller c.args.call.number c.args.op.now q c.in-Some.node c.ask.new.self c.in-Ok.out c.requires.own c.requires.number pin here c.in-Ok.ensures.shape c.in-Ok.ensures.step)
+    let held = holds c.args.self.now.plan v g.J.Calls.event (Ask c.args.call.caller c.args.op.now q) q p c.args.seat.now.me.1 c.in-Some.node c.take_first.new.seat.me c.requires.shape c.requires.event c.requires.process c.index_of-place.ensures c.in-Some.ensures.took in
+    can-finish c.args.self.now.plan v (Ask c.args.call.caller c.args.op.now q) p q c.args.seat.now.me.1 c.in-Some.node c.ask.new.self c.in-Ok.out.answer c.take_first.new.seat.me c.requires.ready c.requires.shape
+    held (ask-one v.shape v c.args.call.caller c.args.op.now q c.requires.caller c.requires.own (subst (λ (x : Act). All (λ b. b < 256) (value_of x)) c.act.ensures c.values_are_bytes.ensures) held.inside) (ask-treats v p c.args.call.caller c.args.call.number c.args.op.now q c.in-Some.node c.ask.new.self c.in-Ok.out c.requires.own c.requires.number held.inside held.here c.in-Ok.ensures.shape c.in-Ok.ensures.step)
 
 pub returns-in-Ok-clause-ended : goal.returns-in-Ok-clause-ended
 returns-in-Ok-clause-ended g c =
     let v = c.args.seat.now.me.0 in
     let q = c.args.at in
     let p : ℕ = c.index_of-place.result in
-    let pin = subst (λ (s : Dimensions). IsProcess s q) (sym c.requires.shape) c.requires.process in
-    let here = c.index_of-place.ensures ∙ ap (λ (s : Dimensions). index_of s q) (sym c.requires.shape) in
-    let taken = subst (λ (e : Event). (es : List Event) × InHand (begun e v) p c.args.seat.now.me.1 c.in-Some.node c.take_first.new.seat.me es) c.requires.event c.in-Some.ensures.took in
+    let held = holds c.args.self.now.plan v g.J.Calls.event (Ask c.args.call.caller c.args.op.now q) q p c.args.seat.now.me.1 c.in-Some.node c.take_first.new.seat.me c.requires.shape c.requires.event c.requires.process c.index_of-place.ensures c.in-Some.ensures.took in
     made-ended v (Ask c.args.call.caller c.args.op.now q) p q c.args.seat.now.me.1 c.in-Some.node c.ask.new.self c.in-Ok.out.answer c.take_first.new.seat.me c.finish.new.seat.me c.requires.ready
-    (ask-one v.shape v c.args.call.caller c.args.op.now q c.requires.caller c.requires.own (subst (λ (x : Act). All (λ b. b < 256) (value_of x)) c.act.ensures c.values_are_bytes.ensures) pin) taken (ask-treats v p c.args.call.caller c.args.call.number c.args.op.now q c.in-Some.node c.ask.new.self c.in-Ok.out c.requires.own c.requires.number pin here c.in-Ok.ensures.shape c.in-Ok.ensures.step) c.finish.ensures.finished
+    held (ask-one v.shape v c.args.call.caller c.args.op.now q c.requires.caller c.requires.own (subst (λ (x : Act). All (λ b. b < 256) (value_of x)) c.act.ensures c.values_are_bytes.ensures) held.inside) (ask-treats v p c.args.call.caller c.args.call.number c.args.op.now q c.in-Some.node c.ask.new.self c.in-Ok.out c.requires.own c.requires.number held.inside held.here c.in-Ok.ensures.shape c.in-Ok.ensures.step) c.finish.ensures.finished
+
+pub returns-in-Err-clause-wanted : goal.returns-in-Err-clause-wanted
+returns-in-Err-clause-wanted g c =
+    let v = c.args.seat.now.me.0 in
+    let q = c.args.at in
+    let p : ℕ = c.index_of-place.result in
+    let held = holds c.args.self.now.plan v g.J.Calls.event (Ask c.args.call.caller c.args.op.now q) q p c.args.seat.now.me.1 c.in-Some.node c.take_first.new.seat.me c.requires.shape c.requires.event c.requires.process c.index_of-place.ensures c.in-Some.ensures.took in
+    was-up v (Ask c.args.call.caller c.args.op.now q) q p c.args.seat.now.me.1 c.in-Some.node c.take_first.new.seat.me held c.in-Err.ensures.wanted.0 c.in-Err.ensures.wanted.1

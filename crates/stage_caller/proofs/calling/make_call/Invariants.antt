@@ -3,7 +3,7 @@ use Rattle.group_stage.specs.Kept.{most_calls}
 use Rattle.group_stage.specs.Seated.{IsOf}
 use Rattle.stage_caller.specs.Calling.{HasCome}
 use Rattle.stage_caller.specs.declared.phase.Next.TheVariants.{Goes}
-use Rattle.stage_caller.proofs.calling.go_on.Given as goal
+use Rattle.stage_caller.proofs.calling.make_call.Given as goal
 
 abbrev pub invariant-moves : goal.invariant-moves
 invariant-moves l = record {

@@ -1,6 +1,6 @@
 use Rattle.std.proofs.Common.{◌∙◌}
 use Rattle.stage_caller.proofs.Coming.{called, come-asked, come-goes}
-use Rattle.stage_caller.proofs.calling.go_on.Goals as goal
+use Rattle.stage_caller.proofs.calling.make_call.Goals as goal
 
 pub make-requires-clause-asked : goal.make-requires-clause-asked
 make-requires-clause-asked c = come-asked c.args.seat.now c.moves.seat c.args.op.now c.args.start c.moves.phase c.requires.asked c.moves.invariant.come
