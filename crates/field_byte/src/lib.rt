@@ -41,17 +41,3 @@ pub fn inv(a: u8) -> u8
 {
     exp_of(255 - log_of(a))
 }
-
-#[cfg(test)]
-mod tests {
-    use super::*;
-    use std::test::Fail;
-
-    #[test]
-    fn inverses_are_those_of_the_polynomial_11d(rt: HostRuntime) -> Result<(), Fail> {
-        for (a, inverse) in [(1, 0x01), (2, 0x8E), (3, 0xF4), (4, 0x47), (5, 0xA7)] {
-            assert_eq!(rt; inv(a), inverse);
-        }
-        Ok(())
-    }
-}

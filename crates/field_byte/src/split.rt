@@ -108,30 +108,3 @@ impl Split {
         self.low.to_array()[(b & 15) as usize] ^ self.high.to_array()[(b >> 4) as usize]
     }
 }
-
-#[cfg(test)]
-mod tests {
-    use super::*;
-    use std::test::Fail;
-
-    #[test]
-    fn products_of_single_bits(rt: HostRuntime) -> Result<(), Fail> {
-        let split = Split::of(0x8E);
-        assert_eq!(rt; split.coef(), 0x8E);
-        assert_eq!(rt; split.mul(0x02), 0x01);
-        assert_eq!(rt; split.mul(0x10), 0x08);
-        assert_eq!(rt; Split::of(0xF4).mul(0x03), 0x01);
-        Ok(())
-    }
-
-    #[test]
-    fn split_products_are_products(rt: HostRuntime) -> Result<(), Fail> {
-        for coef in 0..=255u8 {
-            let split = Split::of(coef);
-            for b in 0..=255u8 {
-                assert_eq!(rt; split.mul(b), crate::mul(coef, b));
-            }
-        }
-        Ok(())
-    }
-}

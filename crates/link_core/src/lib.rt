@@ -97,26 +97,3 @@ impl<M: Drop> Links<M> {
         self.links[to as usize].is_empty()
     }
 }
-
-#[cfg(test)]
-mod tests {
-    use super::*;
-    use std::test::Fail;
-
-    #[test]
-    fn keeps_the_order_of_each_target(rt: HostRuntime) -> Result<(), Fail> {
-        let mut links = Links::new(rt.alloc(), 2)?;
-        links.reserve(3)?;
-        links.send(1, 7u32);
-        links.send(1, 8);
-        links.send(0, 9);
-        links.send(1, 10);
-        assert_eq!(rt; links.peek(1), Some(&7));
-        assert_eq!(rt; links.pop(1), Some(7));
-        links.cut(1, 1);
-        assert_eq!(rt; links.pop(1), Some(8));
-        assert_eq!(rt; links.pop(1), None);
-        assert_eq!(rt; (links.is_empty(0), links.is_empty(1)), (false, true));
-        Ok(())
-    }
-}

@@ -134,26 +134,3 @@ fn count(words: &[bool]) -> u32
     }
     dead
 }
-
-#[cfg(test)]
-mod tests {
-    use super::*;
-    use std::test::Fail;
-
-    #[test]
-    fn the_next_rank_heads_a_lost_partition(rt: HostRuntime) -> Result<(), Fail> {
-        let mut members = Members::new(Shape::new(2, 2, 4, 16)?);
-        let lost = ProcessId::DataNode(1);
-        assert_eq!(rt; members.head_of(Partition(1)), Some(lost));
-        assert_eq!(rt; members.is_dead(lost), false);
-        assert_eq!(rt; members.fail(lost), Ok(()));
-        assert_eq!(rt; members.fail(lost), Err(AlreadyDead));
-        assert_eq!(rt; members.is_dead(lost), true);
-        assert_eq!(rt;
-            members.head_of(Partition(1)),
-            Some(ProcessId::ParityNode(0))
-        );
-        assert_eq!(rt; (members.lost(), members.is_down()), (1, false));
-        Ok(())
-    }
-}

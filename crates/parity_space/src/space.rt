@@ -122,70 +122,16 @@ fn coefs_of(alloc: Global, shape: Shape, number: u32) -> Result<Vec<Split>, Allo
     Ok(coefs)
 }
 
-#[cfg(test)]
-mod tests {
-    use super::*;
-    use group_message::Outcome;
-    use group_types::{Key, Payload};
-    use std::test::Fail;
-
-    #[test]
-    fn adds_the_product_across_the_ends_of_pages(rt: HostRuntime) -> Result<(), Fail> {
-        let Ok(shape) = Shape::new(2, 2, 4, 16) else {
-            return Err(AllocError)?;
-        };
-        let mut space = ParitySpace::new(rt.alloc(), shape, 1)?;
-        let run = Run { at: 14, len: 20 };
-        let delta = Payload::of(rt.alloc(), &[1; 20])?;
-        space.reserve(run)?;
-        let put = Body::Put {
-            flags: 0,
-            until: None,
-            run,
-            delta,
-        };
-        space.apply(Partition(0), &update(rt.alloc(), put)?);
-        space.apply(Partition(0), &update(rt.alloc(), Body::Remove)?);
-        // The inverse of 1 + (2 + 0) is 0xF4.
-        for byte in space.range(run)?.bytes() {
-            assert_eq!(rt; *byte, 0xF4);
-        }
-        let mut read = [9u8; 2];
-        space.read_into(Run { at: 13, len: 2 }, &mut read);
-        assert_eq!(rt; read, [0, 0xF4]);
-        Ok(())
-    }
-
-    #[test]
-    fn keeps_no_value_beside_its_bytes(rt: HostRuntime) -> Result<(), Fail> {
-        let Ok(shape) = Shape::new(1, 1, 1, 16) else {
-            return Err(AllocError)?;
-        };
-        let ParitySpace {
-            shape,
-            number,
-            coefs,
-            pages,
-        } = ParitySpace::new(rt.alloc(), shape, 0)?;
-        let _: Shape = shape;
-        let _: u32 = number;
-        let _: Vec<Split> = coefs;
-        let _: Pages = pages;
-        Ok(())
-    }
-
-    fn update(alloc: Global, body: Body) -> Result<Update, Fail>
-        ensures { IfOk result (λ update. update.body ≡ body) }
-    {
-        let key = Key::read(alloc, b"g").map_err(|_| AllocError)?;
-        Ok(Update {
-            number: 1,
-            caller: 0,
-            call: 1,
-            key,
-            body,
-            frees: None,
-            outcome: Outcome::Stored,
-        })
-    }
+// Tests that no value is kept beside these parts: a further field, or one of another type, does not compile.
+fn keeps_no_value_beside_its_parts(space: &ParitySpace) {
+    let ParitySpace {
+        shape,
+        number,
+        coefs,
+        pages,
+    } = space;
+    let _: &Shape = shape;
+    let _: &u32 = number;
+    let _: &Vec<Split> = coefs;
+    let _: &Pages = pages;
 }

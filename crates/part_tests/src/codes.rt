@@ -3,35 +3,29 @@ ghost use Rattle.std.specs.Prelude.{◌≡◌, ◌<◌, ◌≤◌, All, IfOk, le
 ghost use Rattle.group_types.specs.Pieces.{numbers_of};
 ghost use Rattle.erasure_code.specs.Columns.{AreDifferent, IsEachBelow};
 
+use crate::fixtures::{same, shape};
 use cauchy_code::{add_columns, add_delta, decode};
 use group_types::{PieceList, Shape};
 use std::alloc::{AllocError, Global};
-use std::test::Fail;
 
 #[test]
-fn three_bytes_in_two_parity_processes(rt: HostRuntime) -> Result<(), Fail> {
-    let mut p0 = [0u8];
-    let mut p1 = [0u8];
-    for (d, byte) in [(0, 0x01), (1, 0x02), (2, 0x03)] {
-        add_delta(2, 0, d, &[byte], &mut p0);
-        add_delta(2, 1, d, &[byte], &mut p1);
+fn three_bytes_in_two_parity_processes(rt: HostRuntime) {
+    let (mut p0, mut p1) = ([0u8], [0u8]);
+    for d in 0..3u32 {
+        let byte = [d as u8 + 1];
+        add_delta(2, 0, d, &byte, &mut p0);
+        add_delta(2, 1, d, &byte, &mut p1);
     }
-    assert_eq!(rt; p0, [0xB2]);
-    assert_eq!(rt; p1, [0x01]);
-    Ok(())
+    same(&rt, (p0, p1), ([0xB2], [0x01]));
 }
 
+// The first bytes of the columns are 1, 2 and 3.
 #[test]
-fn three_columns_in_two_parity_processes(rt: HostRuntime) -> Result<(), Fail> {
-    let mut columns = PieceList::new(rt.alloc(), &[0, 1, 2], 1)?;
-    columns.piece_mut(0)[0] = 1;
-    columns.piece_mut(1)[0] = 2;
-    columns.piece_mut(2)[0] = 3;
-    let mut p0 = [0u8];
-    let mut p1 = [0u8];
+fn three_columns_in_two_parity_processes(rt: HostRuntime) {
+    let columns = data(rt.alloc(), &[0, 1, 2]).expect(&rt, "columns");
+    let (mut p0, mut p1) = ([0u8; 16], [0u8; 16]);
     add_columns(2, 0, 1, &columns, &mut p0, &mut p1);
-    assert_eq!(rt; (p0[0], p1[0]), (0xB2, 0x01));
-    Ok(())
+    same(&rt, (p0[0], p1[0]), (0xB2, 0x01));
 }
 
 // The column of partition `d`, whose first byte is d + 1.
@@ -114,21 +108,27 @@ fn order(choice: u8) -> [u32; 4]
 }
 
 #[test]
-fn two_of_three_columns_from_both_rows(rt: HostRuntime) -> Result<(), Fail> {
-    let shape = Shape::new(3, 2, 1, 16)?;
-    assert!(rt; decodes(rt.alloc(), shape, &[0, 1, 2], 2, &[0, 1])?);
-    Ok(())
+fn two_of_three_columns_from_both_rows(rt: HostRuntime) {
+    let shape = shape(&rt, 3, 2, 1);
+    same(
+        &rt,
+        decodes(rt.alloc(), shape, &[0, 1, 2], 2, &[0, 1]),
+        Ok(true),
+    );
 }
 
 #[test]
-fn all_choices_of_columns_and_rows(rt: HostRuntime) -> Result<(), Fail> {
-    let shape = Shape::new(4, 4, 1, 16)?;
+fn all_choices_of_columns_and_rows(rt: HostRuntime) {
+    let shape = shape(&rt, 4, 4, 1);
     for lost in 0..6 {
         for rows in 0..6 {
             for f in 1..=4 {
-                assert!(rt; decodes(rt.alloc(), shape, &order(lost), f, &order(rows)[..f])?);
+                same(
+                    &rt,
+                    decodes(rt.alloc(), shape, &order(lost), f, &order(rows)[..f]),
+                    Ok(true),
+                );
             }
         }
     }
-    Ok(())
 }

@@ -1,8 +1,9 @@
 // An index over keys.
+use crate::fixtures::{key, same};
 use group_types::Key;
 use item_index::{Index, Slot};
 use std::alloc::{AllocError, Global};
-use std::test::Fail;
+use std::process::Abort;
 
 const SLOT: Slot = Slot {
     at: 3,
@@ -20,10 +21,6 @@ const LASTING: Slot = Slot {
     until: None,
 };
 
-fn keys(alloc: Global) -> Result<(Key, Key), Fail> {
-    Ok((Key::read(alloc, b"a")?, Key::read(alloc, b"b")?))
-}
-
 // Both keys have entries, and that of the first was put twice.
 fn both(alloc: Global, first: &Key, second: &Key) -> Result<Index<Key>, AllocError> {
     let mut index = Index::new(alloc);
@@ -35,30 +32,33 @@ fn both(alloc: Global, first: &Key, second: &Key) -> Result<Index<Key>, AllocErr
     Ok(index)
 }
 
-#[test]
-fn gives_the_entry_put_last(rt: HostRuntime) -> Result<(), Fail> {
-    let (first, second) = keys(rt.alloc())?;
-    let index = both(rt.alloc(), &first, &second)?;
-    assert_eq!(rt; index.get(&first), Some(&LASTING));
-    assert_eq!(rt; index.get(&second), Some(&SLOT));
-    Ok(())
+// The entries of both keys, how many are counted, and how many are listed.
+fn shows(
+    rt: &impl Abort,
+    index: &Index<Key>,
+    keys: [&Key; 2],
+    entries: [Option<Slot>; 2],
+    count: usize,
+) {
+    let found = [index.get(keys[0]).copied(), index.get(keys[1]).copied()];
+    same(rt, found, entries);
+    let listed = index.entries().expect(rt, "entries").as_slice().len();
+    same(rt, (index.count(), listed), (count, count));
 }
 
 #[test]
-fn lists_each_entry_once(rt: HostRuntime) -> Result<(), Fail> {
-    let (first, second) = keys(rt.alloc())?;
-    let index = both(rt.alloc(), &first, &second)?;
-    assert_eq!(rt; index.entries()?.as_slice().len(), 2);
-    Ok(())
-}
-
-#[test]
-fn an_entry_that_is_removed_is_gone(rt: HostRuntime) -> Result<(), Fail> {
-    let (first, second) = keys(rt.alloc())?;
-    let mut index = both(rt.alloc(), &first, &second)?;
+fn keeps_the_entry_put_last_until_it_is_removed(rt: HostRuntime) {
+    let first = key(&rt, rt.alloc(), b"a");
+    let second = key(&rt, rt.alloc(), b"b");
+    let mut index = both(rt.alloc(), &first, &second).expect(&rt, "an index");
+    shows(
+        &rt,
+        &index,
+        [&first, &second],
+        [Some(LASTING), Some(SLOT)],
+        2,
+    );
     index.remove(&first);
     index.tidy(&first);
-    assert_eq!(rt; index.get(&first), None);
-    assert_eq!(rt; index.count(), 1);
-    Ok(())
+    shows(&rt, &index, [&first, &second], [None, Some(SLOT)], 1);
 }

@@ -1,11 +1,11 @@
 // Updates that a replica receives, settles and adopts.
+use crate::fixtures::{key, same};
 use group_message::Kept;
 use group_types::{Key, Run};
 use item_index::Slot;
 use partition_replica::Replica;
 use std::alloc::Global;
 use std::process::Abort;
-use std::test::Fail;
 use steps::{Step, adopted, empty, receive};
 
 mod steps;
@@ -22,40 +22,32 @@ struct Expected {
 }
 
 #[test]
-fn settles_each_kind_of_update(rt: HostRuntime) -> Result<(), Fail> {
-    let mut replica = empty(rt.alloc())?;
-    let key = Key::read(rt.alloc(), b"a")?;
+fn settles_each_kind_of_update(rt: HostRuntime) {
+    let mut replica = empty(&rt, rt.alloc());
+    let key = key(&rt, rt.alloc(), b"a");
     for row in rows() {
-        settles(&rt, rt.alloc(), &mut replica, &key, row)?;
+        settles(&rt, rt.alloc(), &mut replica, &key, row);
     }
-    Ok(())
 }
 
 #[test]
-fn adopts_another_update_on_the_same_addresses(rt: HostRuntime) -> Result<(), Fail> {
-    let a = Key::read(rt.alloc(), b"a")?;
-    let b = Key::read(rt.alloc(), b"b")?;
-    let mut replica = adopted(&rt, rt.alloc(), &a, &b)?;
-    assert_eq!(rt; replica.waiting()?.updates().len(), 1);
+fn adopts_another_update_on_the_same_addresses(rt: HostRuntime) {
+    let a = key(&rt, rt.alloc(), b"a");
+    let b = key(&rt, rt.alloc(), b"b");
+    let mut replica = adopted(&rt, rt.alloc(), &a, &b);
     shows_adopted(&rt, &mut replica, &a, &b);
-    Ok(())
 }
 
 fn shows_adopted(rt: &impl Abort, replica: &mut Replica, a: &Key, b: &Key) {
     let rest = run(6, 10);
-    assert_eq!(rt; replica.last(), 1);
+    let waiting = replica.waiting().expect(rt, "a list").updates().len();
+    same(rt, (waiting, replica.last()), (1, 1));
     shows(rt, replica, a, 41, (None, None, false), rest);
     shows(rt, replica, b, 43, (None, Some(1), true), rest);
     replica.settle_next();
+    let item = Some(slot(0, 6, 1, None));
     shows(rt, replica, a, 41, (None, None, false), rest);
-    shows(
-        rt,
-        replica,
-        b,
-        43,
-        (Some(slot(0, 6, 1, None)), None, false),
-        rest,
-    );
+    shows(rt, replica, b, 43, (item, None, false), rest);
 }
 
 fn rows() -> [Expected; 5] {
@@ -128,41 +120,20 @@ fn slot(at: u32, len: u32, cas: u64, until: Option<u64>) -> Slot {
     }
 }
 
-fn settles(
-    rt: &impl Abort,
-    alloc: Global,
-    replica: &mut Replica,
-    key: &Key,
-    row: Expected,
-) -> Result<(), Fail> {
+fn settles(rt: &impl Abort, alloc: Global, replica: &mut Replica, key: &Key, row: Expected) {
     let before = replica.item(key).copied();
-    let outcome = receive(rt, alloc, replica, key, row.call, row.step)?;
-    shows(
-        rt,
-        replica,
-        key,
-        row.call,
-        (before, Some(row.number), true),
-        row.waiting,
-    );
+    let outcome = receive(rt, alloc, replica, key, row.call, row.step);
+    let waiting = (before, Some(row.number), true);
+    shows(rt, replica, key, row.call, waiting, row.waiting);
     replica.settle_next();
     replica.tidy(key);
-    shows(
-        rt,
-        replica,
-        key,
-        row.call,
-        (row.item, None, false),
-        row.settled,
-    );
-    assert_eq!(rt;
-        replica.kept(3),
-        Some(Kept {
-            call: row.call,
-            outcome,
-        })
-    );
-    Ok(())
+    let settled = (row.item, None, false);
+    shows(rt, replica, key, row.call, settled, row.settled);
+    let kept = Kept {
+        call: row.call,
+        outcome,
+    };
+    same(rt, replica.kept(3), Some(kept));
 }
 
 // The settled item, the number of the waiting update, and whether the call's update waits; and the
@@ -172,12 +143,20 @@ fn shows(
     replica: &Replica,
     key: &Key,
     call: u64,
-    found: (Option<Slot>, Option<u64>, bool),
-    longest: Run,
+    wanted: (Option<Slot>, Option<u64>, bool),
+    run: Run,
 ) {
-    assert_eq!(rt; replica.item(key).copied(), found.0);
-    assert_eq!(rt; replica.unfinished(key), found.1);
-    assert_eq!(rt; replica.waits(3, call), found.2);
-    let place = (1..=16u32).rev().find_map(|len| replica.place(len));
-    assert_eq!(rt; place, Some(longest));
+    let item = replica.item(key).copied();
+    let found = (item, replica.unfinished(key), replica.waits(3, call));
+    same(rt, found, wanted);
+    same(rt, longest(replica), Some(run));
+}
+
+fn longest(replica: &Replica) -> Option<Run> {
+    for len in (1..=16u32).rev() {
+        if let Some(run) = replica.place(len) {
+            return Some(run);
+        }
+    }
+    None
 }

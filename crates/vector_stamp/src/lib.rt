@@ -100,22 +100,3 @@ impl From<Vec<u64>> for Stamp {
         Stamp { numbers }
     }
 }
-
-#[cfg(test)]
-mod tests {
-    use super::*;
-    use std::test::Fail;
-
-    #[test]
-    fn compares_number_by_number(rt: HostRuntime) -> Result<(), Fail> {
-        let mut stamp = Stamp::zero(rt.alloc(), 2)?;
-        let before = stamp.copy()?;
-        stamp.raise(1, 7);
-        assert_eq!(rt; (stamp.at(0), stamp.at(1), stamp.least()), (0, 7, 0));
-        assert_eq!(rt;
-            (stamp.covers(&before), before.covers(&stamp)),
-            (true, false)
-        );
-        Ok(())
-    }
-}

@@ -1,10 +1,9 @@
 // A stream of all kinds, cut at each byte and written again.
-use crate::streams::{FRAMES, STREAM};
-use std::test::Fail;
-use wire_codec::{
-    DecodeFault, Decoder, MessageList, encode, encode_around, has_frame, kind_of, spelled_length,
-    value_of,
-};
+use crate::streams::{FRAMES, STREAM, fed, same};
+use group_message::Message;
+use std::alloc::Global;
+use std::process::Abort;
+use wire_codec::{Decoder, encode, encode_around, has_frame, kind_of, spelled_length, value_of};
 
 // How many frames end within the first bytes.
 fn whole_within(bytes: usize) -> usize {
@@ -17,23 +16,15 @@ fn whole_within(bytes: usize) -> usize {
     count
 }
 
-fn fed(decoder: &mut Decoder, piece: &[u8]) -> Result<MessageList, DecodeFault> {
-    if !decoder.takes(piece.len()) {
-        return Err(DecodeFault::Want);
-    }
-    decoder.feed(piece)
-}
-
 #[test]
 fn each_prefix_gives_its_whole_frames(rt: HostRuntime) {
     'cuts: for cut in 0..=STREAM.len() {
         let (front, rest) = STREAM.split_at(cut);
         let mut decoder = Decoder::new(rt.alloc());
-        let first = fed(&mut decoder, front).map(|list| list.messages().len());
-        assert_eq!(rt; first, Ok(whole_within(cut)));
-        let second = fed(&mut decoder, rest).map(|list| list.messages().len());
-        assert_eq!(rt; second, Ok(10 - whole_within(cut).min(10)));
-        assert!(rt; decoder.at_start());
+        let given = (fed(&mut decoder, front), fed(&mut decoder, rest));
+        let whole = whole_within(cut);
+        same(&rt, given, (Ok(whole), Ok(10 - whole.min(10))));
+        same(&rt, decoder.at_start(), true);
     }
 }
 
@@ -43,33 +34,45 @@ fn a_byte_at_a_time(rt: HostRuntime) {
     let mut given = 0usize;
     'bytes: for byte in STREAM {
         match fed(&mut decoder, &[byte]) {
-            Ok(list) => given = given.saturating_add(list.messages().len()),
+            Ok(count) => given = given.saturating_add(count),
             Err(_) => break 'bytes,
         }
     }
-    assert_eq!(rt; given, 10);
+    same(&rt, given, 10);
 }
 
 #[test]
-fn messages_are_written_as_they_were_read(rt: HostRuntime) -> Result<(), Fail> {
+fn messages_are_written_as_they_were_read(rt: HostRuntime) {
     let mut decoder = Decoder::new(rt.alloc());
-    let list = fed(&mut decoder, &STREAM)
-        .ok()
-        .ok_or("a stream of messages")?;
+    assert!(rt; decoder.takes(STREAM.len()));
+    let list = decoder.feed(&STREAM).expect(&rt, "a stream of messages");
     let mut begin = 0;
     'messages: for (message, (kind, length, end)) in list.messages().iter().zip(FRAMES) {
-        assert_eq!(rt; kind_of(message), kind);
-        assert!(rt; has_frame(message));
-        if has_frame(message) && begin <= end && end <= STREAM.len() {
-            assert_eq!(rt; spelled_length(message), length);
-            assert_eq!(rt; encode(rt.alloc(), message)?.bytes(), &STREAM[begin..end]);
-            let around = encode_around(rt.alloc(), message)?;
-            let mut joined = Vec::from_slice(rt.alloc(), around.before.bytes())?;
-            joined.extend_from_slice(value_of(message))?;
-            joined.extend_from_slice(around.behind.bytes())?;
-            assert_eq!(rt; joined.as_slice(), &STREAM[begin..end]);
-        }
+        assert!(rt; has_frame(message) && begin <= end && end <= STREAM.len());
+        same(
+            &rt,
+            (kind_of(message), spelled_length(message)),
+            (kind, length),
+        );
+        is_spelled(&rt, rt.alloc(), message, &STREAM[begin..end]);
+        is_spelled_around(&rt, rt.alloc(), message, &STREAM[begin..end]);
         begin = end;
     }
-    Ok(())
+}
+
+fn is_spelled(rt: &impl Abort, alloc: Global, message: &Message, bytes: &[u8]) {
+    assert!(rt; has_frame(message));
+    let frame = encode(alloc, message).expect(rt, "a frame");
+    same(rt, frame.bytes(), bytes);
+}
+
+// What stands before and behind the value.
+fn is_spelled_around(rt: &impl Abort, alloc: Global, message: &Message, bytes: &[u8]) {
+    assert!(rt; has_frame(message));
+    let around = encode_around(alloc, message).expect(rt, "a frame around its value");
+    let rest = bytes
+        .strip_prefix(around.before.bytes())
+        .expect(rt, "what stands before");
+    let rest = rest.strip_prefix(value_of(message)).expect(rt, "the value");
+    same(rt, around.behind.bytes(), rest);
 }

@@ -1,4 +1,20 @@
 // Streams of frames, and frames that are no spelling, as an independent model of the frames tells them.
+use std::fmt::Debug;
+use std::process::Abort;
+use wire_codec::{DecodeFault, Decoder};
+
+/// Stops where what is found isn't what is wanted.
+pub(crate) fn same<T: Copy + PartialEq + Debug>(rt: &impl Abort, found: T, wanted: T) {
+    assert_eq!(rt; found, wanted);
+}
+
+/// How many messages a piece gives.
+pub(crate) fn fed(decoder: &mut Decoder, piece: &[u8]) -> Result<usize, DecodeFault> {
+    if !decoder.takes(piece.len()) {
+        return Err(DecodeFault::Want);
+    }
+    Ok(decoder.feed(piece)?.messages().len())
+}
 
 /// One frame of each of the ten kinds, in the order of the kinds.
 pub(crate) const STREAM: [u8; 643] = [

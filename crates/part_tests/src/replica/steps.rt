@@ -1,5 +1,5 @@
 // Updates of one caller, received and adopted.
-ghost use Rattle.std.specs.Prelude.{◌≡◌, ℕ, ◌+◌, ◌≤◌, [], Some, IfOk, IfSome};
+ghost use Rattle.std.specs.Prelude.{◌≡◌, ℕ, ◌+◌, ◌≤◌, [], ◌∷◌, Some, IfSome};
 ghost use Rattle.group_types.specs.Dimensions.{space_of};
 ghost use Rattle.run_alloc.specs.Free.{AllFree};
 ghost use Rattle.group_run.specs.Free.{is_free};
@@ -7,12 +7,12 @@ ghost use Rattle.group_run.specs.Replica.{empty_replica, run_of, slot_in, with_l
 ghost use Rattle.group_run.specs.Replica.{freed_by};
 ghost use Rattle.group_run.specs.Fitting.{Writes};
 
+use crate::fixtures::shape;
 use group_message::{Body, Outcome, Update, UpdateList};
-use group_types::{Key, Payload, Run, Shape};
+use group_types::{Key, Payload, Run};
 use partition_replica::Replica;
-use std::alloc::{AllocError, Global};
+use std::alloc::Global;
 use std::process::Abort;
-use std::test::Fail;
 
 // What is done to the item.
 #[derive(Clone, Copy)]
@@ -22,41 +22,42 @@ pub(super) enum Step {
     Delete,
 }
 
-pub(super) fn empty(alloc: Global) -> Result<Replica, Fail>
-    ensures space { IfOk result (λ r. space_of r.shape ≡ 16) }
-    ensures replica { IfOk result (λ r. r.replica ≡ empty_replica) }
+pub(super) fn empty(rt: &impl Abort, alloc: Global) -> Replica
+    ensures space { space_of result.shape ≡ 16 }
+    ensures replica { result.replica ≡ empty_replica }
 {
-    let shape = Shape::new(1, 0, 1, 16)?;
-    Ok(Replica::new(alloc, shape)?)
+    let shape = shape(rt, 1, 0, 1);
+    Replica::new(alloc, shape).expect(rt, "a replica")
 }
 
 // The body and the outcome of a step. A value gets the place of its length.
-fn body(alloc: Global, replica: &Replica, step: Step) -> Result<(Body, Outcome), Fail>
-    ensures writes { IfOk result (λ b. Writes (space_of replica.now.shape) b.0) }
-    ensures free { IfOk result (λ b. IfSome (run_of b.0)
-        (λ run. AllFree (is_free (space_of replica.now.shape) replica.now.replica) run.at run.len)) }
+fn body(rt: &impl Abort, alloc: Global, replica: &Replica, step: Step) -> (Body, Outcome)
+    ensures writes { Writes (space_of replica.now.shape) result.0 }
+    ensures free { IfSome (run_of result.0)
+        (λ run. AllFree (is_free (space_of replica.now.shape) replica.now.replica) run.at run.len) }
 {
     match step {
         Step::Put(len) => {
-            let run = replica.place(len).ok_or("no place")?;
-            Ok((put(alloc, run)?, Outcome::Stored))
+            let run = replica.place(len).expect(rt, "a place");
+            (put(rt, alloc, run), Outcome::Stored)
         }
-        Step::Touch(until) => Ok((Body::Touch { until: Some(until) }, Outcome::Touched)),
-        Step::Delete => Ok((Body::Remove, Outcome::Deleted)),
+        Step::Touch(until) => (Body::Touch { until: Some(until) }, Outcome::Touched),
+        Step::Delete => (Body::Remove, Outcome::Deleted),
     }
 }
 
-fn put(alloc: Global, run: Run) -> Result<Body, AllocError>
-    ensures run { IfOk result (λ body. run_of body ≡ Some run) }
-    ensures writes { (space : ℕ) → run.at + run.len ≤ space → IfOk result (λ body. Writes space body) }
+fn put(rt: &impl Abort, alloc: Global, run: Run) -> Body
+    ensures run { run_of result ≡ Some run }
+    ensures writes { (space : ℕ) → run.at + run.len ≤ space → Writes space result }
 {
-    let delta = Payload::from_vec(vec![in alloc; 7u8; run.len as usize]?)?;
-    Ok(Body::Put {
+    let bytes = vec![in alloc; 7u8; run.len as usize].expect(rt, "bytes");
+    let delta = Payload::from_vec(bytes).expect(rt, "a payload");
+    Body::Put {
         flags: 5,
         until: None,
         run,
         delta,
-    })
+    }
 }
 
 // Reserves and receives the update of a step. The log has to be empty.
@@ -67,13 +68,13 @@ pub(super) fn receive(
     key: &Key,
     call: u64,
     step: Step,
-) -> Result<Outcome, Fail>
+) -> Outcome
     ensures shape { replica.new.shape ≡ replica.old.shape }
     ensures settled { with_log [] replica.new.replica ≡ with_log [] replica.old.replica }
 {
-    let (body, outcome) = body(alloc, replica, step)?;
-    receive_next(rt, replica, key, call, body, outcome)?;
-    Ok(outcome)
+    let (body, outcome) = body(rt, alloc, replica, step);
+    receive_next(rt, replica, key, call, body, outcome);
+    outcome
 }
 
 fn receive_next(
@@ -83,7 +84,7 @@ fn receive_next(
     call: u64,
     body: Body,
     outcome: Outcome,
-) -> Result<(), AllocError>
+)
     requires writes { Writes (space_of replica.old.shape) body }
     requires free { IfSome (run_of body) (λ run. AllFree (is_free (space_of replica.old.shape) replica.old.replica) run.at run.len) }
     ensures shape { replica.new.shape ≡ replica.old.shape }
@@ -95,27 +96,21 @@ fn receive_next(
         number: last + 1,
         caller: 3,
         call,
-        key: key.clone()?,
+        key: key.clone().expect(rt, "a key"),
         frees: freed(replica, key, &body),
         body,
         outcome,
     };
-    replica.reserve(&update)?;
+    replica.reserve(&update).expect(rt, "room");
     replica.receive(update);
-    Ok(())
 }
 
 // A replica that received an update on the one key, and adopted one on the other.
-pub(super) fn adopted(
-    rt: &impl Abort,
-    alloc: Global,
-    one: &Key,
-    other: &Key,
-) -> Result<Replica, Fail> {
-    let mut replica = empty(alloc)?;
-    receive(rt, alloc, &mut replica, one, 41, Step::Put(6))?;
-    adopt(alloc, &mut replica, other)?;
-    Ok(replica)
+pub(super) fn adopted(rt: &impl Abort, alloc: Global, one: &Key, other: &Key) -> Replica {
+    let mut replica = empty(rt, alloc);
+    receive(rt, alloc, &mut replica, one, 41, Step::Put(6));
+    adopt(rt, alloc, &mut replica, other);
+    replica
 }
 
 // The run that an update frees where the log is empty.
@@ -132,7 +127,7 @@ fn freed(replica: &Replica, key: &Key, body: &Body) -> Option<Run>
 }
 
 // Adopts a put of 6 bytes at 0 as the first update, where nothing is settled.
-fn adopt(alloc: Global, replica: &mut Replica, key: &Key) -> Result<(), AllocError>
+fn adopt(rt: &impl Abort, alloc: Global, replica: &mut Replica, key: &Key)
     requires space { space_of replica.old.shape ≡ 16 }
     requires start { with_log [] replica.old.replica ≡ empty_replica }
 {
@@ -140,13 +135,18 @@ fn adopt(alloc: Global, replica: &mut Replica, key: &Key) -> Result<(), AllocErr
         number: 1,
         caller: 3,
         call: 43,
-        key: key.clone()?,
-        body: put(alloc, Run { at: 0, len: 6 })?,
+        key: key.clone().expect(rt, "a key"),
+        body: put(rt, alloc, Run { at: 0, len: 6 }),
         frees: None,
         outcome: Outcome::Stored,
     };
-    let list = UpdateList::from(vec![in alloc; update]?);
-    replica.reserve_list(&list)?;
+    let list = list_of(rt, alloc, update);
+    replica.reserve_list(&list).expect(rt, "room");
     replica.adopt(0, list);
-    Ok(())
+}
+
+fn list_of(rt: &impl Abort, alloc: Global, update: Update) -> UpdateList
+    ensures { result ≡ update ∷ [] }
+{
+    UpdateList::from(vec![in alloc; update].expect(rt, "a list"))
 }

@@ -19,11 +19,11 @@ free_at_start space at len inside a from to =
     search (rules, below)
 
 pub adopt-requires-clause-fits : goal.adopt-requires-clause-fits
-adopt-requires-clause-fits c =
-    rw (c.reserve_list.ensures.shape, c.reserve_list.ensures.replica, c.requires.space, c.from-list.ensures, c.in_ok-vec.ensures.items)
+adopt-requires-clause-fits g c =
+    rw (c.reserve_list.ensures.shape, c.reserve_list.ensures.replica, c.requires.space, c.list_of-list.ensures)
     (first_comes 16 c.args.replica.now.replica _ c.requires.start (record {
       caller = omega arith;
-      writes = c.in_ok-put.ensures.writes 16 (omega arith);
-      free = rw c.in_ok-put.ensures.run (free_at_start 16 0 6 (omega arith));
+      writes = c.put.ensures.writes 16 (omega arith);
+      free = rw c.put.ensures.run (free_at_start 16 0 6 (omega arith));
       frees = search rules;
     }))

@@ -1,5 +1,5 @@
 use Rattle.std.proofs.Common.{◌≡◌, ◌<◌, ◌+◌, ℕ, length, get_or}
-use Rattle.field_matrix.proofs.square.tests.bytes_from.Given as goal
+use Rattle.part_tests.proofs.squares.bytes_from.Given as goal
 
 abbrev pub invariant-bytes : goal.invariant-bytes
 invariant-bytes g l = record {
