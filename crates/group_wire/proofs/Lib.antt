@@ -1,0 +1,5 @@
+pub mod Barrier
+pub mod Changes
+pub mod Counting
+pub mod Honest
+pub mod Signs

@@ -1,0 +1,7 @@
+pub mod Sets
+pub mod State
+pub mod Actions
+pub mod Stepping
+pub mod May
+pub mod Composed
+pub mod Laws
