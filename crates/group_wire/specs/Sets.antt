@@ -1,5 +1,5 @@
--- Sets of processes, and functions of processes that are changed at one place.
-use Rattle.std.specs.Prelude.{ℕ, ◌≡◌, ◌+◌, ◌==◌, ◌||◌, Bool, true, false, map}
+-- Sets of processes, functions of processes that are changed at one place, and lists of which one entry is taken.
+use Rattle.std.specs.Prelude.{ℕ, zero, suc, ◌≡◌, ◌+◌, ◌==◌, ◌||◌, Bool, true, false, List, [], ◌∷◌, map, Option, Some, None}
 use Rattle.std.specs.List.{range_with_len}
 use Rattle.group_types.specs.Dimensions.{Dimensions}
 use Rattle.group_types.specs.Names.{process_at, same_process}
@@ -46,3 +46,14 @@ changed_at f n x i = one_or (i == n) x (f i)
 -- a set with one process more
 abbrev pub with_one : Processes → ProcessId → Processes
 with_one set p = changed set p true
+
+-- the entry at a place of a list, and the list without it
+abbrev pub entry_at : {X : Type 0} → List X → ℕ → Option X
+entry_at [] n = None
+entry_at (x ∷ xs) zero = Some x
+entry_at (x ∷ xs) (suc n) = entry_at xs n
+
+abbrev pub without : {X : Type 0} → List X → ℕ → List X
+without [] n = []
+without (x ∷ xs) zero = xs
+without (x ∷ xs) (suc n) = x ∷ without xs n

@@ -1,6 +1,6 @@
 -- What each action makes of the group. What a member sends goes onto the wires to those that it hasn't cut, and is lost
 -- to the others.
-use Rattle.std.specs.Prelude.{ℕ, suc, ◌==◌, Bool, true, false, List, [], ◌∷◌, ◌++◌, take, drop, slice_get, Option, Some, None}
+use Rattle.std.specs.Prelude.{ℕ, suc, ◌==◌, Bool, true, false, List, [], ◌∷◌, ◌++◌, Option, Some, None}
 use Rattle.std.specs.List.{range_with_len}
 use Rattle.group_types.specs.Dimensions.{Dimensions}
 use Rattle.group_types.specs.Hash.{home_of}
@@ -19,7 +19,7 @@ use Rattle.group_run.specs.Process.{Process}
 use Rattle.group_run.specs.Receiving.{receive}
 use Rattle.group_run.specs.World.{flush_process, sent_to}
 use Rattle.group_wire.specs.Actions.{Action, Begin, Send, Read, Treat, Collect, Flush, Learn, Receive, GiveUp, Cut, Say, Hear, Permit, Take, Ping, Pong, Count, Show, Stop}
-use Rattle.group_wire.specs.Sets.{Processes, changed, changed_at, changed_from, either, one_or, with_one}
+use Rattle.group_wire.specs.Sets.{Processes, changed, changed_at, changed_from, either, entry_at, one_or, with_one, without}
 use Rattle.group_wire.specs.State.{Request, AskFor, TraceOf, Told, Stage, Unasked, AskedOf, Unknown, TracedAt, Answered, OpenCall, Words, Works, Gateways, Signs, Group, gateway_of}
 
 -- the wires after a frame was sent on one of them
@@ -68,7 +68,7 @@ works_received s cut x p (m ∷ rest) works = stepped cut p (receive s x m (work
 
 -- the request at a place among those that a member has read
 abbrev pub parked_at : Group → ProcessId → ℕ → Option Request
-parked_at g p place = slice_get (g.gateways.parked p) place
+parked_at g p place = entry_at (g.gateways.parked p) place
 
 -- the works after an action
 abbrev pub works_after : Group → Action → Works
@@ -125,7 +125,7 @@ tell g p (t ∷ ts) gateways = tell g p ts (record gateways { answers = sent_on 
 abbrev pub request_treated : Group → ProcessId → ℕ → Option Request → Gateways
 request_treated g p place None = g.gateways
 request_treated g p place (Some request) = tell g p (told_of request (treating g.shape request (g.works.process p)).answer)
-    (record g.gateways { parked = changed g.gateways.parked p (take place (g.gateways.parked p) ++ drop (suc place) (g.gateways.parked p)) })
+    (record g.gateways { parked = changed g.gateways.parked p (without (g.gateways.parked p) place) })
 
 -- what is handed out goes to the caller's gateway, once there is a reply
 abbrev pub handed_to : ℕ → ℕ → Answer → List Told
