@@ -141,10 +141,43 @@ pub record Placed (s : Dimensions) (cut : ProcessId → Processes) (failed : Pro
 
 module _ (s : Dimensions) (cut : ProcessId → Processes) (failed : Processes) (requests : ProcessId → ProcessId → List Request) (parked : ProcessId → List Request) (asked : ℕ → ℕ)
   (b : Placed s cut failed requests parked asked) where
-  -- a gateway sends a request; of a caller that it asks for there is no other
+  -- a gateway sends a request: only its caller waits for more, and only at the member that it is sent to
+  module _ (g x : ProcessId) (r : Request) where
+    abbrev pub with_sent : ProcessId → ProcessId → List Request
+    with_sent = changed_from requests g x (one_or (cut g x) (requests g x) (requests g x ++ r ∷ []))
+
+    Lane : ℕ → ProcessId → ProcessId → List Request → Type 0
+    Lane caller y z rs = (count_asks caller rs ≡ count_asks caller (requests y z)) ⊎ ((y ≡ g) × (z ≡ x) × (count_asks caller rs ≡ count_asks caller (requests y z) + is_ask caller r))
+
+    lane : (caller : ℕ) (y z : ProcessId) → Lane caller y z (with_sent y z)
+    unfolding Lane
+    lane caller = changed-pairs (Lane caller) requests g x (one_or (cut g x) (requests g x) (requests g x ++ r ∷ []))
+        (one_or-is (Lane caller g x) (cut g x) (requests g x) (requests g x ++ r ∷ []) (λ _. inl refl)
+        (λ _. inr (refl, refl, count-append caller (requests g x) (r ∷ []) ∙ last caller))) (λ y z. inl refl)
+      where
+        last : (caller : ℕ) → count_asks caller (requests g x) + (is_ask caller r + 0) ≡ count_asks caller (requests g x) + is_ask caller r
+        last caller = omega arith
+
+    pub sent-which : (caller : ℕ) (y : ProcessId) → (waits s cut with_sent parked caller y ≤ waits s cut requests parked caller y)
+        ⊎ ((y ≡ x) × (gateway_of s caller ≡ g) × (caller ≡ caller_in r) × (cut x g ≡ false) × (0 < is_ask caller r) × (waits s cut with_sent parked caller y ≤ waits s cut requests parked caller y + 1))
+    unfolding Lane
+    sent-which caller y = by (cut y (gateway_of s caller)) refl (lane caller (gateway_of s caller) y) (is_ask caller r) refl where
+      by : (shut : Bool) → cut y (gateway_of s caller) ≡ shut → Lane caller (gateway_of s caller) y (with_sent (gateway_of s caller) y) → (n : ℕ) → is_ask caller r ≡ n
+          → (one_or shut 0 (count_asks caller (with_sent (gateway_of s caller) y)) + count_asks caller (parked y) ≤ one_or shut 0 (count_asks caller (requests (gateway_of s caller) y)) + count_asks caller (parked y))
+          ⊎ ((y ≡ x) × (gateway_of s caller ≡ g) × (caller ≡ caller_in r) × (cut x g ≡ false) × (0 < is_ask caller r)
+          × (one_or shut 0 (count_asks caller (with_sent (gateway_of s caller) y)) + count_asks caller (parked y) ≤ one_or shut 0 (count_asks caller (requests (gateway_of s caller) y)) + count_asks caller (parked y) + 1))
+      by true is same n asks = inl (omega arith)
+      by false is (inl same) n asks = inl (omega (arith, same))
+      by false is (inr (at_g, at_x, more)) zero asks = inl (omega (arith, more, asks))
+      by false is (inr (at_g, at_x, more)) (suc n) asks =
+          let uncut : cut x g ≡ false = sym (λ i. cut (at_x i) (at_g i)) ∙ is in
+          let one : is_ask caller r ≤ 1 = is_ask-one caller r in
+          inr (at_x, at_g, asker caller r n asks, uncut, omega (arith, asks), omega (arith, more, one))
+
+  -- of a caller that it asks for there is no other
   pub placed-sent : (g x : ProcessId) (r : Request) → gateway_of s (caller_in r) ≡ g
-      → (Living s failed x → cut x g ≡ false → FitsAsked s asked r × ((caller : ℕ) → 0 < is_ask caller r → (z : ProcessId) → Living s failed z → waits s cut requests parked caller z ≡ 0))
-      → Placed s cut failed (changed_from requests g x (one_or (cut g x) (requests g x) (requests g x ++ r ∷ []))) parked asked
+      → (Living s failed x → cut x g ≡ false → FitsAsked s asked r × (0 < is_ask (caller_in r) r → (z : ProcessId) → Living s failed z → waits s cut requests parked (caller_in r) z ≡ 0))
+      → Placed s cut failed (with_sent g x r) parked asked
   placed-sent g x r mine may = record {
     owned = changed-pairs (λ y x rs. Each (λ r. gateway_of s (caller_in r) ≡ y) rs) requests g x row
         (one_or-is (Each (λ r. gateway_of s (caller_in r) ≡ g)) (cut g x) (requests g x) (requests g x ++ r ∷ []) (λ _. b.owned g x)
@@ -153,61 +186,30 @@ module _ (s : Dimensions) (cut : ProcessId → Processes) (failed : Processes) (
         (λ lives uncut. one_or-is (Each (FitsAsked s asked)) (cut g x) (requests g x) (requests g x ++ r ∷ []) (λ _. b.lanes g x lives uncut)
         (λ _. each-append (FitsAsked s asked) (requests g x) (r ∷ []) (b.lanes g x lives uncut) ((may lives uncut).0, tt))) b.lanes;
     parks = b.parks;
-    one = one-waits s failed (waits s cut requests parked) (waits s cut (changed_from requests g x row) parked) x which b.one;
+    one = one-waits s failed (waits s cut requests parked) (waits s cut (with_sent g x r) parked) x (λ caller y lives. which caller y lives (sent-which g x r caller y)) b.one;
   } where
     row : List Request
     row = one_or (cut g x) (requests g x) (requests g x ++ r ∷ [])
 
-    Lane : ℕ → ProcessId → ProcessId → List Request → Type 0
-    Lane caller y z rs = (count_asks caller rs ≡ count_asks caller (requests y z)) ⊎ ((y ≡ g) × (z ≡ x) × (count_asks caller rs ≡ count_asks caller (requests y z) + is_ask caller r))
-
-    lane : (caller : ℕ) (y z : ProcessId) → Lane caller y z (changed_from requests g x (one_or (cut g x) (requests g x) (requests g x ++ r ∷ [])) y z)
-    lane caller = changed-pairs (Lane caller) requests g x (one_or (cut g x) (requests g x) (requests g x ++ r ∷ []))
-        (one_or-is (Lane caller g x) (cut g x) (requests g x) (requests g x ++ r ∷ []) (λ _. inl refl)
-        (λ _. inr (refl, refl, count-append caller (requests g x) (r ∷ []) ∙ last caller))) (λ y z. inl refl)
-      where
-        last : (caller : ℕ) → count_asks caller (requests g x) + (is_ask caller r + 0) ≡ count_asks caller (requests g x) + is_ask caller r
-        last caller = omega arith
-
-    New : ℕ → ProcessId → ℕ → ℕ → Type 0
-    New caller y new old = (new ≤ old) ⊎ ((y ≡ x) × (new ≤ 1) × ((z : ProcessId) → Living s failed z → waits s cut requests parked caller z ≡ 0))
-
     which : (caller : ℕ) (y : ProcessId) → Living s failed y
-        → New caller y (waits s cut (changed_from requests g x (one_or (cut g x) (requests g x) (requests g x ++ r ∷ []))) parked caller y) (waits s cut requests parked caller y)
-    which caller y lives = by (cut y (gateway_of s caller)) refl (lane caller (gateway_of s caller) y) (is_ask caller r) refl (waits s cut requests parked caller y) refl where
-      by : (shut : Bool) → cut y (gateway_of s caller) ≡ shut → Lane caller (gateway_of s caller) y (changed_from requests g x (one_or (cut g x) (requests g x) (requests g x ++ r ∷ [])) (gateway_of s caller) y)
-          → (n : ℕ) → is_ask caller r ≡ n → (w : ℕ) → waits s cut requests parked caller y ≡ w
-          → New caller y (one_or shut 0 (count_asks caller (changed_from requests g x (one_or (cut g x) (requests g x) (requests g x ++ r ∷ [])) (gateway_of s caller) y)) + count_asks caller (parked y))
-          (one_or shut 0 (count_asks caller (requests (gateway_of s caller) y)) + count_asks caller (parked y))
-      by true is same n asks w was = inl (omega arith)
-      by false is (inl same) n asks w was = inl (omega (arith, same))
-      by false is (inr (at_g, at_x, more)) zero asks w was = inl (omega (arith, more, asks))
-      by false is (inr (at_g, at_x, more)) (suc n) asks w was =
-          let here : Living s failed x = subst (Living s failed) at_x lives in
-          let open_to : cut x g ≡ false = sym (λ i. cut (at_x i) (at_g i)) ∙ is in
-          let none : (z : ProcessId) → Living s failed z → waits s cut requests parked caller z ≡ 0 = (may here open_to).1 caller (omega (arith, asks)) in
-          let before : one_or false 0 (count_asks caller (requests (gateway_of s caller) y)) + count_asks caller (parked y) ≡ 0 =
-              ap (λ (shut : Bool). one_or shut 0 (count_asks caller (requests (gateway_of s caller) y)) + count_asks caller (parked y)) (sym is) ∙ none y lives in
-          let one : is_ask caller r ≤ 1 = is_ask-one caller r in
-          inr (at_x, omega (arith, more, before, one), none)
+        → (waits s cut (with_sent g x r) parked caller y ≤ waits s cut requests parked caller y)
+        ⊎ ((y ≡ x) × (gateway_of s caller ≡ g) × (caller ≡ caller_in r) × (cut x g ≡ false) × (0 < is_ask caller r) × (waits s cut (with_sent g x r) parked caller y ≤ waits s cut requests parked caller y + 1))
+        → (waits s cut (with_sent g x r) parked caller y ≤ waits s cut requests parked caller y) ⊎ ((y ≡ x) × (waits s cut (with_sent g x r) parked caller y ≤ 1) × ((z : ProcessId) → Living s failed z → waits s cut requests parked caller z ≡ 0))
+    which caller y lives (inl less) = inl less
+    which caller y lives (inr (at_x, at_g, its, uncut, asks, more)) =
+        let none : (z : ProcessId) → Living s failed z → waits s cut requests parked caller z ≡ 0 =
+            subst (λ (c : ℕ). (z : ProcessId) → Living s failed z → waits s cut requests parked c z ≡ 0) (sym its)
+            ((may (subst (Living s failed) at_x lives) uncut).1 (subst (λ (c : ℕ). 0 < is_ask c r) its asks)) in
+        let before = none y lives in
+        inr (at_x, omega (arith, more, before), none)
 
-  -- a member reads the first request of a wire
-  pub placed-read : (g p : ProcessId) (r : Request) (rest : List Request) → requests g p ≡ r ∷ rest → cut p g ≡ false
-      → Placed s cut failed (changed_from requests g p rest) (changed parked p (parked p ++ r ∷ [])) asked
-  placed-read g p r rest is uncut = record {
-    owned = changed-pairs (λ y x rs. Each (λ r. gateway_of s (caller_in r) ≡ y) rs) requests g p rest mine.1 b.owned;
-    lanes = changed-pairs (λ y x rs. Living s failed x → cut x y ≡ false → Each (FitsAsked s asked) rs) requests g p rest (λ lives _. (fit lives).1) b.lanes;
-    parks = changed-each (λ x rs. Living s failed x → Each (FitsAsked s asked) rs) parked p (parked p ++ r ∷ [])
-        (λ lives. each-append (FitsAsked s asked) (parked p) (r ∷ []) (b.parks p lives) ((fit lives).0, tt)) (λ x _. b.parks x);
-    one = fewer-wait s failed (waits s cut requests parked) (waits s cut (changed_from requests g p rest) (changed parked p (parked p ++ r ∷ []))) fewer b.one;
-  } where
+  -- what is read was waiting before
+  pub read-fewer : (g p : ProcessId) (r : Request) (rest : List Request) → requests g p ≡ r ∷ rest → cut p g ≡ false
+      → (caller : ℕ) (x : ProcessId) → waits s cut (changed_from requests g p rest) (changed parked p (parked p ++ r ∷ [])) caller x ≤ waits s cut requests parked caller x
+  read-fewer g p r rest is uncut = fewer where
     mine : Each (λ r. gateway_of s (caller_in r) ≡ g) (r ∷ rest)
     mine = subst (Each (λ r. gateway_of s (caller_in r) ≡ g)) is (b.owned g p)
 
-    fit : Living s failed p → Each (FitsAsked s asked) (r ∷ rest)
-    fit lives = subst (Each (FitsAsked s asked)) is (b.lanes g p lives uncut)
-
-    -- how many the wires and the members have
     Lane : ℕ → ProcessId → ProcessId → List Request → Type 0
     Lane caller y z rs = ((y ≢ g) ⊎ (z ≢ p)) × (count_asks caller rs ≡ count_asks caller (requests y z)) ⊎ ((y ≡ g) × (z ≡ p) × (count_asks caller (requests y z) ≡ is_ask caller r + count_asks caller rs))
 
@@ -232,9 +234,8 @@ module _ (s : Dimensions) (cut : ProcessId → Processes) (failed : Processes) (
       last : count_asks caller (parked p) + (is_ask caller r + 0) ≡ count_asks caller (parked p) + is_ask caller r
       last = omega arith
 
-    fewer : (caller : ℕ) (x : ProcessId) → Living s failed x
-        → waits s cut (changed_from requests g p rest) (changed parked p (parked p ++ r ∷ [])) caller x ≤ waits s cut requests parked caller x
-    fewer caller x lives = by (cut x (gateway_of s caller)) refl (lane caller (gateway_of s caller) x (same-cases (gateway_of s caller) g) (same-cases x p)) (park caller x) (is_ask caller r) refl where
+    fewer : (caller : ℕ) (x : ProcessId) → waits s cut (changed_from requests g p rest) (changed parked p (parked p ++ r ∷ [])) caller x ≤ waits s cut requests parked caller x
+    fewer caller x = by (cut x (gateway_of s caller)) refl (lane caller (gateway_of s caller) x (same-cases (gateway_of s caller) g) (same-cases x p)) (park caller x) (is_ask caller r) refl where
       owner : (n : ℕ) → is_ask caller r ≡ suc n → gateway_of s caller ≡ g
       owner n asks = ap (gateway_of s) (asker caller r n asks) ∙ mine.0
 
@@ -253,15 +254,25 @@ module _ (s : Dimensions) (cut : ProcessId → Processes) (failed : Processes) (
       by false shut (inr (at_g, at_p, less)) (inl kept) n asks = omega (arith, less, kept)
       by false shut (inr (at_g, at_p, less)) (inr (_, more)) n asks = omega (arith, less, more)
 
-  -- a member takes one of the requests that it has read
-  pub placed-taken : (p : ProcessId) (place : ℕ) → Placed s cut failed requests (changed parked p (without (parked p) place)) asked
-  placed-taken p place = record {
-    owned = b.owned;
-    lanes = b.lanes;
-    parks = changed-each (λ x rs. Living s failed x → Each (FitsAsked s asked) rs) parked p (without (parked p) place)
-        (λ lives. each-without (FitsAsked s asked) (parked p) place (b.parks p lives)) (λ x _. b.parks x);
-    one = fewer-wait s failed (waits s cut requests parked) (waits s cut requests (changed parked p (without (parked p) place))) fewer b.one;
+  -- a member reads the first request of a wire
+  pub placed-read : (g p : ProcessId) (r : Request) (rest : List Request) → requests g p ≡ r ∷ rest → cut p g ≡ false
+      → Placed s cut failed (changed_from requests g p rest) (changed parked p (parked p ++ r ∷ [])) asked
+  placed-read g p r rest is uncut = record {
+    owned = changed-pairs (λ y x rs. Each (λ r. gateway_of s (caller_in r) ≡ y) rs) requests g p rest mine.1 b.owned;
+    lanes = changed-pairs (λ y x rs. Living s failed x → cut x y ≡ false → Each (FitsAsked s asked) rs) requests g p rest (λ lives _. (fit lives).1) b.lanes;
+    parks = changed-each (λ x rs. Living s failed x → Each (FitsAsked s asked) rs) parked p (parked p ++ r ∷ [])
+        (λ lives. each-append (FitsAsked s asked) (parked p) (r ∷ []) (b.parks p lives) ((fit lives).0, tt)) (λ x _. b.parks x);
+    one = fewer-wait s failed (waits s cut requests parked) (waits s cut (changed_from requests g p rest) (changed parked p (parked p ++ r ∷ []))) (λ caller x _. read-fewer g p r rest is uncut caller x) b.one;
   } where
+    mine : Each (λ r. gateway_of s (caller_in r) ≡ g) (r ∷ rest)
+    mine = subst (Each (λ r. gateway_of s (caller_in r) ≡ g)) is (b.owned g p)
+
+    fit : Living s failed p → Each (FitsAsked s asked) (r ∷ rest)
+    fit lives = subst (Each (FitsAsked s asked)) is (b.lanes g p lives uncut)
+
+  -- what is left was waiting before
+  pub taken-fewer : (p : ProcessId) (place caller : ℕ) (x : ProcessId) → waits s cut requests (changed parked p (without (parked p) place)) caller x ≤ waits s cut requests parked caller x
+  taken-fewer p place caller x = fewer caller x where
     less : (caller : ℕ) (rs : List Request) (place : ℕ) → count_asks caller (without rs place) ≤ count_asks caller rs
     less caller [] place = omega arith
     less caller (r ∷ rs) zero = omega arith
@@ -270,10 +281,27 @@ module _ (s : Dimensions) (cut : ProcessId → Processes) (failed : Processes) (
     park : (caller : ℕ) (z : ProcessId) → count_asks caller (changed parked p (without (parked p) place) z) ≤ count_asks caller (parked z)
     park caller = changed-each (λ z rs. count_asks caller rs ≤ count_asks caller (parked z)) parked p (without (parked p) place) (less caller (parked p) place) (λ z _. omega arith)
 
-    fewer : (caller : ℕ) (x : ProcessId) → Living s failed x → waits s cut requests (changed parked p (without (parked p) place)) caller x ≤ waits s cut requests parked caller x
-    fewer caller x lives = let l = park caller x in omega (arith, l)
+    fewer : (caller : ℕ) (x : ProcessId) → waits s cut requests (changed parked p (without (parked p) place)) caller x ≤ waits s cut requests parked caller x
+    fewer caller x = let l = park caller x in omega (arith, l)
 
-  -- where it is an ask of a caller that hasn't failed, the caller has none left
+  -- a member takes one of the requests that it has read
+  pub placed-taken : (p : ProcessId) (place : ℕ) → Placed s cut failed requests (changed parked p (without (parked p) place)) asked
+  placed-taken p place = record {
+    owned = b.owned;
+    lanes = b.lanes;
+    parks = changed-each (λ x rs. Living s failed x → Each (FitsAsked s asked) rs) parked p (without (parked p) place)
+        (λ lives. each-without (FitsAsked s asked) (parked p) place (b.parks p lives)) (λ x _. b.parks x);
+    one = fewer-wait s failed (waits s cut requests parked) (waits s cut requests (changed parked p (without (parked p) place))) (λ caller x _. taken-fewer p place caller x) b.one;
+  }
+
+  -- it waited
+  pub one-waiting : (p : ProcessId) (place caller call : ℕ) (op : Asked) → entry_at (parked p) place ≡ Some (AskFor caller call op) → 0 < waits s cut requests parked caller p
+  one-waiting p place caller call op is =
+      let all = count-without caller (parked p) place (AskFor caller call op) is in
+      let own = is_ask-own caller call op in
+      omega (arith, all, own)
+
+  -- where it is an ask, the caller has none left
   pub none-left : (p : ProcessId) (place caller call : ℕ) (op : Asked) → Living s failed p → entry_at (parked p) place ≡ Some (AskFor caller call op)
       → (z : ProcessId) → Living s failed z → waits s cut requests (changed parked p (without (parked p) place)) caller z ≡ 0
   none-left p place caller call op lives is z zl = by (same-cases z p) where
@@ -300,24 +328,27 @@ module _ (s : Dimensions) (cut : ProcessId → Processes) (failed : Processes) (
           which zero is = omega arith
           which (suc n) is = absurd (other (b.one.there caller z p zl lives (omega (arith, is)) some))
 
-  -- a member cuts others
-  pub placed-cut : (now : ProcessId → Processes) → ((x g : ProcessId) → cut x g ≡ true → now x g ≡ true) → Placed s now failed requests parked asked
-  placed-cut now grows = record {
-    owned = b.owned;
-    lanes = λ g x lives uncut. b.lanes g x lives (was (cut x g) (grows x g) uncut);
-    parks = b.parks;
-    one = fewer-wait s failed (waits s cut requests parked) (waits s now requests parked) (λ caller x lives. less (cut x (gateway_of s caller)) (now x (gateway_of s caller)) caller x (grows x (gateway_of s caller))) b.one;
-  } where
-    was : {a : Bool} (c : Bool) → (c ≡ true → a ≡ true) → a ≡ false → c ≡ false
-    was true there is = cc (there refl, is)
-    was false there is = refl
-
+  -- what a cut leaves was waiting before
+  pub cut-fewer : (now : ProcessId → Processes) → ((x g : ProcessId) → cut x g ≡ true → now x g ≡ true) → (caller : ℕ) (x : ProcessId) → waits s now requests parked caller x ≤ waits s cut requests parked caller x
+  cut-fewer now grows caller x = less (cut x (gateway_of s caller)) (now x (gateway_of s caller)) caller x (grows x (gateway_of s caller)) where
     less : (c d : Bool) (caller : ℕ) (x : ProcessId) → (c ≡ true → d ≡ true)
         → one_or d 0 (count_asks caller (requests (gateway_of s caller) x)) + count_asks caller (parked x) ≤ one_or c 0 (count_asks caller (requests (gateway_of s caller) x)) + count_asks caller (parked x)
     less true true caller x there = omega arith
     less false true caller x there = omega arith
     less false false caller x there = omega arith
     less true false caller x there = cc (there refl)
+
+  -- a member cuts others
+  pub placed-cut : (now : ProcessId → Processes) → ((x g : ProcessId) → cut x g ≡ true → now x g ≡ true) → Placed s now failed requests parked asked
+  placed-cut now grows = record {
+    owned = b.owned;
+    lanes = λ g x lives uncut. b.lanes g x lives (was (cut x g) (grows x g) uncut);
+    parks = b.parks;
+    one = fewer-wait s failed (waits s cut requests parked) (waits s now requests parked) (λ caller x _. cut-fewer now grows caller x) b.one;
+  } where
+    was : {a : Bool} (c : Bool) → (c ≡ true → a ≡ true) → a ≡ false → c ≡ false
+    was true there is = cc (there refl, is)
+    was false there is = refl
 
   -- more fail
   pub placed-fail : (now : Processes) → ((x : ProcessId) → now x ≡ false → failed x ≡ false) → Placed s cut now requests parked asked
