@@ -1,7 +1,9 @@
 pub mod Barrier
+pub mod Calling
 pub mod Changes
 pub mod Counting
 pub mod Honest
+pub mod Placing
 pub mod Positions
 pub mod Requests
 pub mod Signs
