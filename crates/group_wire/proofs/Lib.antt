@@ -3,6 +3,7 @@ pub mod Calling
 pub mod Changes
 pub mod Counting
 pub mod Honest
+pub mod Mirrors
 pub mod Placing
 pub mod Positions
 pub mod Requests
