@@ -89,7 +89,7 @@ asks-append : (caller : ℕ) (es fs : List Event) → asks_among caller (es ++ f
 asks-append caller [] fs = omega arith
 asks-append caller (e ∷ es) fs = let rest = asks-append caller es fs in omega (arith, rest)
 
-asks-made : (caller : ℕ) (made more : List Made) → asks_among caller (map (λ x. x.event) (made ++ more)) ≡ asks_among caller (map (λ x. x.event) made) + asks_among caller (map (λ x. x.event) more)
+pub asks-made : (caller : ℕ) (made more : List Made) → asks_among caller (map (λ x. x.event) (made ++ more)) ≡ asks_among caller (map (λ x. x.event) made) + asks_among caller (map (λ x. x.event) more)
 asks-made caller [] more = omega arith
 asks-made caller (x ∷ made) more = let rest = asks-made caller made more in omega (arith, rest)
 
