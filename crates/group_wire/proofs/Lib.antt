@@ -1,6 +1,7 @@
 pub mod Barrier
 pub mod Calling
 pub mod Changes
+pub mod Composing
 pub mod Counting
 pub mod Extending
 pub mod Honest
