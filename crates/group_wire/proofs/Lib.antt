@@ -4,6 +4,7 @@ pub mod Changes
 pub mod Composing
 pub mod Counting
 pub mod Extending
+pub mod Failing
 pub mod Honest
 pub mod Mirrors
 pub mod Placing
