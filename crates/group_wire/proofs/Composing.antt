@@ -23,8 +23,8 @@ use Rattle.group_run.specs.Heading.{partition}
 use Rattle.group_run.specs.Process.{Node, Process}
 use Rattle.group_run.specs.Receiving.{receive}
 use Rattle.group_run.specs.Replica.{callers}
-use Rattle.group_run.specs.World.{World, DeliveryStep, NodeStep, after, all_change, deliver_nodes, delivered, flush_process, if_up, link_emptied, next_name, node_after, node_in, node_of, receive_node, step, treated, unchanged, with_link, with_node}
-use Rattle.law_moves.proofs.Reading.{node-here, node-other, size-with_node}
+use Rattle.group_run.specs.World.{World, DeliveryStep, NodeStep, after, all_change, ask_node, deliver_nodes, delivered, flush_process, if_up, link_emptied, next_name, node_after, node_in, node_of, receive_node, step, treated, unchanged, with_link, with_node}
+use Rattle.law_moves.proofs.Reading.{node-back, node-here, node-other, size-with_node}
 use Rattle.law_moves.proofs.Steps.{NodeActs, node_acts, node_receives}
 use Rattle.group_wire.specs.Composed.{Made}
 use Rattle.group_wire.specs.Sets.{Processes, changed, changed_from, size_of, with_one}
@@ -171,3 +171,17 @@ module _ (s : Dimensions) (cut : ProcessId → Processes) (failed : Processes) (
   composes-take x p xin lost pl untaken =
       delivers x p (tells.Notice x) [] (changed taken p (with_one (taken p) x)) works xin (λ same. cc (lost, pl.1, ap failed same)) pl (c.mirrors.notices x p xin lost pl untaken) refl
       (mirrors-taken s w.nodes many cut failed taken works c.mirrors x p xin pl.0 [] lost)
+
+  -- a call that is asked of a process that has failed is lost, and changes nothing
+  pub composes-lost : (x : ProcessId) (caller : ℕ) (op : Asked) → IsProcess s x → failed x ≡ true → caller < callers → All (λ b. b < 256) (value_of op.act)
+      → Composes s cut failed taken works (made ++ record { event = event.Ask caller op x; answer = says.Lost } ∷ [])
+  composes-lost x caller op xin lost low bytes = record {
+    makes = makes-more s made (record { event = event.Ask caller op x; answer = says.Lost }) c.makes (low, is-in x xin, bytes) (λ i. (path i).answer);
+    mirrors = subst (λ (ns : List Node). Mirrors s ns cut failed taken works)
+        (sym (ap (λ (w : World). w.nodes) (after-made s made (record { event = event.Ask caller op x; answer = says.Lost })) ∙ (λ i. with_node (shape i) x (path i).node w.nodes) ∙ node-back s w.nodes x xin many))
+        c.mirrors;
+  } where
+    path : ask_node w.shape (next_name w caller) op (node_of w x) ≡ unchanged says.Lost (node_in s w.nodes x)
+    path =
+        (λ i. ask_node (shape i) (next_name w caller) op (node_in (shape i) w.nodes x))
+        ∙ (λ i. if_up (up-after s (events_in made) c.makes.run failed c.mirrors.dead few x xin i) ((c.mirrors.dead x xin ∙ lost) i) (node_in s w.nodes x) (treated s (node_in s w.nodes x) (ask_process s (next_name w caller) op (node_in s w.nodes x).process)))

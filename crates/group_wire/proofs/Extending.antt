@@ -34,7 +34,7 @@ use Rattle.group_wire.proofs.Positions.{asked_by, asks-made}
 abbrev pub events_in : List Made → List Event
 events_in made = map (λ x. x.event) made
 
-events-more : (made : List Made) (x : Made) → events_in (made ++ x ∷ []) ≡ events_in made ++ x.event ∷ []
+pub events-more : (made : List Made) (x : Made) → events_in (made ++ x ∷ []) ≡ events_in made ++ x.event ∷ []
 events-more [] x = refl
 events-more (y ∷ made) x = ap (λ (es : List Event). y.event ∷ es) (events-more made x)
 

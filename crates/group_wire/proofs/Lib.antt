@@ -11,3 +11,4 @@ pub mod Placing
 pub mod Positions
 pub mod Requests
 pub mod Signs
+pub mod Whole

@@ -204,3 +204,31 @@ module _ (s : Dimensions) (nodes : List Node) (size : length nodes ≡ s.k + s.m
     was : {a : Bool} (c : Bool) → (c ≡ true → a ≡ true) → a ≡ false → c ≡ false
     was true there is = cc (there refl, is)
     was false there is = refl
+
+  -- what members that have failed do isn't seen
+  pub mirrors-others : (taken_now : ProcessId → Processes) (works_now : Works) → ((p : ProcessId) → Living s failed p → works_now.process p ≡ works.process p)
+      → ((p q : ProcessId) → Living s failed p → Living s failed q → works_now.messages p q ≡ works.messages p q)
+      → ((p x : ProcessId) → Living s failed p → taken_now p x ≡ false → taken p x ≡ false) → Mirrors s nodes cut failed taken_now works_now
+  mirrors-others taken_now works_now processes messages takes = record {
+    dead = b.dead;
+    process = λ p pl. b.process p pl ∙ sym (processes p pl);
+    links = λ p q pl ql other. subst (Carried (cut p q) (link_in s nodes p q)) (sym (messages p q pl ql)) (b.links p q pl ql other);
+    notices = λ x p xin fails pl untaken. b.notices x p xin fails pl (takes p x pl untaken);
+  }
+
+  -- a step of a member that has failed
+  pub mirrors-ghost : (p : ProcessId) (t : ProcessStep) → failed p ≡ true → Mirrors s nodes cut failed taken (stepped cut p t works)
+  mirrors-ghost p t lost = mirrors-others taken (stepped cut p t works)
+      (λ q ql. changed-other works.process p q t.process (λ same. cc (ql.1, lost, ap failed same)))
+      (λ x q xl ql. ap (λ (f : ProcessId → List Message). f q) (changed-other works.messages p x (λ q. one_or (cut p q) (works.messages p q) (works.messages p q ++ sent_to q t.sent)) (λ same. cc (xl.1, lost, ap failed same))))
+      (λ q x ql untaken. untaken)
+
+  pub mirrors-ghost-read : (x p : ProcessId) (wire : List Message) → failed p ≡ true → Mirrors s nodes cut failed taken (record works { messages = changed_from works.messages x p wire })
+  mirrors-ghost-read x p wire lost = mirrors-others taken (record works { messages = changed_from works.messages x p wire }) (λ q ql. refl) (λ y q yl ql. by y q ql (same-cases y x)) (λ q y ql untaken. untaken) where
+    by : (y q : ProcessId) → Living s failed q → (y ≡ x) ⊎ (y ≢ x) → changed_from works.messages x p wire y q ≡ works.messages y q
+    by y q ql (inr other) = ap (λ (f : ProcessId → List Message). f q) (changed-other works.messages x y (changed (works.messages x) p wire) other)
+    by y q ql (inl same) =
+        ap (λ (z : ProcessId). changed_from works.messages x p wire z q) same
+        ∙ ap (λ (f : ProcessId → List Message). f q) (changed-here works.messages x (changed (works.messages x) p wire))
+        ∙ changed-other (works.messages x) p q wire (λ at_p. cc (ql.1, lost, ap failed at_p))
+        ∙ ap (λ (z : ProcessId). works.messages z q) (sym same)
