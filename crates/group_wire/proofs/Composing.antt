@@ -27,11 +27,12 @@ use Rattle.group_run.specs.World.{World, DeliveryStep, NodeStep, after, all_chan
 use Rattle.law_moves.proofs.Reading.{node-back, node-here, node-other, size-with_node}
 use Rattle.law_moves.proofs.Steps.{NodeActs, node_acts, node_receives}
 use Rattle.group_wire.specs.Composed.{Made}
-use Rattle.group_wire.specs.Sets.{Processes, changed, changed_from, size_of, with_one}
+use Rattle.group_wire.specs.Composition.{Carried}
+use Rattle.group_wire.specs.Sets.{Processes, changed, changed_from, one_or, size_of, with_one}
 use Rattle.group_wire.specs.State.{Works}
 use Rattle.group_wire.specs.Stepping.{stepped}
 use Rattle.group_wire.proofs.Extending.{Makes, after-made, events_in, makes-more, nodes-many, settled_then, shape-after, unknown-after, up-after}
-use Rattle.group_wire.proofs.Mirrors.{Carried, Mirrors, link_in, mirrors-acts, mirrors-popped, mirrors-taken}
+use Rattle.group_wire.proofs.Mirrors.{Mirrors, link_in, mirrors-acts, mirrors-popped, mirrors-taken}
 use Rattle.group_wire.proofs.Positions.{asked_by}
 use Rattle.group_wire.proofs.Requests.{Living}
 
@@ -169,8 +170,8 @@ module _ (s : Dimensions) (cut : ProcessId → Processes) (failed : Processes) (
   pub composes-take : (x p : ProcessId) → IsProcess s x → failed x ≡ true → Living s failed p → taken p x ≡ false
       → Composes s cut failed (changed taken p (with_one (taken p) x)) (stepped cut p (receive s x (tells.Notice x) (works.process p)) works) (made ++ record { event = event.Deliver x p; answer = says.Done } ∷ [])
   composes-take x p xin lost pl untaken =
-      delivers x p (tells.Notice x) [] (changed taken p (with_one (taken p) x)) works xin (λ same. cc (lost, pl.1, ap failed same)) pl (c.mirrors.notices x p xin lost pl untaken) refl
-      (mirrors-taken s w.nodes many cut failed taken works c.mirrors x p xin pl.0 [] lost)
+      delivers x p (tells.Notice x) [] (changed taken p (with_one (taken p) x)) works xin (λ same. cc (lost, pl.1, ap failed same)) pl (c.mirrors.notices x p xin lost pl ∙ ap (λ (b : Bool). one_or b [] (tells.Notice x ∷ [])) untaken) refl
+      (mirrors-taken s w.nodes many cut failed taken works c.mirrors x p xin pl.0 [] refl lost)
 
   -- a call that is asked of a process that has failed is lost, and changes nothing
   pub composes-lost : (x : ProcessId) (caller : ℕ) (op : Asked) → IsProcess s x → failed x ≡ true → caller < callers → All (λ b. b < 256) (value_of op.act)

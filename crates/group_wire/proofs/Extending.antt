@@ -125,21 +125,24 @@ module _ (s : Dimensions) (es : List Event) (run : IsRun s es) where
       living-unknown q (node_in s (after s es).nodes q).dead (knows_dead (node_in s (after s es).nodes p).process.known q) (at [] (node_in s (after s es).nodes q).links (index_of s p))
       (members.stands q p qin pin other pl) ql
 
+  -- as many nodes are dead as have failed
+  pub few-dead : (failed : Processes) → ((p : ProcessId) → IsProcess s p → (node_in s (after s es).nodes p).dead ≡ failed p) → size_of s failed ≤ s.m → dead_nodes (after s es).nodes ≤ s.m
+  few-dead failed dead few =
+      let lost : lost_in s (state_from s (after s es).nodes (history_of s es).settled) ≡ dead_nodes (after s es).nodes = lost-nodes s (after s es).nodes (history_of s es).settled framed.nodes_many in
+      let same = counted (s.k + s.m) 0 (omega arith) in
+      omega (arith, lost, same, few)
+    where
+      counted : (n a : ℕ) → a + n ≤ s.k + s.m → count_dead (map (λ x. (node_in s (after s es).nodes (process_at s x)).dead) (range_with_len a n)) ≡ count_dead (map (λ x. failed (process_at s x)) (range_with_len a n))
+      counted zero a within = refl
+      counted (suc n) a within =
+          let rest = counted n (a + 1) (omega (arith, within)) in
+          let first : ◌≡◌ {A = ℕ} (if (node_in s (after s es).nodes (process_at s a)).dead then 1 else 0) (if failed (process_at s a) then 1 else 0) =
+              ap (λ (b : Bool). if b then 1 else 0) (dead (process_at s a) (process_at-in s a (omega (arith, within)))) in
+          omega (arith, rest, first)
+
   -- no node is down while at most m have failed
   pub up-after : (failed : Processes) → ((p : ProcessId) → IsProcess s p → (node_in s (after s es).nodes p).dead ≡ failed p) → size_of s failed ≤ s.m
       → (p : ProcessId) → IsProcess s p → (node_in s (after s es).nodes p).down ≡ false
   up-after failed dead few p pin = framed.down p pin ∙ below where
-    counted : (n a : ℕ) → a + n ≤ s.k + s.m → count_dead (map (λ x. (node_in s (after s es).nodes (process_at s x)).dead) (range_with_len a n)) ≡ count_dead (map (λ x. failed (process_at s x)) (range_with_len a n))
-    counted zero a within = refl
-    counted (suc n) a within =
-        let rest = counted n (a + 1) (omega (arith, within)) in
-        let first : ◌≡◌ {A = ℕ} (if (node_in s (after s es).nodes (process_at s a)).dead then 1 else 0) (if failed (process_at s a) then 1 else 0) =
-            ap (λ (b : Bool). if b then 1 else 0) (dead (process_at s a) (process_at-in s a (omega (arith, within)))) in
-        omega (arith, rest, first)
-
     below : nat_lt s.m (dead_nodes (after s es).nodes) ≡ false
-    below =
-        let lost : lost_in s (state_from s (after s es).nodes (history_of s es).settled) ≡ dead_nodes (after s es).nodes = lost-nodes s (after s es).nodes (history_of s es).settled framed.nodes_many in
-        let same = counted (s.k + s.m) 0 (omega arith) in
-        let most : dead_nodes (after s es).nodes ≤ s.m = omega (arith, lost, same, few) in
-        grind (arith, common_steps)
+    below = let most : dead_nodes (after s es).nodes ≤ s.m = few-dead failed dead few in grind (arith, common_steps)

@@ -23,13 +23,13 @@ use Rattle.group_wire.proofs.Requests.{Living}
 
 module _ (s : Dimensions) (cut : ProcessId → Processes) (taken : ProcessId → Processes) (works : Works) where
   -- one process fails
-  fails-one : (failed : Processes) (made : List Made) (x : ProcessId) → Composes s cut failed taken works made → IsProcess s x → failed x ≡ false
+  fails-one : (failed : Processes) (made : List Made) (x : ProcessId) → Composes s cut failed taken works made → IsProcess s x → failed x ≡ false → ((q : ProcessId) → Living s failed q → taken q x ≡ false)
       → Composes s cut (with_one failed x) taken works (made ++ record { event = event.Fail x 0; answer = says.Done } ∷ [])
-  fails-one failed made x c xin lives = record {
+  fails-one failed made x c xin lives fresh = record {
     makes = makes-more s made (record { event = event.Fail x 0; answer = says.Done }) c.makes (subst (λ (t : Dimensions). IsProcess t x) (sym shape) xin) (λ i. (change i).answer);
     mirrors = subst (λ (ns : List Node). Mirrors s ns cut (with_one failed x) taken works)
         (sym (ap (λ (w : World). w.nodes) (after-made s made (record { event = event.Fail x 0; answer = says.Done })) ∙ (λ i. (change i).nodes)))
-        (mirrors-failed s w.nodes (nodes-many s (events_in made) c.makes.run) cut failed taken works c.mirrors [] x xin lives);
+        (mirrors-failed s w.nodes (nodes-many s (events_in made) c.makes.run) cut failed taken works c.mirrors [] x xin lives fresh);
   } where
     w : World
     w = after s (events_in made)
@@ -60,7 +60,7 @@ module _ (s : Dimensions) (cut : ProcessId → Processes) (taken : ProcessId →
     by (inl low) = lt-true i a low ∙ sym (lt-true i (a + 1) (omega (arith, low)))
     by (inr high) = lt-false i a high ∙ sym (lt-false i (a + 1) (omega (arith, high, other)))
 
-  module _ (failed set : Processes) where
+  module _ (failed set : Processes) (taken-failed : (q x : ProcessId) → Living s failed q → taken q x ≡ true → failed x ≡ true) where
     -- who has failed once those before index a have
     abbrev so_far : ℕ → Processes
     so_far a p = failed p || (set p && nat_lt (index_of s p) a)
@@ -95,7 +95,7 @@ module _ (s : Dimensions) (cut : ProcessId → Processes) (taken : ProcessId →
             → Composes s cut (so_far (a + 1 + n)) taken works (made ++ front_if b (record { event = event.Fail (process_at s a) 0; answer = says.Done }) (failures_at s failed set (range_with_len (a + 1) n)))
         by true is later =
             subst (λ (m : List Made). Composes s cut (so_far (a + 1 + n)) taken works m) (append_assoc made (record { event = event.Fail (process_at s a) 0; answer = says.Done } ∷ []) (failures_at s failed set (range_with_len (a + 1) n)))
-            (later (made ++ record { event = event.Fail (process_at s a) 0; answer = says.Done } ∷ []) (composes-as (with_one (so_far a) (process_at s a)) (so_far (a + 1)) _ same (fails-one (so_far a) made (process_at s a) c xin not_yet)))
+            (later (made ++ record { event = event.Fail (process_at s a) 0; answer = says.Done } ∷ []) (composes-as (with_one (so_far a) (process_at s a)) (so_far (a + 1)) _ same (fails-one (so_far a) made (process_at s a) c xin not_yet fresh)))
           where
             both : (b c : Bool) → (b && not c) ≡ true → (b ≡ true) × (c ≡ false)
             both true false is = (refl, refl)
@@ -107,6 +107,17 @@ module _ (s : Dimensions) (cut : ProcessId → Processes) (taken : ProcessId →
 
             not_yet : so_far a (process_at s a) ≡ false
             not_yet = (λ i. parts.1 i || (parts.0 i && lt-false (index_of s (process_at s a)) a (omega (arith, at_a)) i))
+
+            untaken : (q : ProcessId) (b : Bool) → taken q (process_at s a) ≡ b → Living s failed q → taken q (process_at s a) ≡ false
+            untaken q false is ql = is
+            untaken q true is ql = cc (taken-failed q (process_at s a) ql is, parts.1)
+
+            lived : (f g : Bool) → (f || g) ≡ false → f ≡ false
+            lived true g is = cc is
+            lived false g is = refl
+
+            fresh : (q : ProcessId) → Living s (so_far a) q → taken q (process_at s a) ≡ false
+            fresh q ql = untaken q (taken q (process_at s a)) refl (ql.0, lived (failed q) (set q && nat_lt (index_of s q) a) ql.1)
 
             now : so_far (a + 1) (process_at s a) ≡ true
             now = (λ i. parts.1 i || (parts.0 i && lt-true (index_of s (process_at s a)) (a + 1) (omega (arith, at_a)) i))

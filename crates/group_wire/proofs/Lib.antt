@@ -2,6 +2,7 @@ pub mod Barrier
 pub mod Calling
 pub mod Changes
 pub mod Composing
+pub mod Compositions
 pub mod Counting
 pub mod Extending
 pub mod Failing

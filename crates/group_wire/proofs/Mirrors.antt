@@ -18,17 +18,12 @@ use Rattle.law_moves.specs.State.{state_from}
 use Rattle.law_moves.proofs.Moves.{Died}
 use Rattle.law_moves.proofs.Reading.{index-apart, node-here, node-other}
 use Rattle.law_moves.proofs.Steps.{NodeActs, died}
+use Rattle.group_wire.specs.Composition.{Carried}
 use Rattle.group_wire.specs.Sets.{Processes, changed, changed_from, one_or, with_one}
 use Rattle.group_wire.specs.State.{Works}
 use Rattle.group_wire.specs.Stepping.{sent_to_all, stepped}
 use Rattle.group_wire.proofs.Changes.{changed-each, changed-here, changed-other}
 use Rattle.group_wire.proofs.Requests.{Living}
-
--- the machine's link has what is on the wire, and behind it what was sent behind a cut
-pub record Carried (cut : Bool) (link wire : List Message) : Type 0 where
-  pub lost : List Message
-  pub is : link ≡ wire ++ lost
-  pub whole : cut ≡ false → lost ≡ []
 
 -- the machine's link between two processes
 abbrev pub link_in : Dimensions → List Node → ProcessId → ProcessId → List Message
@@ -38,7 +33,7 @@ pub record Mirrors (s : Dimensions) (nodes : List Node) (cut : ProcessId → Pro
   pub dead : (p : ProcessId) → IsProcess s p → (node_in s nodes p).dead ≡ failed p
   pub process : (p : ProcessId) → Living s failed p → (node_in s nodes p).process ≡ works.process p
   pub links : (p q : ProcessId) → Living s failed p → Living s failed q → p ≢ q → Carried (cut p q) (link_in s nodes p q) (works.messages p q)
-  pub notices : (x p : ProcessId) → IsProcess s x → failed x ≡ true → Living s failed p → taken p x ≡ false → link_in s nodes x p ≡ tells.Notice x ∷ []
+  pub notices : (x p : ProcessId) → IsProcess s x → failed x ≡ true → Living s failed p → link_in s nodes x p ≡ one_or (taken p x) [] (tells.Notice x ∷ [])
 
 -- what is sent to another that isn't known to be dead
 carried-sent : (shut : Bool) (link wire sent : List Message) → Carried shut link wire → Carried shut (link ++ sent) (one_or shut wire (wire ++ sent))
@@ -58,7 +53,7 @@ module _ (s : Dimensions) (nodes : List Node) (size : length nodes ≡ s.k + s.m
     dead = λ q qin. deads q qin (same-cases q p);
     process = λ q ql. processes q ql (same-cases q p);
     links = λ x q xl ql other. linked x q xl ql other (same-cases x p);
-    notices = λ x q xin fails ql untaken. ap (λ (n : Node). at [] n.links (index_of s q)) (there x xin (λ same. cc (fails, lives.1, ap failed same))) ∙ b.notices x q xin fails ql untaken;
+    notices = λ x q xin fails ql. ap (λ (n : Node). at [] n.links (index_of s q)) (there x xin (λ same. cc (fails, lives.1, ap failed same))) ∙ b.notices x q xin fails ql;
   } where
     here : node_in s (with_node s p node nodes) p ≡ node
     here = node-here s nodes p node
@@ -130,7 +125,7 @@ module _ (s : Dimensions) (nodes : List Node) (size : length nodes ≡ s.k + s.m
       dead = λ q qin. pop-dead q qin (same-cases q x) ∙ b.dead q qin;
       process = λ q ql. pop-process q ql.0 (same-cases q x) ∙ b.process q ql;
       links = λ y q yl ql other. linked y q yl ql other (same-cases y x) (same-cases q p);
-      notices = λ y q yin fails ql untaken. pop-links y q yin ql.0 (same-cases y x) (inl (λ same. cc (fails, xl, ap failed same))) ∙ b.notices y q yin fails ql untaken;
+      notices = λ y q yin fails ql. pop-links y q yin ql.0 (same-cases y x) (inl (λ same. cc (fails, xl, ap failed same))) ∙ b.notices y q yin fails ql;
     } where
       linked : (y q : ProcessId) → Living s failed y → Living s failed q → y ≢ q → (y ≡ x) ⊎ (y ≢ x) → (q ≡ p) ⊎ (q ≢ p) → Carried (cut y q) (link_in s popped_nodes y q) (changed_from works.messages x p wire y q)
       linked y q yl ql other (inr far) w = subst (λ (l : List Message). Carried (cut y q) l (changed_from works.messages x p wire y q)) (sym (pop-links y q yl.0 ql.0 (inr far) (inl far)))
@@ -144,25 +139,25 @@ module _ (s : Dimensions) (nodes : List Node) (size : length nodes ≡ s.k + s.m
           (subst (Carried (cut x p) rest) (sym (ap (λ (f : ProcessId → List Message). f p) (changed-here works.messages x (changed (works.messages x) p wire)) ∙ changed-here (works.messages x) p wire)) c)))
 
     -- of one that has failed: its notice is taken
-    pub mirrors-taken : failed x ≡ true → Mirrors s (with_node s x (with_link s p rest (node_in s nodes x)) nodes) cut failed (changed taken p (with_one (taken p) x)) works
-    mirrors-taken lost = record {
+    pub mirrors-taken : rest ≡ [] → failed x ≡ true → Mirrors s (with_node s x (with_link s p rest (node_in s nodes x)) nodes) cut failed (changed taken p (with_one (taken p) x)) works
+    mirrors-taken empty lost = record {
       dead = λ q qin. pop-dead q qin (same-cases q x) ∙ b.dead q qin;
       process = λ q ql. pop-process q ql.0 (same-cases q x) ∙ b.process q ql;
       links = λ y q yl ql other. subst (λ (l : List Message). Carried (cut y q) l (works.messages y q)) (sym (pop-links y q yl.0 ql.0 (same-cases y x) (inl (λ same. cc (lost, yl.1, ap failed same))))) (b.links y q yl ql other);
-      notices = λ y q yin fails ql. changed-each (λ q set. Living s failed q → set y ≡ false → link_in s popped_nodes y q ≡ tells.Notice y ∷ []) taken p (with_one (taken p) x)
-          (λ ql. changed-each (λ y is. IsProcess s y → failed y ≡ true → is ≡ false → link_in s popped_nodes y p ≡ tells.Notice y ∷ []) (taken p) x true (λ _ _ is. cc is)
-          (λ y other yin fails untaken. pop-links y p yin pin (same-cases y x) (inl other) ∙ b.notices y p yin fails ql untaken) y yin fails)
-          (λ q other ql untaken. pop-links y q yin ql.0 (same-cases y x) (inr other) ∙ b.notices y q yin fails ql untaken) q ql;
+      notices = λ y q yin fails ql. changed-each (λ q set. Living s failed q → link_in s popped_nodes y q ≡ one_or (set y) [] (tells.Notice y ∷ [])) taken p (with_one (taken p) x)
+          (λ ql. changed-each (λ y is. IsProcess s y → failed y ≡ true → link_in s popped_nodes y p ≡ one_or is [] (tells.Notice y ∷ [])) (taken p) x true (λ _ _. pop-link ∙ empty)
+          (λ y other yin fails. pop-links y p yin pin (same-cases y x) (inl other) ∙ b.notices y p yin fails ql) y yin fails)
+          (λ q other ql. pop-links y q yin ql.0 (same-cases y x) (inr other) ∙ b.notices y q yin fails ql) q ql;
     }
 
   -- a process fails, and its links hold its notice alone
-  pub mirrors-failed : (settled : List (List Update)) (x : ProcessId) → IsProcess s x → failed x ≡ false
+  pub mirrors-failed : (settled : List (List Update)) (x : ProcessId) → IsProcess s x → failed x ≡ false → ((q : ProcessId) → Living s failed q → taken q x ≡ false)
       → Mirrors s (nodes_told s.m (with_node s x (node_failed s x 0 (node_in s nodes x)) nodes)) cut (with_one failed x) taken works
-  mirrors-failed settled x xin lives = record {
+  mirrors-failed settled x xin lives fresh = record {
     dead = λ q qin. deads q qin (same-cases q x);
     process = λ q ql. d.processes q ql.0 ∙ b.process q (was q ql);
     links = λ y q yl ql other. subst (λ (l : List Message). Carried (cut y q) l (works.messages y q)) (sym (d.links y q yl.0 ql.0 (not_x y yl))) (b.links y q (was y yl) (was q ql) other);
-    notices = λ y q yin fails ql untaken. notice y q yin fails ql untaken (same-cases y x);
+    notices = λ y q yin fails ql. notice y q yin fails ql (same-cases y x);
   } where
     d : Died s (state_from s nodes settled) (state_from s (nodes_told s.m (with_node s x (node_failed s x 0 (node_in s nodes x)) nodes)) settled) x 0
     d = died s nodes size settled x 0 xin (b.dead x xin ∙ lives)
@@ -178,11 +173,12 @@ module _ (s : Dimensions) (nodes : List Node) (size : length nodes ≡ s.k + s.m
     deads q qin (inl same) =
         ap (λ (z : ProcessId). (node_in s (nodes_told s.m (with_node s x (node_failed s x 0 (node_in s nodes x)) nodes)) z).dead) same ∙ d.dead ∙ sym (changed-here failed x true) ∙ ap (with_one failed x) (sym same)
 
-    notice : (y q : ProcessId) → IsProcess s y → with_one failed x y ≡ true → Living s (with_one failed x) q → taken q y ≡ false → (y ≡ x) ⊎ (y ≢ x)
-        → link_in s (nodes_told s.m (with_node s x (node_failed s x 0 (node_in s nodes x)) nodes)) y q ≡ tells.Notice y ∷ []
-    notice y q yin fails ql untaken (inr other) = d.links y q yin ql.0 other ∙ b.notices y q yin (sym (changed-other failed x y true other) ∙ fails) (was q ql) untaken
-    notice y q yin fails ql untaken (inl same) =
-        ap (λ (z : ProcessId). link_in s (nodes_told s.m (with_node s x (node_failed s x 0 (node_in s nodes x)) nodes)) z q) same ∙ d.cut q ql.0 ∙ ap (λ (z : ProcessId). tells.Notice z ∷ []) (sym same)
+    notice : (y q : ProcessId) → IsProcess s y → with_one failed x y ≡ true → Living s (with_one failed x) q → (y ≡ x) ⊎ (y ≢ x)
+        → link_in s (nodes_told s.m (with_node s x (node_failed s x 0 (node_in s nodes x)) nodes)) y q ≡ one_or (taken q y) [] (tells.Notice y ∷ [])
+    notice y q yin fails ql (inr other) = d.links y q yin ql.0 other ∙ b.notices y q yin (sym (changed-other failed x y true other) ∙ fails) (was q ql)
+    notice y q yin fails ql (inl same) =
+        ap (λ (z : ProcessId). link_in s (nodes_told s.m (with_node s x (node_failed s x 0 (node_in s nodes x)) nodes)) z q) same ∙ d.cut q ql.0
+        ∙ sym (ap (λ (z : ProcessId). one_or (taken q z) [] (tells.Notice z ∷ [])) same ∙ ap (λ (b : Bool). one_or b [] (tells.Notice x ∷ [])) (fresh q (was q ql)))
 
   -- the same with other words for the same processes
   pub mirrors-as : (now : Processes) → ((p : ProcessId) → IsProcess s p → failed p ≡ now p) → Mirrors s nodes cut now taken works
@@ -190,7 +186,7 @@ module _ (s : Dimensions) (nodes : List Node) (size : length nodes ≡ s.k + s.m
     dead = λ p pin. b.dead p pin ∙ same p pin;
     process = λ p pl. b.process p (pl.0, same p pl.0 ∙ pl.1);
     links = λ p q pl ql other. b.links p q (pl.0, same p pl.0 ∙ pl.1) (ql.0, same q ql.0 ∙ ql.1) other;
-    notices = λ x p xin fails pl untaken. b.notices x p xin (same x xin ∙ fails) (pl.0, same p pl.0 ∙ pl.1) untaken;
+    notices = λ x p xin fails pl. b.notices x p xin (same x xin ∙ fails) (pl.0, same p pl.0 ∙ pl.1);
   }
 
   -- members cut others
@@ -208,12 +204,12 @@ module _ (s : Dimensions) (nodes : List Node) (size : length nodes ≡ s.k + s.m
   -- what members that have failed do isn't seen
   pub mirrors-others : (taken_now : ProcessId → Processes) (works_now : Works) → ((p : ProcessId) → Living s failed p → works_now.process p ≡ works.process p)
       → ((p q : ProcessId) → Living s failed p → Living s failed q → works_now.messages p q ≡ works.messages p q)
-      → ((p x : ProcessId) → Living s failed p → taken_now p x ≡ false → taken p x ≡ false) → Mirrors s nodes cut failed taken_now works_now
+      → ((p x : ProcessId) → Living s failed p → taken_now p x ≡ taken p x) → Mirrors s nodes cut failed taken_now works_now
   mirrors-others taken_now works_now processes messages takes = record {
     dead = b.dead;
     process = λ p pl. b.process p pl ∙ sym (processes p pl);
     links = λ p q pl ql other. subst (Carried (cut p q) (link_in s nodes p q)) (sym (messages p q pl ql)) (b.links p q pl ql other);
-    notices = λ x p xin fails pl untaken. b.notices x p xin fails pl (takes p x pl untaken);
+    notices = λ x p xin fails pl. b.notices x p xin fails pl ∙ sym (ap (λ (b : Bool). one_or b [] (tells.Notice x ∷ [])) (takes p x pl));
   }
 
   -- a step of a member that has failed
@@ -221,10 +217,10 @@ module _ (s : Dimensions) (nodes : List Node) (size : length nodes ≡ s.k + s.m
   mirrors-ghost p t lost = mirrors-others taken (stepped cut p t works)
       (λ q ql. changed-other works.process p q t.process (λ same. cc (ql.1, lost, ap failed same)))
       (λ x q xl ql. ap (λ (f : ProcessId → List Message). f q) (changed-other works.messages p x (λ q. one_or (cut p q) (works.messages p q) (works.messages p q ++ sent_to q t.sent)) (λ same. cc (xl.1, lost, ap failed same))))
-      (λ q x ql untaken. untaken)
+      (λ q x ql. refl)
 
   pub mirrors-ghost-read : (x p : ProcessId) (wire : List Message) → failed p ≡ true → Mirrors s nodes cut failed taken (record works { messages = changed_from works.messages x p wire })
-  mirrors-ghost-read x p wire lost = mirrors-others taken (record works { messages = changed_from works.messages x p wire }) (λ q ql. refl) (λ y q yl ql. by y q ql (same-cases y x)) (λ q y ql untaken. untaken) where
+  mirrors-ghost-read x p wire lost = mirrors-others taken (record works { messages = changed_from works.messages x p wire }) (λ q ql. refl) (λ y q yl ql. by y q ql (same-cases y x)) (λ q y ql. refl) where
     by : (y q : ProcessId) → Living s failed q → (y ≡ x) ⊎ (y ≢ x) → changed_from works.messages x p wire y q ≡ works.messages y q
     by y q ql (inr other) = ap (λ (f : ProcessId → List Message). f q) (changed-other works.messages x y (changed (works.messages x) p wire) other)
     by y q ql (inl same) =

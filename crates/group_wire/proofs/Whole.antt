@@ -183,7 +183,7 @@ module _ (c : Composed) (h : Whole c) where
       (mirrors-others c.group.shape (after c.group.shape (events_in c.made)).nodes many c.group.words.cut c.failed c.group.words.taken (stepped c.group.words.cut p (receive c.group.shape x (tells.Notice x) (c.group.works.process p)) c.group.works)
       (mirrors-ghost c.group.shape (after c.group.shape (events_in c.made)).nodes many c.group.words.cut c.failed c.group.words.taken c.group.works h.composes.mirrors p (receive c.group.shape x (tells.Notice x) (c.group.works.process p)) lost)
       (changed c.group.words.taken p (with_one (c.group.words.taken p) x)) (stepped c.group.words.cut p (receive c.group.shape x (tells.Notice x) (c.group.works.process p)) c.group.works) (λ q ql. refl) (λ y q yl ql. refl)
-      (λ q y ql. changed-each (λ q set. Living c.group.shape c.failed q → set y ≡ false → c.group.words.taken q y ≡ false) c.group.words.taken p (with_one (c.group.words.taken p) x) (λ pl. cc (pl.1, lost)) (λ q _ _ out. out) q ql))
+      (λ q y ql. changed-each (λ q set. Living c.group.shape c.failed q → set y ≡ c.group.words.taken q y) c.group.words.taken p (with_one (c.group.words.taken p) x) (λ pl. cc (pl.1, lost)) (λ q _ _. refl) q ql))
 
   -- an ask that is given up is asked of the dead
   gives-up : (caller : ℕ) (lost : Bool) (call : Option OpenCall) → MayAct c.group (GiveUp caller) → c.group.gateways.call caller ≡ call → c.failed (gateway_of c.group.shape caller) ≡ lost
@@ -257,7 +257,8 @@ module _ (c : Composed) (h : Whole c) where
     by : (lost : Bool) → Composes c.group.shape c.group.words.cut (one_or lost c.failed (either c.failed (c.group.words.cut p))) c.group.words.taken c.group.works
         (c.made ++ stands_if lost (failures_at c.group.shape c.failed (c.group.words.cut p) (range_with_len 0 (c.group.shape.k + c.group.shape.m))))
     by true = same
-    by false = composes-permit c.group.shape c.group.words.cut c.group.words.taken c.group.works c.failed (c.group.words.cut p) c.made h.composes
+    by false = composes-permit c.group.shape c.group.words.cut c.group.words.taken c.group.works c.failed (c.group.words.cut p)
+        (λ q x ql is. h.barred.permits q ql.0 ql.1 x (h.barred.taken q x is)) c.made h.composes
   composes-step (Take x p) may = takes x p (c.failed p) may refl
   composes-step (Ping p) may = same
   composes-step (Pong x p) may = same
@@ -290,7 +291,7 @@ whole-opening s limits = record {
       dead = λ p pin. opens.living p pin;
       process = λ p pl. opens.process p pl.0;
       links = λ p q pl ql other. record { lost = []; is = opens.links p q pl.0 ql.0; whole = λ _. refl };
-      notices = λ x p xin fails pl untaken. cc fails;
+      notices = λ x p xin fails pl. cc fails;
     };
   };
 } where

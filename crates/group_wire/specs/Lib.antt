@@ -4,4 +4,5 @@ pub mod Actions
 pub mod Stepping
 pub mod May
 pub mod Composed
+pub mod Composition
 pub mod Laws
