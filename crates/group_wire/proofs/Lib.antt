@@ -1,0 +1,15 @@
+pub mod Barrier
+pub mod Calling
+pub mod Changes
+pub mod Composing
+pub mod Compositions
+pub mod Counting
+pub mod Extending
+pub mod Failing
+pub mod Honest
+pub mod Mirrors
+pub mod Placing
+pub mod Positions
+pub mod Requests
+pub mod Signs
+pub mod Whole
