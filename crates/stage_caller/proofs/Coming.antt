@@ -1,5 +1,5 @@
 -- Steps of a call, one behind the other.
-use Rattle.std.proofs.Common.{rules, ℕ, ◌≡◌, ◌+◌, ◌==◌, ◌<◌, List, [], ◌∷◌, ◌++◌, refl, sym, ap, subst, ◌∙◌, arith, if◌then◌else◌, Bool, true, nat_eq}
+use Rattle.std.proofs.Common.{rules, ℕ, ◌≡◌, ◌+◌, ◌==◌, ◌<◌, List, [], ◌∷◌, ◌++◌, refl, sym, ap, subst, ◌∙◌, arith, if◌then◌else◌, Bool, true}
 use Rattle.std.proofs.lemmas.List.{append_assoc, append-nil}
 use Rattle.group_types.specs.Hash.{home_of}
 use Rattle.memc_table.specs.Act.{key_of}
@@ -14,12 +14,11 @@ use Rattle.group_stage.specs.Seated.{view_of}
 use Rattle.group_stage.specs.Views.{asks_by}
 use Rattle.group_stage.specs.declared.seat.Seat.{Seat}
 use Rattle.group_stage.specs.declared.view.Numbered.{Numbered}
-use Rattle.stage_caller.specs.Calling.{Brings, HasCome, HasStopped, IsCalled, IsIdle, IsOver, IsOwn, IsSame, Wish, asked_to, collected_to, traced_to, wish_of}
+use Rattle.stage_caller.specs.Calling.{Brings, HasCome, IsCalled, IsIdle, IsOwn, IsSame, Wish, asked_to, collected_to, traced_to, wish_of}
 use Rattle.stage_caller.specs.Moving.{HasStepped, IsAsked, Leads}
 use Rattle.stage_caller.specs.declared.phase.Next.{Next}
 use Rattle.stage_caller.specs.declared.phase.Next.TheVariants.{Ends, Goes}
 use Rattle.stage_caller.specs.declared.phase.Phase.{Phase}
-use Rattle.stage_caller.specs.declared.phase.Phase.TheVariants.{Asks, Waits}
 use Rattle.stage_caller.specs.declared.step.Step.{Step}
 use Rattle.stage_caller.specs.declared.step.Step.TheVariants as steps
 

@@ -1,5 +1,5 @@
 -- What stands of a seat after an order that found no memory.
-use Rattle.std.proofs.Common.{OnErr, [], refl, ◌∙◌}
+use Rattle.std.proofs.Common.{OnErr, [], ◌∙◌}
 use Rattle.std.specs.Prelude.{Result, Ok, Err}
 use Rattle.memc_table.specs.Asked.{Asked}
 use Rattle.memc_table.specs.declared.act.Act.TheVariants.{Get}

@@ -1,9 +1,7 @@
 -- What one call of a seat makes of it, as a step of a call.
-use Rattle.std.proofs.Common.{ℕ, ◌≡◌, ◌+◌, List, [], ◌∷◌, ◌++◌, length, refl, sym, ap, subst, ◌∙◌}
+use Rattle.std.proofs.Common.{ℕ, ◌≡◌, ◌+◌, [], ◌∷◌, length, refl, sym, ap, subst, ◌∙◌}
 use Rattle.std.proofs.lemmas.List.{append-nil}
 use Rattle.group_types.specs.declared.process.ProcessId.{ProcessId}
-use Rattle.memc_proto.specs.declared.end.CallEnd.{CallEnd}
-use Rattle.memc_proto.specs.declared.end.CallEnd.TheVariants as ends
 use Rattle.group_calls.specs.declared.event.Answer.{Answer}
 use Rattle.group_calls.specs.declared.event.Event.{Event}
 use Rattle.group_stage.specs.Ended.{Ended, HasReturned}
@@ -19,7 +17,7 @@ use Rattle.group_stage.specs.declared.view.View.{View}
 use Rattle.stage_caller.specs.Calling.{IsOver, IsOwn, IsSame, Wish}
 use Rattle.stage_caller.specs.Moving.{Gives, HasStepped, Leads, Says, Shows}
 use Rattle.stage_caller.specs.declared.phase.Next.{Next}
-use Rattle.stage_caller.specs.declared.phase.Next.TheVariants.{Ends, Goes}
+use Rattle.stage_caller.specs.declared.phase.Next.TheVariants.{Goes}
 use Rattle.stage_caller.specs.declared.phase.Phase.{Phase}
 use Rattle.stage_caller.specs.declared.step.Step.{Step}
 use Rattle.stage_caller.specs.declared.step.Step.TheVariants as steps

@@ -1,5 +1,5 @@
 -- One move of a call: one call of its seat.
-use Rattle.std.specs.Prelude.{ℕ, ◌≡◌, ◌≢◌, ◌+◌, ◌<◌, ◌++◌, List, [], ◌∷◌}
+use Rattle.std.specs.Prelude.{ℕ, ◌≡◌, ◌≢◌, ◌+◌, ◌<◌, ◌++◌, List}
 use Rattle.group_types.specs.Dimensions.{Dimensions}
 use Rattle.group_types.specs.Names.{IsProcess}
 use Rattle.group_types.specs.declared.process.ProcessId.{ProcessId}
@@ -12,7 +12,7 @@ use Rattle.group_stage.specs.declared.looking.Looked.{Looked}
 use Rattle.group_stage.specs.declared.looking.Looked.TheVariants as look
 use Rattle.group_stage.specs.declared.seat.Seat.{Seat}
 use Rattle.group_stage.specs.declared.view.Numbered.{Numbered}
-use Rattle.stage_caller.specs.Calling.{Brings, IsOver, IsSame, Wish, wish_of}
+use Rattle.stage_caller.specs.Calling.{Brings, IsOver, IsSame, Wish}
 use Rattle.stage_caller.specs.declared.step.Move.{Move}
 use Rattle.stage_caller.specs.declared.step.Move.TheVariants.{Ask, Collect, Deliver, Look, Trace}
 use Rattle.stage_caller.specs.declared.phase.Next.{Next}

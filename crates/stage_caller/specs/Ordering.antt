@@ -1,5 +1,5 @@
 -- A caller of a group that threads share, and what its calls and orders make of it.
-use Rattle.std.specs.Prelude.{ℕ, ◌≡◌, ◌++◌, true, false, [], ◌∷◌}
+use Rattle.std.specs.Prelude.{ℕ, ◌≡◌, true, false}
 use Rattle.group_types.specs.Names.{IsProcess}
 use Rattle.group_types.specs.declared.process.ProcessId.{ProcessId}
 use Rattle.memc_table.specs.Asked.{Asked}

@@ -1,7 +1,6 @@
 ghost use Rattle.std.specs.Prelude.{◌≡◌, ◌<◌, IfOk, OnErr};
 ghost use Rattle.group_stage.specs.Seated.{IsOf};
 ghost use Rattle.stage_caller.specs.Calling.{HasStopped, IsCalled};
-ghost use Rattle.stage_caller.specs.Ordering.{IsKept};
 ghost use Rattle.stage_caller.specs.declared.phase.Phase.TheVariants.{Waits};
 
 use crate::calling::make_call;
@@ -24,6 +23,8 @@ pub struct StageCaller<'a> {
 }
 
 impl<'a> StageCaller<'a> {
+    ghost use Rattle.stage_caller.specs.Ordering.{IsKept};
+
     /// A caller from this seat, which takes orders that a process fail where `control` is on.
     pub fn new(stage: &'a Stage, seat: Seat, control: bool) -> StageCaller<'a>
         requires { IsOf stage.now seat }

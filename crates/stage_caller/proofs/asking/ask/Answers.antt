@@ -1,4 +1,4 @@
-use Rattle.std.proofs.Common.{ℕ, ◌≡◌, refl, subst}
+use Rattle.std.proofs.Common.{ℕ, refl, subst}
 use Rattle.group_calls.specs.declared.event.Event.TheVariants.{Ask}
 use Rattle.stage_caller.specs.Calling.{asked_to, wish_of}
 use Rattle.stage_caller.specs.Moving.{Gives}

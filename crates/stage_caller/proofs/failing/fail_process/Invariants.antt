@@ -1,4 +1,4 @@
-use Rattle.std.proofs.Common.{◌≡◌, ◌-◌}
+use Rattle.std.proofs.Common.{◌-◌}
 use Rattle.group_stage.specs.Kept.{most_calls}
 use Rattle.group_stage.specs.Seated.{IsOf}
 use Rattle.stage_caller.specs.Calling.{IsIdle}
