@@ -1,5 +1,6 @@
 pub mod Names
 mod Numbers
+mod Paging
 pub mod Ranges
 pub mod Links
 pub mod Refused

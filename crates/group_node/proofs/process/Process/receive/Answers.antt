@@ -1,4 +1,5 @@
 use Rattle.std.proofs.Common.{ap}
+use Rattle.group_node.proofs.Paging.{data-pages, parity-pages}
 use Rattle.group_node.proofs.Standing.{received-name, data-name, data-named, parity-name, parity-named}
 use Rattle.group_node.proofs.process.Process.receive.Goals as goal
 use Rattle.group_node.proofs.process.Process.receive.Goals.{in-Data, in-Parity}
@@ -30,4 +31,14 @@ returns-clause-name c = elim c.match-self.branch [
       (ap (λ (p : _). p.role) w.self-inside-is) w.in-Parity.is c.self.view_is
       (received-name w.in-Parity.process.shape c.args.from c.args.message.now w.in-Parity.process.process w.receive-in-Parity.new.self.process
       w.receive-in-Parity.result w.receive-in-Parity.ensures.step w.receive-in-Parity.ensures.err)
+]
+
+pub returns-clause-pages : goal.returns-clause-pages
+returns-clause-pages c = elim c.match-self.branch [
+  | in-Data w ↦
+      data-pages c.args.message.now c.match-self.self-inside.role c.self.inside.role w.receive.new.self w.in-Data.process c.args.self.now
+      (ap (λ (p : _). p.role) w.self-inside-is) w.in-Data.is c.self.view_is w.receive.ensures.pages
+  | in-Parity w ↦
+      parity-pages c.args.message.now c.match-self.self-inside.role c.self.inside.role w.receive-in-Parity.new.self w.in-Parity.process c.args.self.now
+      (ap (λ (p : _). p.role) w.self-inside-is) w.in-Parity.is c.self.view_is w.receive-in-Parity.ensures.pages
 ]
