@@ -1,14 +1,12 @@
 // A port of this machine, and a client that comes over it.
-use crate::shop::Shop;
-use edge_io::{Failed, FixedClock, Listener};
-use memc_table::Table;
-use node_worker::{OpenGate, ServeFault, serve_all};
-use std::alloc::{AllocError, Global};
+use crate::memory::same;
+use crate::workers::served;
+use edge_io::{Failed, Listener};
+use node_worker::OpenGate;
+use std::alloc::Global;
 use std::io::{ErrorKind, Read, Write};
 use std::net::{Net, SocketAddr, TcpStream};
-use std::sync::{Mutex, Wait};
-use std::test::Fail;
-use std::thread::Threads;
+use std::process::Abort;
 use std::{io, thread};
 use tcp_edge::TcpEdge;
 
@@ -26,57 +24,44 @@ fn talk<R: Net>(net: &R, alloc: Global, server: SocketAddr) -> io::Result<Vec<u8
     Ok(heard)
 }
 
-/// Serves one client over a table of its own.
-fn serve_one<R, L>(rt: &R, alloc: Global, port: &mut L) -> Result<u64, ServeFault>
-where
-    R: Threads + Wait + Sync + Send + Copy,
-    L: Listener,
-    L::Incoming: Drop,
-    L::Outgoing: Drop,
-{
-    match Table::new(alloc, 1) {
-        Ok(table) => {
-            let table = Mutex::new(table);
-            let shop = Shop::new(*rt, &table);
-            serve_all(rt, alloc, port, &shop, &OpenGate, 1, 1, &FixedClock::new(0))
-        }
-        Err(AllocError) => Err(ServeFault::Want),
-    }
-}
-
 #[test]
-fn serves_a_client(rt: HostRuntime) -> Result<(), Fail> {
+fn serves_a_client(rt: HostRuntime) {
     let mut port = TcpEdge::new(rt);
-    assert_eq!(rt; port.listen("127.0.0.1:0"), Ok(()));
-    let server = port.local_addr()?;
+    same(&rt, port.listen("127.0.0.1:0"), Ok(()));
+    let server = port.local_addr().expect(&rt, "an address");
     let alloc = rt.alloc();
     let (heard, served) = thread::join(
         &rt,
         move || talk(&rt, alloc, server),
-        move || serve_one(&rt, alloc, &mut port),
+        move || served(rt, alloc, &mut port, &OpenGate, 1, 1),
     );
-    assert_eq!(rt; served, Ok(1));
-    assert_eq!(rt; heard?.as_slice(), ANSWERED);
-    Ok(())
+    same(&rt, served, Ok(1));
+    same(&rt, heard.expect(&rt, "what is heard").as_slice(), ANSWERED);
 }
 
 #[test]
-fn keeps_its_last_error(rt: HostRuntime) -> Result<(), Fail> {
+fn keeps_its_last_error(rt: HostRuntime) {
     let mut port = TcpEdge::new(rt);
-    assert!(rt; port.last_error().is_none());
+    same(&rt, last(&port), None);
     assert!(rt; matches!(port.accept(), Err(Failed)));
-    assert_eq!(rt;
-        port.last_error().map(io::Error::kind),
-        Some(ErrorKind::NotConnected)
+    same(&rt, last(&port), Some(ErrorKind::NotConnected));
+    same(
+        &rt,
+        (port.listen("nowhere"), port.listen("127.0.0.1:0")),
+        (Err(Failed), Ok(())),
     );
-    assert_eq!(rt; port.listen("nowhere"), Err(Failed));
-    assert_eq!(rt; port.listen("127.0.0.1:0"), Ok(()));
-    let taken = format!(in rt.alloc(); "{}", port.local_addr()?)?;
-    let mut second = TcpEdge::new(rt);
-    assert_eq!(rt; second.listen(&taken), Err(Failed));
-    assert_eq!(rt;
-        second.last_error().map(io::Error::kind),
-        Some(ErrorKind::AddrInUse)
-    );
-    Ok(())
+    let taken = port.local_addr().expect(&rt, "an address");
+    finds_taken(rt, rt.alloc(), taken);
+}
+
+fn last<R: Net>(port: &TcpEdge<R>) -> Option<ErrorKind> {
+    port.last_error().map(io::Error::kind)
+}
+
+// Another port at this address is refused.
+fn finds_taken<R: Net + Copy + Abort>(rt: R, alloc: Global, taken: SocketAddr) {
+    let address = format!(in alloc; "{taken}").expect(&rt, "an address");
+    let mut port = TcpEdge::new(rt);
+    same(&rt, port.listen(&address), Err(Failed));
+    same(&rt, last(&port), Some(ErrorKind::AddrInUse));
 }

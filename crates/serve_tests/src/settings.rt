@@ -1,9 +1,10 @@
 // Settings: their limits in bytes, and what a person is told. What each key may be is told by rows of text elsewhere.
+use crate::memory::same;
 use edge_io::MemorySource;
-use group_config::{ConfigFault, TextFault, read_settings, read_text};
+use group_config::{ConfigFault, Settings, TextFault, read_settings, read_text};
 use group_types::ConfigKey;
 use std::alloc::{AllocError, Global};
-use std::test::Fail;
+use std::process::Abort;
 
 /// All that is required but the address.
 const SHAPE: &str = "k = 1\nm = 0\nblocks = 1\nblock = 16\n";
@@ -26,75 +27,85 @@ fn of_length(alloc: Global, length: usize) -> Result<Vec<u8>, AllocError> {
     Ok(text)
 }
 
-#[test]
-fn measures_an_address(rt: HostRuntime) -> Result<(), Fail> {
-    for length in [1, 255] {
-        let text = with_address(rt.alloc(), length)?;
-        let settings = read_settings(rt.alloc(), &text)?;
-        assert_eq!(rt; settings.address.as_str().len(), length);
+/// The length of the address that settings give, or the key that they are refused for.
+fn address_of(alloc: Global, text: &[u8]) -> Result<usize, Option<ConfigKey>> {
+    match read_settings(alloc, text) {
+        Ok(settings) => Ok(length_of(&settings)),
+        Err(ConfigFault::BadConfig { key }) => Err(Some(key)),
+        Err(ConfigFault::Want) => Err(None),
     }
-    let text = with_address(rt.alloc(), 256)?;
-    let read = read_settings(rt.alloc(), &text);
-    assert!(rt;
-        matches!(
-            read,
-            Err(ConfigFault::BadConfig {
-                key: ConfigKey::Address
-            })
-        )
-    );
-    Ok(())
+}
+
+fn length_of(settings: &Settings) -> usize {
+    settings.address.as_str().len()
+}
+
+#[test]
+fn measures_an_address(rt: HostRuntime) {
+    for (length, read) in [
+        (1, Ok(1)),
+        (255, Ok(255)),
+        (256, Err(Some(ConfigKey::Address))),
+    ] {
+        let text = with_address(rt.alloc(), length).expect(&rt, "a text");
+        same(&rt, address_of(rt.alloc(), &text), read);
+    }
 }
 
 #[test]
 fn refuses_what_is_no_settings(rt: HostRuntime) {
-    let read = read_settings(rt.alloc(), b"");
-    assert!(rt; matches!(read, Err(ConfigFault::BadConfig { key: ConfigKey::K })));
-    let read = read_settings(rt.alloc(), b"k = \"\xff\"");
-    assert!(rt;
-        matches!(
+    same(&rt, address_of(rt.alloc(), b""), Err(Some(ConfigKey::K)));
+    same(
+        &rt,
+        address_of(rt.alloc(), b"k = \"\xff\""),
+        Err(Some(ConfigKey::Syntax)),
+    );
+}
+
+/// How many bytes of text a source gave, or why it gave none, and the length of the address in them.
+fn read_from(
+    rt: &impl Abort,
+    alloc: Global,
+    mut source: MemorySource,
+) -> Result<(usize, usize), TextFault> {
+    let text = read_text(alloc, &mut source)?;
+    let address = address_of(alloc, &text).expect(rt, "settings");
+    Ok((text.len(), address))
+}
+
+#[test]
+fn reads_up_to_its_limit(rt: HostRuntime) {
+    let whole = usize::MAX;
+    for (length, piece, read) in [
+        (65_536, 1_000, Ok((65_536, 1))),
+        (65_537, whole, Err(TextFault::TooLong)),
+    ] {
+        let text = of_length(rt.alloc(), length).expect(&rt, "a text");
+        let source = MemorySource::new(rt.alloc(), &text, &[]).expect(&rt, "a source");
+        same(
+            &rt,
+            read_from(&rt, rt.alloc(), source.with_piece(piece)),
             read,
-            Err(ConfigFault::BadConfig {
-                key: ConfigKey::Syntax
-            })
-        )
-    );
+        );
+    }
 }
 
 #[test]
-fn reads_up_to_its_limit(rt: HostRuntime) -> Result<(), Fail> {
-    let text = of_length(rt.alloc(), 65_536)?;
-    let mut source = MemorySource::new(rt.alloc(), &text, &[])?.with_piece(1_000);
-    let read = read_text(rt.alloc(), &mut source)?;
-    assert_eq!(rt; read.len(), 65_536);
-    read_settings(rt.alloc(), &read)?;
-    let text = of_length(rt.alloc(), 65_537)?;
-    let mut source = MemorySource::new(rt.alloc(), &text, &[])?;
-    assert!(rt; matches!(read_text(rt.alloc(), &mut source), Err(TextFault::TooLong)));
-    Ok(())
+fn tells_a_read_that_failed(rt: HostRuntime) {
+    let source = MemorySource::new(rt.alloc(), b"k = 4", &[2]).expect(&rt, "a source");
+    let read = read_from(&rt, rt.alloc(), source.with_piece(1));
+    same(&rt, read, Err(TextFault::ReadFault));
 }
 
 #[test]
-fn tells_a_read_that_failed(rt: HostRuntime) -> Result<(), Fail> {
-    let mut source = MemorySource::new(rt.alloc(), b"k = 4", &[2])?.with_piece(1);
-    assert!(rt;
-        matches!(
-            read_text(rt.alloc(), &mut source),
-            Err(TextFault::ReadFault)
-        )
-    );
-    Ok(())
-}
-
-#[test]
-fn tells_a_person_what_is_allowed(rt: HostRuntime) -> Result<(), Fail> {
+fn tells_a_person_what_is_allowed(rt: HostRuntime) {
     let fault = ConfigFault::BadConfig {
         key: ConfigKey::Workers,
     };
-    let sentence = format!(in rt.alloc(); "{fault}")?;
-    assert_eq!(rt;
+    let sentence = format!(in rt.alloc(); "{fault}").expect(&rt, "a sentence");
+    same(
+        &rt,
         sentence.as_str(),
-        "workers is 1 to 64, and 4 where it is left out"
+        "workers is 1 to 64, and 4 where it is left out",
     );
-    Ok(())
 }

@@ -1,12 +1,14 @@
 // Connections in memory, served by several workers.
+use crate::memory::{hears, listener, same};
 use crate::shop::Shop;
-use edge_io::{FixedClock, Listener, MemoryListener};
+use edge_io::{FixedClock, Listener};
 use memc_table::Table;
 use node_worker::{Gate, OpenGate, ServeFault, serve_all};
 use std::alloc::{AllocError, Global};
-use std::sync::Mutex;
 use std::sync::atomic::{AtomicBool, Ordering};
+use std::sync::{Mutex, Wait};
 use std::thread;
+use std::thread::Threads;
 
 /// What a client says that stores a value and reads it back.
 const STORES: &[u8] = b"set a 0 0 1\r\nA\r\nget a\r\nquit\r\n";
@@ -59,151 +61,105 @@ impl Gate for SecondFirst {
     }
 }
 
-fn clients(alloc: Global, said: &[&[u8]]) -> Result<Vec<Vec<u8>>, AllocError> {
-    let mut clients = Vec::new(alloc);
-    for bytes in said {
-        clients.push(Vec::from_slice(alloc, bytes)?)?;
+/// Serves connections over a table of their own.
+pub(crate) fn served<R, L, G>(
+    rt: R,
+    alloc: Global,
+    listener: &mut L,
+    gate: &G,
+    workers: u32,
+    connections: u64,
+) -> Result<u64, ServeFault>
+where
+    R: Threads + Wait + Sync + Send + Copy,
+    L: Listener,
+    L::Incoming: Drop,
+    L::Outgoing: Drop,
+    G: Gate,
+{
+    match Table::new(alloc, 1) {
+        Ok(table) => {
+            let table = Mutex::new(table);
+            let (shop, clock) = (Shop::new(rt, &table), FixedClock::new(0));
+            serve_all(
+                &rt,
+                alloc,
+                listener,
+                &shop,
+                gate,
+                workers,
+                connections,
+                &clock,
+            )
+        }
+        Err(AllocError) => Err(ServeFault::Want),
     }
-    Ok(clients)
 }
 
 #[test]
-fn serves_beside_each_other(rt: HostRuntime) -> Result<(), AllocError> {
+fn serves_beside_each_other(rt: HostRuntime) {
     for workers in [1, 2, 64] {
-        let mut listener = MemoryListener::new(
-            rt.alloc(),
-            clients(rt.alloc(), &[STORES, STORES])?,
-            &[],
-        )?;
-        let table = Mutex::new(Table::new(rt.alloc(), 1)?);
+        let mut listener = listener(&rt, rt.alloc(), &[STORES, STORES], &[]);
         let gate = SecondFirst::new(TURNS);
-        let served = serve_all(
+        same(
             &rt,
-            rt.alloc(),
-            &mut listener,
-            &Shop::new(rt, &table),
-            &gate,
-            workers,
-            2,
-            &FixedClock::new(0),
+            served(rt, rt.alloc(), &mut listener, &gate, workers, 2),
+            Ok(2),
         );
-        assert_eq!(rt; served, Ok(2));
         assert!(rt;
             !gate.gave_up.load(Ordering::SeqCst),
             "with {workers} workers"
         );
-        for connection in [1, 2] {
-            assert_eq!(rt; listener.held(rt.alloc(), connection)?.as_slice(), STORED);
-        }
+        hears(&rt, rt.alloc(), &listener, 1, STORED);
+        hears(&rt, rt.alloc(), &listener, 2, STORED);
     }
-    Ok(())
 }
 
 #[test]
-fn serves_one_after_another_without_workers(rt: HostRuntime) -> Result<(), AllocError> {
-    let mut listener = MemoryListener::new(
-        rt.alloc(),
-        clients(rt.alloc(), &[STORES, STORES])?,
-        &[],
-    )?;
-    let table = Mutex::new(Table::new(rt.alloc(), 1)?);
+fn serves_one_after_another_without_workers(rt: HostRuntime) {
+    let mut listener = listener(&rt, rt.alloc(), &[STORES, STORES], &[]);
     let gate = SecondFirst::new(10);
-    let served = serve_all(
+    same(
         &rt,
-        rt.alloc(),
-        &mut listener,
-        &Shop::new(rt, &table),
-        &gate,
-        0,
-        0,
-        &FixedClock::new(0),
+        served(rt, rt.alloc(), &mut listener, &gate, 0, 0),
+        Ok(2),
     );
-    assert_eq!(rt; served, Ok(2));
     assert!(rt; gate.gave_up.load(Ordering::SeqCst));
-    Ok(())
 }
 
 #[test]
-fn stops_at_its_number_of_connections(rt: HostRuntime) -> Result<(), AllocError> {
-    let mut listener = MemoryListener::new(
-        rt.alloc(),
-        clients(rt.alloc(), &[STORES, STORES, STORES])?,
-        &[],
-    )?;
-    let table = Mutex::new(Table::new(rt.alloc(), 1)?);
-    let shop = Shop::new(rt, &table);
-    let served = serve_all(
-        &rt,
-        rt.alloc(),
-        &mut listener,
-        &shop,
-        &OpenGate,
-        4,
-        2,
-        &FixedClock::new(0),
-    );
-    assert_eq!(rt; served, Ok(2));
-    assert_eq!(rt; listener.held(rt.alloc(), 3)?.as_slice(), b"".as_slice());
-    let served = serve_all(
-        &rt,
-        rt.alloc(),
-        &mut listener,
-        &shop,
-        &OpenGate,
-        4,
-        2,
-        &FixedClock::new(0),
-    );
-    assert_eq!(rt; served, Ok(1));
-    assert_eq!(rt; listener.held(rt.alloc(), 3)?.as_slice(), STORED);
-    Ok(())
-}
-
-#[test]
-fn tells_an_accept_that_failed(rt: HostRuntime) -> Result<(), AllocError> {
-    for (failing, held) in [(1, b"".as_slice()), (2, STORED)] {
-        let mut listener = MemoryListener::new(
-            rt.alloc(),
-            clients(rt.alloc(), &[STORES])?,
-            &[failing],
-        )?;
-        let table = Mutex::new(Table::new(rt.alloc(), 1)?);
-        let shop = Shop::new(rt, &table);
-        let served = serve_all(
+fn stops_at_its_number_of_connections(rt: HostRuntime) {
+    let mut listener = listener(&rt, rt.alloc(), &[STORES, STORES, STORES], &[]);
+    for (count, last) in [(2, b"".as_slice()), (1, STORED)] {
+        same(
             &rt,
-            rt.alloc(),
-            &mut listener,
-            &shop,
-            &OpenGate,
-            4,
-            0,
-            &FixedClock::new(0),
+            served(rt, rt.alloc(), &mut listener, &OpenGate, 4, 2),
+            Ok(count),
         );
-        assert_eq!(rt; served, Err(ServeFault::AcceptFault));
-        assert_eq!(rt; listener.held(rt.alloc(), 1)?.as_slice(), held);
+        hears(&rt, rt.alloc(), &listener, 3, last);
     }
-    Ok(())
 }
 
 #[test]
-fn one_connection_ends_alone(rt: HostRuntime) -> Result<(), AllocError> {
-    let said = [b"set a 0 0 5\r\nab".as_slice(), b"get a\r\n", STORES];
-    let mut listener = MemoryListener::new(rt.alloc(), clients(rt.alloc(), &said)?, &[])?;
-    let table = Mutex::new(Table::new(rt.alloc(), 1)?);
-    let shop = Shop::new(rt, &table);
-    let served = serve_all(
-        &rt,
-        rt.alloc(),
-        &mut listener,
-        &shop,
-        &OpenGate,
-        0,
-        0,
-        &FixedClock::new(0),
-    );
-    assert_eq!(rt; served, Ok(3));
-    for (connection, held) in [(1, b"".as_slice()), (2, b"END\r\n"), (3, STORED)] {
-        assert_eq!(rt; listener.held(rt.alloc(), connection)?.as_slice(), held);
+fn tells_an_accept_that_failed(rt: HostRuntime) {
+    for (failing, answers) in [(1, b"".as_slice()), (2, STORED)] {
+        let mut listener = listener(&rt, rt.alloc(), &[STORES], &[failing]);
+        let served = served(rt, rt.alloc(), &mut listener, &OpenGate, 4, 0);
+        same(&rt, served, Err(ServeFault::AcceptFault));
+        hears(&rt, rt.alloc(), &listener, 1, answers);
     }
-    Ok(())
+}
+
+#[test]
+fn one_connection_ends_alone(rt: HostRuntime) {
+    let said = [b"set a 0 0 5\r\nab".as_slice(), b"get a\r\n", STORES];
+    let mut listener = listener(&rt, rt.alloc(), &said, &[]);
+    same(
+        &rt,
+        served(rt, rt.alloc(), &mut listener, &OpenGate, 0, 0),
+        Ok(3),
+    );
+    for (connection, answers) in [(1, b"".as_slice()), (2, b"END\r\n"), (3, STORED)] {
+        hears(&rt, rt.alloc(), &listener, connection, answers);
+    }
 }

@@ -1,11 +1,15 @@
 //! What is read and what is written where a dialogue doesn't tell it: lines that are no script lines, texts of long
-//! values, and the ends of streams. They are tests of public calls alone, and stand apart from the crates that they
-//! are about since a crate is proved once more with its tests.
+//! values, scripts that are made, and the ends of streams. They are tests of public calls alone, and stand apart from
+//! the crates that they are about since a crate is proved once more with its tests.
 #![tactic(auto)]
 
 #[cfg(test)]
 mod edges;
 #[cfg(test)]
+mod found;
+#[cfg(test)]
 mod lines;
+#[cfg(test)]
+mod scripts;
 #[cfg(test)]
 mod transcript;

@@ -3,7 +3,6 @@ use group_types::Shape;
 use scenario_text::LineFault;
 use scenario_text::read_line::read_line;
 use std::alloc::Global;
-use std::test::Fail;
 
 const REFUSED: [&'static str; 30] = [
     "group 2 1 4 16",
@@ -46,10 +45,9 @@ fn is_refused(alloc: Global, shape: Shape, text: &str) -> bool {
 }
 
 #[test]
-fn lines_that_mean_nothing_are_refused(rt: HostRuntime) -> Result<(), Fail> {
-    let shape = Shape::new(2, 1, 4, 16)?;
+fn lines_that_mean_nothing_are_refused(rt: HostRuntime) {
+    let shape = Shape::new(2, 1, 4, 16).expect(&rt, "a shape");
     for text in REFUSED {
         assert!(rt; is_refused(rt.alloc(), shape, text), "{text}");
     }
-    Ok(())
 }

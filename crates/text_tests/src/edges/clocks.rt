@@ -1,4 +1,5 @@
 // The machine's clock, and one that stands.
+use crate::found::same;
 use edge_io::{Clock, FixedClock, SystemClock};
 use std::io::ErrorKind;
 use std::time::Duration;
@@ -32,8 +33,8 @@ fn reads_whole_seconds(rt: HostRuntime) {
         (Some((1 << 62) + 1), 1 << 62),
     ];
     for (reading, seconds) in rows {
-        assert_eq!(rt; SystemClock::new(Reading(reading)).now(), seconds);
+        same(&rt, SystemClock::new(Reading(reading)).now(), seconds);
     }
     assert!(rt; SystemClock::new(&rt).now() > 1_700_000_000);
-    assert_eq!(rt; FixedClock::new(1000).now(), 1000);
+    same(&rt, FixedClock::new(1000).now(), 1000);
 }

@@ -32,7 +32,7 @@ fn tries_interrupted_reads_again(rt: HostRuntime) {
     ];
     for (kind, times, reads) in rows {
         let mut source = ReadEdge::new(FailsFirst { kind, times });
-        assert_eq!(rt; source.read(&mut [0; 4]).is_ok(), reads, "{times} errors");
-        assert_eq!(rt; source.read(&mut [0; 4]), Ok(1), "after {times} errors");
+        let found = (source.read(&mut [0; 4]).is_ok(), source.read(&mut [0; 4]));
+        assert_eq!(rt; found, (reads, Ok(1)), "after {times} errors");
     }
 }
