@@ -1,5 +1,6 @@
 use Rattle.std.proofs.Common.{◌≡◌, ◌≢◌, ℕ, ◌⊎◌, inl, inr, [], List, refl, sym, ◌∙◌, subst}
 use Rattle.scenario_play.specs.Outside.{EndsWith, Outside, TellsFront}
+use Rattle.scenario_play.specs.Language.{Language}
 use Rattle.scenario_play.specs.Played.{HasPlayedWhole, IsPlayed}
 use Rattle.scenario_play.specs.Status.{last_line}
 use Rattle.scenario_play.specs.declared.status.Status.{Status}
@@ -62,8 +63,8 @@ stopped before now status (inl want) front = record { want = want; told = subst 
 stopped before now status (inr want) front = record { want = want; told = subst (TellsFront before now) want front }
 
 -- a script that was played to its end was taken whole, and keeps its promises
-pub played_whole : (before now : Outside) (status : Status) → IsPlayed before now status → status ≡ Done → HasPlayedWhole before.input now.input before.held now.held
-played_whole before now status played done = record {
+pub played_whole : (l : Language) (before now : Outside) (status : Status) → IsPlayed l before now status → status ≡ Done → HasPlayedWhole l before.input now.input before.held now.held
+played_whole l before now status played done = record {
   script = played.script;
   taken = played.taken;
   ended = played.done_ended done;

@@ -3,6 +3,7 @@ use Rattle.std.specs.Prelude.{◌≡◌, ℕ, List, Option, Some, None}
 use Rattle.command_line.specs.declared.command.Command.{Command}
 use Rattle.command_line.specs.declared.command.Command.TheVariants.{Frames, Play, Make, Session, Trial}
 use Rattle.scenario_make.specs.Script.{script_text}
+use Rattle.scenario_play.specs.Language.{group_scripts}
 use Rattle.scenario_play.specs.Outside.{Outside, TellsFront}
 use Rattle.scenario_play.specs.Played.{IsPlayed, IsWritten}
 use Rattle.scenario_play.specs.Status.{told}
@@ -15,7 +16,7 @@ use Rattle.group_program.specs.Session.{HasTold, IsSession}
 -- what comes of a command, which is none where the words say none
 abbrev pub HasRun : Option Command → Option ℕ → Outside → Outside → Status → Type 0
 HasRun None moment before now status = HasTold BadWords before now status
-HasRun (Some Play) moment before now status = IsPlayed before now status
+HasRun (Some Play) moment before now status = IsPlayed group_scripts before now status
 HasRun (Some (Make n)) moment before now status = IsWritten Done (script_text n) before.held now.held before.writes now.writes status
 HasRun (Some (Trial n)) moment before now status = IsWritten (told (script_text n)) (trial_text n) before.held now.held before.writes now.writes status
 HasRun (Some (Session k m blocks block)) moment before now status = IsSession (record { k = k; m = m; blocks = blocks; block = block }) moment before now status

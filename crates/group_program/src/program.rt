@@ -4,6 +4,7 @@ ghost use Rattle.command_line.specs.Words.{command_of};
 ghost use Rattle.edge_io.specs.Faults.{Rose};
 ghost use Rattle.group_types.specs.Dimensions.{Dimensions};
 ghost use Rattle.group_types.specs.Shape.{IsShape};
+ghost use Rattle.scenario_play.specs.Language.{group_scripts};
 ghost use Rattle.scenario_play.specs.Outside.{outside};
 ghost use Rattle.scenario_play.specs.Played.{HasPlayedWhole};
 ghost use Rattle.group_program.specs.Program.{HasRun, HasStopped};
@@ -38,7 +39,7 @@ pub fn run_program<R: Threads + Wait + Sync, S: Source, K: Sink, L: Listener, T:
         (outside (S.input source.new) (S.faults source.new) (K.held sink.new) (K.faults sink.new)) result
         ⊎ (HasStopped (K.held sink.old) (K.held sink.new) result × (source.new ≡ source.old)) }
     ensures promises { command_of (map string_bytes words.now) ≡ Some Command.Play → result ≡ Status.Done
-        → HasPlayedWhole (S.input source.old) (S.input source.new) (K.held sink.old) (K.held sink.new) }
+        → HasPlayedWhole group_scripts (S.input source.old) (S.input source.new) (K.held sink.old) (K.held sink.new) }
     ensures bad_words { result ≡ Status.BadWords → command_of (map string_bytes words.now) ≡ None }
     ensures read { result ≡ Status.ReadFault → Rose (S.faults source.old) (S.faults source.new) }
     ensures write { result ≡ Status.WriteFault → Rose (K.faults sink.old) (K.faults sink.new) }

@@ -3,7 +3,8 @@ use Rattle.std.specs.Prelude.{ℕ, ◌≡◌, List, [], ◌∷◌, ◌++◌, Opt
 use Rattle.group_types.specs.Dimensions.{Dimensions}
 use Rattle.group_run.specs.World.{opening}
 use Rattle.scenario_text.specs.declared.line.Line.{Line}
-use Rattle.scenario_run.specs.Playing.{Play, Goes, Ends, Refused, then_by}
+use Rattle.scenario_run.specs.Course.{Goes, Ends, Refused}
+use Rattle.scenario_run.specs.Playing.{Play, then_by}
 
 -- what is written for the lines behind the group line, up to the end or to a line that is refused
 abbrev pub text_from : Option Play → List Line → List ℕ

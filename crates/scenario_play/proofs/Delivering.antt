@@ -14,6 +14,7 @@ use Rattle.law_moves.proofs.Reading.{grown-is}
 use Rattle.group_calls.specs.declared.event.Answer.{Answer}
 use Rattle.scenario_text.specs.Texts.{answer_text, entries_text, entry_text}
 use Rattle.group_run.specs.Shown.{is_down}
+use Rattle.scenario_run.specs.Marks.{marked_entries}
 use Rattle.scenario_run.specs.Playing.{drained_text, draining, turn_text}
 use Rattle.scenario_run.proofs.Draining.{Lightens, burden, lightens}
 use Rattle.scenario_run.proofs.Leading.{IsLedTo, led-step}
@@ -35,6 +36,11 @@ last-logged w e =
 pub entries-append : (a b : List Entry) → entries_text (a ++ b) ≡ entries_text a ++ entries_text b
 entries-append [] b = refl
 entries-append (x ∷ a) b = ap (λ (ys : List ℕ). entry_text x ++ 10 ∷ ys) (entries-append a b) ∙ sym (append_assoc (entry_text x) (10 ∷ entries_text a) (entries_text b))
+
+-- entries under the mark of one group's log
+pub marked-plain : (es : List Entry) → marked_entries (codes "= ") es ≡ entries_text es
+marked-plain [] = refl
+marked-plain (e ∷ es) = ap (λ (xs : List ℕ). entry_text e ++ 10 ∷ xs) (marked-plain es)
 
 -- the deliveries that are left, of as many as the weight at first
 abbrev pub left_of : World → World → ℕ → List Event
@@ -67,12 +73,12 @@ Delivered-none w text led up = record {
   whole = ap (λ (n : ℕ). drain_events n w) all
 
 -- the deliveries, where this one is next
-one-left : (n m : ℕ) (v : World) (e : Event) → n ≡ suc m → next_delivery v ≡ Some e → drain_events n v ≡ e ∷ drain_events m (step v e).world
+pub one-left : (n m : ℕ) (v : World) (e : Event) → n ≡ suc m → next_delivery v ≡ Some e → drain_events n v ≡ e ∷ drain_events m (step v e).world
 one-left zero m v e more is = absurd (cc more)
 one-left (suc n) m v e more is = let same : n ≡ m = omega (arith, more) in
     ap (λ (next : Option Event). elim next [ None ↦ [] | Some x ↦ x ∷ drain_events n (step v x).world ]) is ∙ ap (λ (k : ℕ). e ∷ drain_events k (step v e).world) same
 
-none-left : (n : ℕ) (v : World) → next_delivery v ≡ None → drain_events n v ≡ []
+pub none-left : (n : ℕ) (v : World) → next_delivery v ≡ None → drain_events n v ≡ []
 none-left zero v is = refl
 none-left (suc n) v is = ap (λ (next : Option Event). elim next [ None ↦ [] | Some x ↦ x ∷ drain_events n (step v x).world ]) is
 

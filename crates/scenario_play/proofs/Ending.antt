@@ -1,21 +1,19 @@
 -- How a script ends, from how it was read and how it was played.
-use Rattle.std.proofs.Common.{◌≡◌, ℕ, ◌<◌, ◌≤◌, ◌⊎◌, inl, inr, Bool, true, false, if◌then◌else◌, nat_lt, List, [], length, take, drop, Option, Some, None, Result, Ok, Err, IfSome, refl, sym, ap, ◌∙◌, subst, arith}
+use Rattle.std.proofs.Common.{◌≡◌, ℕ, ◌<◌, ◌≤◌, ◌⊎◌, inl, inr, Bool, true, false, if◌then◌else◌, nat_lt, List, [], length, take, Result, Ok, Err, refl, sym, ◌∙◌, subst, arith}
 use Rattle.std.proofs.Math.Seq.{take-length}
 use Rattle.std.proofs.lemmas.Bool.Decides.{nat_tests}
 use Rattle.edge_io.specs.Faults.{Rose}
 use Rattle.edge_io.specs.Moving.{Appends, Input, IsEnded, Takes}
 use Rattle.edge_io.specs.Writing.{HasWritten}
 use Rattle.edge_io.proofs.Moving.{Appends-nil, Appends-trans}
-use Rattle.scenario_run.specs.Script.{Fault, first_fault, transcript}
-use Rattle.scenario_run.proofs.Promises.{scripts_keep_promises}
-use Rattle.scenario_text.specs.declared.line.LineFault.{LineFault}
-use Rattle.scenario_text.specs.declared.line.LineFault.TheVariants as line
-use Rattle.scenario_play.specs.Ends.{HasEnded, HasPlayed, HasRead, HasTreated}
+use Rattle.scenario_play.specs.Ends.{HasEnded, HasRead, HasTreated}
+use Rattle.scenario_play.specs.Language.{Language, told_in}
 use Rattle.scenario_play.specs.Outside.{EndsWith, Outside, StopsWithin, TellsFront}
 use Rattle.scenario_play.specs.Played.{IsPlayed, IsWritten}
-use Rattle.scenario_play.specs.Status.{HasFaultOf, IsEarly, IsRefusal, IsTold, IsUnread, TellsOfScript, last_line, longest_script, told, told_at, told_of}
+use Rattle.scenario_play.specs.Player.{HasPlayed}
+use Rattle.scenario_play.specs.Status.{HasFaultOf, IsEarly, IsRefusal, IsTold, IsUnread, TellsOfScript, last_line, longest_script}
 use Rattle.scenario_play.specs.declared.status.Status.{Status}
-use Rattle.scenario_play.specs.declared.status.Status.TheVariants.{Done, BadWords, BadLine, BadShape, TooLong, ReadFault, WriteFault, Want, Cut, LineTooLong, Worn, BadFrame}
+use Rattle.scenario_play.specs.declared.status.Status.TheVariants.{Done, BadWords, BadLine, BadShape, BadCount, TooLong, ReadFault, WriteFault, Want, Cut, LineTooLong, Worn, BadFrame, BadConfig, AcceptFault}
 
 short : (n : ℕ) → n ≤ longest_script → nat_lt longest_script n ≡ false
 short n within = grind (arith, nat_tests)
@@ -23,15 +21,15 @@ short n within = grind (arith, nat_tests)
 long : (n : ℕ) → longest_script < n → nat_lt longest_script n ≡ true
 long n above = grind (arith, nat_tests)
 
-pub told-short : (text : List ℕ) → length text ≤ longest_script → told text ≡ told_of (first_fault text)
-told-short text within = rw (short (length text) within) refl
+pub told-short : (l : Language) (text : List ℕ) → length text ≤ longest_script → told_in l text ≡ l.verdict text
+told-short l text within = rw (short (length text) within) refl
 
-pub told-long : (text : List ℕ) → longest_script < length text → told text ≡ TooLong
-told-long text above = rw (long (length text) above) refl
+pub told-long : (l : Language) (text : List ℕ) → longest_script < length text → told_in l text ≡ TooLong
+told-long l text above = rw (long (length text) above) refl
 
 -- a text of one byte more than a script may have
-long-told : (text : List ℕ) → length text ≡ 16777217 → told text ≡ TooLong
-long-told text all = told-long text (omega (arith, all))
+long-told : (l : Language) (text : List ℕ) → length text ≡ 16777217 → told_in l text ≡ TooLong
+long-told l text all = told-long l text (omega (arith, all))
 
 -- fronts of a text
 pub nothing-written : (before now : List ℕ) (text : List ℕ) → now ≡ before → HasWritten before now text
@@ -44,16 +42,20 @@ pub nothing-told : (held : List ℕ) (status : Status) → TellsFront held held 
 nothing-told held status = record { said = status; whose = inl refl; written = nothing-written held held (last_line status) refl }
 
 -- what was read to its end and then played
-module _ (a b : Outside) (text : List ℕ) (within : length text ≤ longest_script) (taken : Takes a.input b.input text) (met : IsEnded b.input) where
-  treated : (result : Result (Unit {0}) Status) → HasEnded text a b result → HasTreated a b result
+module _ (l : Language) (a b : Outside) (text : List ℕ) (within : length text ≤ longest_script) (taken : Takes a.input b.input text) (met : IsEnded b.input) where
+  treated : (result : Result (Unit {0}) Status) → HasEnded l text a b result → HasTreated l a b result
   treated result ends = record { script = text; taken = taken; few = omega (arith, within); ends = ends }
 
-  pub treated-done : (logged : ℕ) → HasPlayed a.held b.held a.writes b.writes text (Ok logged) → HasTreated a b (Ok tt)
-  treated-done logged played = treated (Ok tt) (told-short text within ∙ ap told_of played.0, met, played.1)
+  abbrev Played : Result (Unit {0}) Status → Type 0
+  Played result = HasPlayed a.held b.held a.writes b.writes (l.transcript text) (l.verdict text) result
 
-  fault : (status : Status) → HasPlayed a.held b.held a.writes b.writes text (Err status) → HasEnded text a b (Err status)
-  fault (BadLine n) played = (played.0, told-short text within ∙ played.1, met, played.2)
-  fault (BadShape f) played = (played.0, told-short text within ∙ played.1, met, played.2)
+  pub treated-done : (done : Unit {0}) → Played (Ok done) → HasTreated l a b (Ok done)
+  treated-done done played = treated (Ok done) (told-short l text within ∙ played.0, met, played.1)
+
+  fault : (status : Status) → Played (Err status) → HasEnded l text a b (Err status)
+  fault (BadLine n) played = (played.0, told-short l text within ∙ played.1, met, played.2)
+  fault (BadShape f) played = (played.0, told-short l text within ∙ played.1, met, played.2)
+  fault (BadCount c) played = (played.0, told-short l text within ∙ played.1, met, played.2)
   fault WriteFault played = (played.0, within, met, played.1)
   fault Want played = inr (met, played)
   fault Done played = absurd played.0
@@ -62,15 +64,17 @@ module _ (a b : Outside) (text : List ℕ) (within : length text ≤ longest_scr
   fault LineTooLong played = absurd played.0
   fault Worn played = absurd played.0
   fault (BadFrame n) played = absurd played.0
+  fault (BadConfig key) played = absurd played.0
+  fault AcceptFault played = absurd played.0
   fault TooLong played = absurd played.0
   fault ReadFault played = absurd played.0
 
-  pub treated-fault : (status : Status) → HasPlayed a.held b.held a.writes b.writes text (Err status) → HasTreated a b (Err status)
+  pub treated-fault : (status : Status) → Played (Err status) → HasTreated l a b (Err status)
   treated-fault status played = treated (Err status) (fault status played)
 
 -- what was not read to its end
-module _ (a b : Outside) (same : b.held ≡ a.held) where
-  pub treated-unread : (status : Status) → HasRead a.input b.input a.reads b.reads (Err status) → HasTreated a b (Err status)
+module _ (l : Language) (a b : Outside) (same : b.held ≡ a.held) where
+  pub treated-unread : (status : Status) → HasRead a.input b.input a.reads b.reads (Err status) → HasTreated l a b (Err status)
   treated-unread TooLong read = record { script = read.0; taken = read.1; few = omega (arith, read.2); ends = (same, read.2) }
   treated-unread ReadFault read = record { script = read.1.bytes; taken = read.1.taken; few = let few = read.1.few in omega (arith, few); ends = (same, read.0, read.1.few) }
   treated-unread Want read = record { script = read.bytes; taken = read.taken; few = read.few; ends = inl same }
@@ -80,8 +84,11 @@ module _ (a b : Outside) (same : b.held ≡ a.held) where
   treated-unread LineTooLong read = absurd read
   treated-unread Worn read = absurd read
   treated-unread (BadFrame n) read = absurd read
+  treated-unread (BadConfig key) read = absurd read
+  treated-unread AcceptFault read = absurd read
   treated-unread (BadLine n) read = absurd read
   treated-unread (BadShape f) read = absurd read
+  treated-unread (BadCount c) read = absurd read
   treated-unread WriteFault read = absurd read
 
 -- who counted a fault
@@ -92,27 +99,33 @@ read-fault input now read_before read_now writes BadWords read = absurd read
 read-fault input now read_before read_now writes Done read = tt
 read-fault input now read_before read_now writes (BadLine n) read = tt
 read-fault input now read_before read_now writes (BadShape f) read = tt
+read-fault input now read_before read_now writes (BadCount c) read = tt
 read-fault input now read_before read_now writes TooLong read = tt
 read-fault input now read_before read_now writes Want read = tt
 read-fault input now read_before read_now writes Cut read = tt
 read-fault input now read_before read_now writes LineTooLong read = tt
 read-fault input now read_before read_now writes Worn read = tt
 read-fault input now read_before read_now writes (BadFrame n) read = tt
+read-fault input now read_before read_now writes (BadConfig key) read = tt
+read-fault input now read_before read_now writes AcceptFault read = tt
 
-pub play-fault : (held held_now : List ℕ) (read_before read_now written_before written_now : ℕ) (text : List ℕ) (status : Status)
-    → HasPlayed held held_now written_before written_now text (Err status) → HasFaultOf read_before read_now written_before written_now status
-play-fault held held_now read_before read_now written_before written_now text WriteFault played = played.0
-play-fault held held_now read_before read_now written_before written_now text ReadFault played = absurd played.0
-play-fault held held_now read_before read_now written_before written_now text BadWords played = absurd played.0
-play-fault held held_now read_before read_now written_before written_now text Done played = tt
-play-fault held held_now read_before read_now written_before written_now text (BadLine n) played = tt
-play-fault held held_now read_before read_now written_before written_now text (BadShape f) played = tt
-play-fault held held_now read_before read_now written_before written_now text TooLong played = tt
-play-fault held held_now read_before read_now written_before written_now text Want played = tt
-play-fault held held_now read_before read_now written_before written_now text Cut played = tt
-play-fault held held_now read_before read_now written_before written_now text LineTooLong played = tt
-play-fault held held_now read_before read_now written_before written_now text Worn played = tt
-play-fault held held_now read_before read_now written_before written_now text (BadFrame n) played = tt
+pub play-fault : (held held_now : List ℕ) (read_before read_now written_before written_now : ℕ) (text : List ℕ) (verdict status : Status)
+    → HasPlayed held held_now written_before written_now text verdict (Err status) → HasFaultOf read_before read_now written_before written_now status
+play-fault held held_now read_before read_now written_before written_now text verdict WriteFault played = played.0
+play-fault held held_now read_before read_now written_before written_now text verdict ReadFault played = absurd played.0
+play-fault held held_now read_before read_now written_before written_now text verdict BadWords played = absurd played.0
+play-fault held held_now read_before read_now written_before written_now text verdict Done played = tt
+play-fault held held_now read_before read_now written_before written_now text verdict (BadLine n) played = tt
+play-fault held held_now read_before read_now written_before written_now text verdict (BadShape f) played = tt
+play-fault held held_now read_before read_now written_before written_now text verdict (BadCount c) played = tt
+play-fault held held_now read_before read_now written_before written_now text verdict TooLong played = tt
+play-fault held held_now read_before read_now written_before written_now text verdict Want played = tt
+play-fault held held_now read_before read_now written_before written_now text verdict Cut played = tt
+play-fault held held_now read_before read_now written_before written_now text verdict LineTooLong played = tt
+play-fault held held_now read_before read_now written_before written_now text verdict Worn played = tt
+play-fault held held_now read_before read_now written_before written_now text verdict (BadFrame n) played = tt
+play-fault held held_now read_before read_now written_before written_now text verdict (BadConfig key) played = tt
+play-fault held held_now read_before read_now written_before written_now text verdict AcceptFault played = tt
 
 -- a status that was told is the one at the end, unless there was no memory
 pub came_from : (s status other : Status) → (status ≡ s) ⊎ (status ≡ Want) → status ≡ other → (other ≡ Want → ⊥) → s ≡ other
@@ -122,32 +135,27 @@ came_from s status other (inr want) now differs = absurd (differs (sym now ∙ w
 pub fault-told : (r r' w w' : ℕ) (s status other : Status) → HasFaultOf r r' w w' s → (status ≡ s) ⊎ (status ≡ Want) → status ≡ other → (other ≡ Want → ⊥) → HasFaultOf r r' w w' other
 fault-told r r' w w' s status other fault is now differs = subst (HasFaultOf r r' w w') (came_from s status other is now differs) fault
 
--- a script none of whose lines is refused keeps its promises
-whole : (text : List ℕ) → told text ≡ Done → first_fault text ≡ None
-whole text is = by (nat_lt longest_script (length text)) (first_fault text) refl is where
-  by : (b : Bool) (fault : Option Fault) → first_fault text ≡ fault → (if b then TooLong else told_of fault) ≡ Done → first_fault text ≡ None
-  by true fault same is = absurd (cc is)
-  by false None same is = same
-  by false (Some fault) same is = absurd (told_not fault.number fault.cause is) where
-    told_not : (n : ℕ) (cause : LineFault) → told_at n cause ≡ Done → ⊥
-    told_not n line.BadLine is = cc is
-    told_not n (line.BadShape field) is = cc is
-    told_not n line.Want is = cc is
+-- a script of which all is done is not too long
+whole : (l : Language) (text : List ℕ) → told_in l text ≡ Done → l.verdict text ≡ Done
+whole l text is = by (nat_lt longest_script (length text)) is where
+  by : (b : Bool) → (if b then TooLong else l.verdict text) ≡ Done → l.verdict text ≡ Done
+  by true is = absurd (cc is)
+  by false is = is
 
-pub played-done : (a b : Outside) (done : Unit {0}) → HasTreated a b (Ok done) → IsPlayed a b Done
-played-done a b done end = record {
+pub played-done : (l : Language) → ((text : List ℕ) → l.verdict text ≡ Done → l.Promise text) → (a b : Outside) (done : Unit {0}) → HasTreated l a b (Ok done) → IsPlayed l a b Done
+played-done l keeps a b done end = record {
   script = end.script;
   taken = end.taken;
   told = inl (sym end.ends.0);
   most = end.few;
   too_long = λ is. absurd (cc is);
-  long = λ all. absurd (cc (sym end.ends.0 ∙ long-told end.script all));
+  long = λ all. absurd (cc (sym end.ends.0 ∙ long-told l end.script all));
   done_ended = λ is. end.ends.1;
   done_bytes = λ is. end.ends.2;
-  promises = λ is. scripts_keep_promises end.script (whole end.script end.ends.0);
+  promises = λ is. keeps end.script (whole l end.script end.ends.0);
   refused_bytes = λ refusal. absurd refusal;
   unread_bytes = λ unread. absurd unread;
-  bytes = inl (end.ends.1, record { middle = b.held; written = all-written a.held b.held (transcript end.script) end.ends.2; told = nothing-told b.held Done });
+  bytes = inl (end.ends.1, record { middle = b.held; written = all-written a.held b.held (l.transcript end.script) end.ends.2; told = nothing-told b.held Done });
 }
 
 -- a last line was written behind a text
@@ -164,11 +172,12 @@ behind before middle now faults_before faults_middle faults_now text line wrote 
     rose_more (inr rose) = inr (omega (arith, rose))
 
 -- after the last line was told
-module _ (script : List ℕ) (a b c : Outside) (kept : c.input ≡ b.input) (reads : c.reads ≡ b.reads) (later : a.writes ≤ b.writes) (more : b.writes ≤ c.writes) where
-  is-told : (s : Status) → HasEnded script a b (Err s) → IsTold (told script) a.reads c.reads a.writes c.writes s
+module _ (l : Language) (script : List ℕ) (a b c : Outside) (kept : c.input ≡ b.input) (reads : c.reads ≡ b.reads) (later : a.writes ≤ b.writes) (more : b.writes ≤ c.writes) where
+  is-told : (s : Status) → HasEnded l script a b (Err s) → IsTold (told_in l script) a.reads c.reads a.writes c.writes s
   is-told (BadLine n) end = inl (sym end.1)
   is-told (BadShape f) end = inl (sym end.1)
-  is-told TooLong end = inl (sym (told-long script (let all = end.1 in omega (arith, all))))
+  is-told (BadCount n) end = inl (sym end.1)
+  is-told TooLong end = inl (sym (told-long l script (let all = end.1 in omega (arith, all))))
   is-told Want end = inr (inl refl)
   is-told ReadFault end = let rose : Rose a.reads b.reads = end.1 in inr (inr (inl (refl, omega (arith, rose, reads))))
   is-told WriteFault end = let rose : Rose a.writes b.writes = end.0 in inr (inr (inr (refl, omega (arith, rose, more))))
@@ -178,13 +187,16 @@ module _ (script : List ℕ) (a b c : Outside) (kept : c.input ≡ b.input) (rea
   is-told LineTooLong end = absurd end.0
   is-told Worn end = absurd end.0
   is-told (BadFrame n) end = absurd end.0
+  is-told (BadConfig key) end = absurd end.0
+  is-told AcceptFault end = absurd end.0
 
   -- one byte more than a script may have was taken
-  is-long : (s : Status) → HasEnded script a b (Err s) → length script ≡ 16777217 → (s ≡ TooLong) ⊎ (s ≡ Want)
+  is-long : (s : Status) → HasEnded l script a b (Err s) → length script ≡ 16777217 → (s ≡ TooLong) ⊎ (s ≡ Want)
   is-long TooLong end all = inl refl
   is-long Want end all = inr refl
-  is-long (BadLine n) end all = absurd (cc (sym end.1 ∙ long-told script all))
-  is-long (BadShape f) end all = absurd (cc (sym end.1 ∙ long-told script all))
+  is-long (BadLine n) end all = absurd (cc (sym end.1 ∙ long-told l script all))
+  is-long (BadShape f) end all = absurd (cc (sym end.1 ∙ long-told l script all))
+  is-long (BadCount n) end all = absurd (cc (sym end.1 ∙ long-told l script all))
   is-long ReadFault end all = let short = end.2 in absurd (omega (arith, short, all))
   is-long WriteFault end all = let short = end.1 in absurd (omega (arith, short, all))
   is-long Done end all = absurd end.0
@@ -193,20 +205,23 @@ module _ (script : List ℕ) (a b c : Outside) (kept : c.input ≡ b.input) (rea
   is-long LineTooLong end all = absurd end.0
   is-long Worn end all = absurd end.0
   is-long (BadFrame n) end all = absurd end.0
+  is-long (BadConfig key) end all = absurd end.0
+  is-long AcceptFault end all = absurd end.0
 
   -- what stands in the sink: behind the transcript of a script that was read to its end, or of no line
   abbrev Stops : Status → Type 0
-  Stops status = (IsEnded c.input × StopsWithin a.held c.held (transcript script) status) ⊎ (IsEarly status × TellsFront a.held c.held status)
+  Stops status = (IsEnded c.input × StopsWithin a.held c.held (l.transcript script) status) ⊎ (IsEarly status × TellsFront a.held c.held status)
 
-  within-all : (status : Status) → IsEnded b.input → HasWritten a.held b.held (transcript script) → TellsFront b.held c.held status → Stops status
+  within-all : (status : Status) → IsEnded b.input → HasWritten a.held b.held (l.transcript script) → TellsFront b.held c.held status → Stops status
   within-all status met written front = inl (subst IsEnded (sym kept) met, record { middle = b.held; written = written; told = front })
 
   alone-told : (status : Status) → IsEarly status → b.held ≡ a.held → TellsFront b.held c.held status → Stops status
   alone-told status early same front = inr (early, subst (λ (h : List ℕ). TellsFront h c.held status) same front)
 
-  stops : (s status : Status) → (IsEarly s → IsEarly status) → HasEnded script a b (Err s) → TellsFront b.held c.held status → Stops status
-  stops (BadLine n) status early end front = within-all status end.2 (all-written a.held b.held (transcript script) end.3) front
-  stops (BadShape f) status early end front = within-all status end.2 (all-written a.held b.held (transcript script) end.3) front
+  stops : (s status : Status) → (IsEarly s → IsEarly status) → HasEnded l script a b (Err s) → TellsFront b.held c.held status → Stops status
+  stops (BadLine n) status early end front = within-all status end.2 (all-written a.held b.held (l.transcript script) end.3) front
+  stops (BadShape f) status early end front = within-all status end.2 (all-written a.held b.held (l.transcript script) end.3) front
+  stops (BadCount n) status early end front = within-all status end.2 (all-written a.held b.held (l.transcript script) end.3) front
   stops WriteFault status early end front = within-all status end.2 end.3 front
   stops Want status early (inl same) front = alone-told status (early tt) same front
   stops Want status early (inr wrote) front = within-all status wrote.0 wrote.1 front
@@ -218,19 +233,24 @@ module _ (script : List ℕ) (a b c : Outside) (kept : c.input ≡ b.input) (rea
   stops LineTooLong status early end front = absurd end.0
   stops Worn status early end front = absurd end.0
   stops (BadFrame n) status early end front = absurd end.0
+  stops (BadConfig key) status early end front = absurd end.0
+  stops AcceptFault status early end front = absurd end.0
 
   abbrev Tells : Status → Type 0
   Tells s = EndsWith b.held c.held b.writes c.writes [] (last_line s)
 
-  refused : (s : Status) → HasEnded script a b (Err s) → IsRefusal s → Tells s → EndsWith a.held c.held a.writes c.writes (transcript script) (last_line s)
-  refused (BadLine n) end refusal tells = behind a.held b.held c.held a.writes b.writes c.writes (transcript script) (last_line (BadLine n)) end.3 later tells
-  refused (BadShape f) end refusal tells = behind a.held b.held c.held a.writes b.writes c.writes (transcript script) (last_line (BadShape f)) end.3 later tells
+  refused : (s : Status) → HasEnded l script a b (Err s) → IsRefusal s → Tells s → EndsWith a.held c.held a.writes c.writes (l.transcript script) (last_line s)
+  refused (BadLine n) end refusal tells = behind a.held b.held c.held a.writes b.writes c.writes (l.transcript script) (last_line (BadLine n)) end.3 later tells
+  refused (BadShape f) end refusal tells = behind a.held b.held c.held a.writes b.writes c.writes (l.transcript script) (last_line (BadShape f)) end.3 later tells
+  refused (BadCount n) end refusal tells = behind a.held b.held c.held a.writes b.writes c.writes (l.transcript script) (last_line (BadCount n)) end.3 later tells
   refused Done end refusal tells = absurd refusal
   refused BadWords end refusal tells = absurd refusal
   refused Cut end refusal tells = absurd refusal
   refused LineTooLong end refusal tells = absurd refusal
   refused Worn end refusal tells = absurd refusal
   refused (BadFrame n) end refusal tells = absurd refusal
+  refused (BadConfig key) end refusal tells = absurd refusal
+  refused AcceptFault end refusal tells = absurd refusal
   refused TooLong end refusal tells = absurd refusal
   refused ReadFault end refusal tells = absurd refusal
   refused WriteFault end refusal tells = absurd refusal
@@ -239,28 +259,31 @@ module _ (script : List ℕ) (a b c : Outside) (kept : c.input ≡ b.input) (rea
   alone : (s : Status) → b.held ≡ a.held → Tells s → EndsWith a.held c.held a.writes c.writes [] (last_line s)
   alone s same tells = behind a.held b.held c.held a.writes b.writes c.writes [] (last_line s) (subst (λ (o : List ℕ). Appends a.held o []) (sym same) (Appends-nil a.held)) later tells
 
-  unread-told : (s : Status) → HasEnded script a b (Err s) → IsUnread s → Tells s → EndsWith a.held c.held a.writes c.writes [] (last_line s)
+  unread-told : (s : Status) → HasEnded l script a b (Err s) → IsUnread s → Tells s → EndsWith a.held c.held a.writes c.writes [] (last_line s)
   unread-told TooLong end unread tells = alone TooLong end.0 tells
   unread-told ReadFault end unread tells = alone ReadFault end.0 tells
   unread-told Done end unread tells = absurd unread
   unread-told BadWords end unread tells = absurd unread
   unread-told (BadLine n) end unread tells = absurd unread
   unread-told (BadShape f) end unread tells = absurd unread
+  unread-told (BadCount n) end unread tells = absurd unread
   unread-told WriteFault end unread tells = absurd unread
   unread-told Want end unread tells = absurd unread
   unread-told Cut end unread tells = absurd unread
   unread-told LineTooLong end unread tells = absurd unread
   unread-told Worn end unread tells = absurd unread
   unread-told (BadFrame n) end unread tells = absurd unread
+  unread-told (BadConfig key) end unread tells = absurd unread
+  unread-told AcceptFault end unread tells = absurd unread
 
-  not-done : (s : Status) → HasEnded script a b (Err s) → s ≡ Done → ⊥
-  not-done s end is = (subst (λ (x : Status). HasEnded script a b (Err x)) is end).0
+  not-done : (s : Status) → HasEnded l script a b (Err s) → s ≡ Done → ⊥
+  not-done s end is = (subst (λ (x : Status). HasEnded l script a b (Err x)) is end).0
 
-  too-long : (s : Status) → HasEnded script a b (Err s) → s ≡ TooLong → length script ≡ 16777217
-  too-long s end is = (subst (λ (x : Status). HasEnded script a b (Err x)) is end).1
+  too-long : (s : Status) → HasEnded l script a b (Err s) → s ≡ TooLong → length script ≡ 16777217
+  too-long s end is = (subst (λ (x : Status). HasEnded l script a b (Err x)) is end).1
 
   -- the status was told as it is
-  same-told : (s : Status) → Takes a.input b.input script → length script ≤ 16777217 → HasEnded script a b (Err s) → (s ≡ Want) ⊎ Tells s → TellsFront b.held c.held s → IsPlayed a c s
+  same-told : (s : Status) → Takes a.input b.input script → length script ≤ 16777217 → HasEnded l script a b (Err s) → (s ≡ Want) ⊎ Tells s → TellsFront b.held c.held s → IsPlayed l a c s
   same-told s taken few end tells front = record {
     script = script;
     taken = subst (λ (i : Input). Takes a.input i script) (sym kept) taken;
@@ -281,7 +304,7 @@ module _ (script : List ℕ) (a b c : Outside) (kept : c.input ≡ b.input) (rea
       surely x (inr tells) never = tells
 
   -- there was no memory to tell it
-  want-told : (s : Status) → Takes a.input b.input script → length script ≤ 16777217 → HasEnded script a b (Err s) → TellsFront b.held c.held Want → IsPlayed a c Want
+  want-told : (s : Status) → Takes a.input b.input script → length script ≤ 16777217 → HasEnded l script a b (Err s) → TellsFront b.held c.held Want → IsPlayed l a c Want
   want-told s taken few end front = record {
     script = script;
     taken = subst (λ (i : Input). Takes a.input i script) (sym kept) taken;
@@ -297,15 +320,33 @@ module _ (script : List ℕ) (a b c : Outside) (kept : c.input ≡ b.input) (rea
     bytes = stops s Want (λ early. tt) end front;
   }
 
-  pub played-told : (s status : Status) → Takes a.input b.input script → length script ≤ 16777217 → HasEnded script a b (Err s) → (status ≡ s) ⊎ (status ≡ Want) → (status ≡ s → (status ≡ Want) ⊎ Tells s)
-      → TellsFront b.held c.held status → IsPlayed a c status
-  played-told s status taken few end (inl is) tells front = subst (IsPlayed a c) (sym is)
+  pub played-told : (s status : Status) → Takes a.input b.input script → length script ≤ 16777217 → HasEnded l script a b (Err s) → (status ≡ s) ⊎ (status ≡ Want) → (status ≡ s → (status ≡ Want) ⊎ Tells s)
+      → TellsFront b.held c.held status → IsPlayed l a c status
+  played-told s status taken few end (inl is) tells front = subst (IsPlayed l a c) (sym is)
       (same-told s taken few end (subst (λ (x : Status). (x ≡ Want) ⊎ Tells s) is (tells is)) (subst (TellsFront b.held c.held) is front))
-  played-told s status taken few end (inr want) tells front = subst (IsPlayed a c) (sym want) (want-told s taken few end (subst (TellsFront b.held c.held) want front))
+  played-told s status taken few end (inr want) tells front = subst (IsPlayed l a c) (sym want) (want-told s taken few end (subst (TellsFront b.held c.held) want front))
 
-pub told-ended : (a b c : Outside) → c.input ≡ b.input → c.reads ≡ b.reads → a.writes ≤ b.writes → b.writes ≤ c.writes → (s status : Status) → HasTreated a b (Err s)
-    → (status ≡ s) ⊎ (status ≡ Want) → (status ≡ s → (status ≡ Want) ⊎ EndsWith b.held c.held b.writes c.writes [] (last_line s)) → TellsFront b.held c.held status → IsPlayed a c status
-told-ended a b c kept reads later more s status end is tells front = played-told end.script a b c kept reads later more s status end.taken end.few end.ends is tells front
+pub told-ended : (l : Language) (a b c : Outside) → c.input ≡ b.input → c.reads ≡ b.reads → a.writes ≤ b.writes → b.writes ≤ c.writes → (s status : Status) → HasTreated l a b (Err s)
+    → (status ≡ s) ⊎ (status ≡ Want) → (status ≡ s → (status ≡ Want) ⊎ EndsWith b.held c.held b.writes c.writes [] (last_line s)) → TellsFront b.held c.held status → IsPlayed l a c status
+told-ended l a b c kept reads later more s status end is tells front = played-told l end.script a b c kept reads later more s status end.taken end.few end.ends is tells front
+
+-- what is promised of a language's scripts may be said in other words
+pub promised : (l : Language) (Promise : List ℕ → Type 0) → ((text : List ℕ) → l.Promise text → Promise text) → (a b : Outside) (status : Status) → IsPlayed l a b status
+    → IsPlayed (record { transcript = l.transcript; verdict = l.verdict; Promise = Promise }) a b status
+promised l Promise keeps a b status played = record {
+  script = played.script;
+  taken = played.taken;
+  told = played.told;
+  most = played.most;
+  too_long = played.too_long;
+  long = played.long;
+  done_ended = played.done_ended;
+  done_bytes = played.done_bytes;
+  promises = λ done. keeps played.script (played.promises done);
+  refused_bytes = played.refused_bytes;
+  unread_bytes = played.unread_bytes;
+  bytes = played.bytes;
+}
 
 -- a text that was written in whole or in part
 pub written-whole : (wanted : Status) (text : List ℕ) (before now : List ℕ) (faults_before faults_now : ℕ) → wanted ≡ Done → Appends before now text → IsWritten wanted text before now faults_before faults_now Done

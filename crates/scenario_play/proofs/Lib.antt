@@ -2,4 +2,6 @@ pub mod Cutting
 pub mod Delivering
 pub mod Ending
 pub mod Lines
+pub mod Treating
 pub mod Whole
+pub mod Writing

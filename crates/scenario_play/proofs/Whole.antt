@@ -4,33 +4,34 @@ use Rattle.std.proofs.Math.Seq.{drop-append_seam}
 use Rattle.std.specs.Io.KnownBytes.{Consumes}
 use Rattle.edge_io.specs.Moving.{Appends, IsEnded}
 use Rattle.edge_io.proofs.Moving.{Takes-all}
-use Rattle.scenario_run.specs.Promises.{KeepsPromises}
-use Rattle.scenario_run.specs.Script.{Fault, first_fault, transcript}
+use Rattle.scenario_run.specs.Course.{Fault}
+use Rattle.scenario_run.specs.Script.{first_fault}
 use Rattle.scenario_text.specs.declared.line.LineFault.{LineFault}
 use Rattle.scenario_text.specs.declared.line.LineFault.TheVariants as line
+use Rattle.scenario_play.specs.Language.{Language, group_scripts, told_in}
 use Rattle.scenario_play.specs.Outside.{EndsWith, Outside, StopsWithin, TellsFront}
 use Rattle.scenario_play.specs.Played.{IsPlayed}
-use Rattle.scenario_play.specs.Status.{IsEarly, IsRefusal, IsTold, last_line, longest_script, told, told_at, told_of}
+use Rattle.scenario_play.specs.Status.{IsEarly, IsRefusal, IsTold, last_line, longest_script, told_at, told_of}
 use Rattle.scenario_play.specs.Whole.{PlaysAll, PlaysAllAlways}
 use Rattle.scenario_play.specs.declared.status.Status.{Status}
-use Rattle.scenario_play.specs.declared.status.Status.TheVariants.{Done, BadWords, BadLine, BadShape, TooLong, ReadFault, WriteFault, Want, Cut, LineTooLong, Worn, BadFrame}
+use Rattle.scenario_play.specs.declared.status.Status.TheVariants.{Done, BadWords, BadLine, BadShape, BadCount, TooLong, ReadFault, WriteFault, Want, Cut, LineTooLong, Worn, BadFrame, BadConfig, AcceptFault}
 use Rattle.scenario_play.proofs.Ending.{nothing-written, told-long}
 
--- no script is told by a fault of its source
-told-not_read : (text : List ℕ) → told text ≡ ReadFault → ⊥
-told-not_read text is = by (nat_lt longest_script (length text)) (first_fault text) is where
-  by : (b : Bool) (fault : Option Fault) → (if b then TooLong else told_of fault) ≡ ReadFault → ⊥
-  by true fault is = cc is
-  by false None is = cc is
-  by false (Some fault) is = never fault.number fault.cause is where
-    never : (n : ℕ) (cause : LineFault) → told_at n cause ≡ ReadFault → ⊥
-    never n line.BadLine is = cc is
-    never n (line.BadShape field) is = cc is
-    never n line.Want is = cc is
+-- no line of a language's scripts is told by a fault of its source
+abbrev pub NeverReadFault : Language → Type 0
+NeverReadFault l = (text : List ℕ) → ¬ (l.verdict text ≡ ReadFault)
+
+-- nor a script
+told-not_read : (l : Language) → NeverReadFault l → (text : List ℕ) → ¬ (told_in l text ≡ ReadFault)
+told-not_read l never text is = by (nat_lt longest_script (length text)) is where
+  by : (b : Bool) → ¬ ((if b then TooLong else l.verdict text) ≡ ReadFault)
+  by true is = cc is
+  by false is = never text is
 
 not-both : (s : Status) → IsRefusal s → IsEarly s → ⊥
 not-both (BadLine n) refusal early = early
 not-both (BadShape f) refusal early = early
+not-both (BadCount c) refusal early = early
 not-both Done refusal early = refusal
 not-both BadWords refusal early = refusal
 not-both TooLong refusal early = refusal
@@ -41,25 +42,27 @@ not-both Cut refusal early = refusal
 not-both LineTooLong refusal early = refusal
 not-both Worn refusal early = refusal
 not-both (BadFrame n) refusal early = refusal
+not-both (BadConfig key) refusal early = refusal
+not-both AcceptFault refusal early = refusal
 
-module _ (before now : Outside) (status : Status) (played : IsPlayed before now status) (all rest : List ℕ) (left : now.input.left ≡ Some rest) (split : all ≡ played.script ++ rest)
+module _ (l : Language) (never : NeverReadFault l) (before now : Outside) (status : Status) (played : IsPlayed l before now status) (all rest : List ℕ) (left : now.input.left ≡ Some rest) (split : all ≡ played.script ++ rest)
     (whole : IsEnded now.input → (played.script ≡ all) × (now.input.left ≡ Some [])) where
   abbrev Told : List ℕ → Status → Type 0
-  Told text s = IsTold (told text) before.reads now.reads before.writes now.writes s
+  Told text s = IsTold (told_in l text) before.reads now.reads before.writes now.writes s
 
   refused-ended : IsRefusal status → IsEnded now.input
   refused-ended refusal = by played.bytes where
-    by : (IsEnded now.input × StopsWithin before.held now.held (transcript played.script) status) ⊎ (IsEarly status × TellsFront before.held now.held status) → IsEnded now.input
+    by : (IsEnded now.input × StopsWithin before.held now.held (l.transcript played.script) status) ⊎ (IsEarly status × TellsFront before.held now.held status) → IsEnded now.input
     by (inl ended) = ended.0
     by (inr early) = absurd (not-both status refusal early.0)
 
   -- a status that came before the end
   told-early : (s : Status) → status ≡ s → IsEarly s → Told all s
-  told-early TooLong is early = let some = played.too_long is in let long = ap length split ∙ length-append played.script rest in inl (sym (told-long all (omega (arith, some, long))))
+  told-early TooLong is early = let some = played.too_long is in let long = ap length split ∙ length-append played.script rest in inl (sym (told-long l all (omega (arith, some, long))))
   told-early Want is early = inr (inl refl)
   told-early ReadFault is early = by (subst (Told played.script) is played.told) where
     by : Told played.script ReadFault → Told all ReadFault
-    by (inl same) = absurd (told-not_read played.script (sym same))
+    by (inl same) = absurd (told-not_read l never played.script (sym same))
     by (inr (inl want)) = absurd (cc want)
     by (inr (inr (inl read))) = inr (inr (inl read))
     by (inr (inr (inr wrote))) = absurd (cc wrote.0)
@@ -67,37 +70,50 @@ module _ (before now : Outside) (status : Status) (played : IsPlayed before now 
   told-early BadWords is early = absurd early
   told-early (BadLine n) is early = absurd early
   told-early (BadShape f) is early = absurd early
+  told-early (BadCount c) is early = absurd early
   told-early WriteFault is early = absurd early
   told-early Cut is early = absurd early
   told-early LineTooLong is early = absurd early
   told-early Worn is early = absurd early
   told-early (BadFrame n) is early = absurd early
+  told-early (BadConfig key) is early = absurd early
+  told-early AcceptFault is early = absurd early
 
-  told-all : (IsEnded now.input × StopsWithin before.held now.held (transcript played.script) status) ⊎ (IsEarly status × TellsFront before.held now.held status) → Told all status
+  told-all : (IsEnded now.input × StopsWithin before.held now.held (l.transcript played.script) status) ⊎ (IsEarly status × TellsFront before.held now.held status) → Told all status
   told-all (inl ended) = subst (λ (text : List ℕ). Told text status) (whole ended.0).0 played.told
   told-all (inr early) = told-early status refl early.0
 
-  stops-all : (IsEnded now.input × StopsWithin before.held now.held (transcript played.script) status) ⊎ (IsEarly status × TellsFront before.held now.held status)
-      → StopsWithin before.held now.held (transcript all) status
-  stops-all (inl ended) = subst (λ (text : List ℕ). StopsWithin before.held now.held (transcript text) status) (whole ended.0).0 ended.1
-  stops-all (inr early) = record { middle = before.held; written = nothing-written before.held before.held (transcript all) refl; told = early.1 }
+  stops-all : (IsEnded now.input × StopsWithin before.held now.held (l.transcript played.script) status) ⊎ (IsEarly status × TellsFront before.held now.held status)
+      → StopsWithin before.held now.held (l.transcript all) status
+  stops-all (inl ended) = subst (λ (text : List ℕ). StopsWithin before.held now.held (l.transcript text) status) (whole ended.0).0 ended.1
+  stops-all (inr early) = record { middle = before.held; written = nothing-written before.held before.held (l.transcript all) refl; told = early.1 }
 
-  of-all : PlaysAll all before now status
+  of-all : PlaysAll l all before now status
   of-all = record {
     told = told-all played.bytes;
     done_left = λ done. (whole (played.done_ended done)).1;
-    done_bytes = λ done. subst (λ (text : List ℕ). Appends before.held now.held (transcript text)) (whole (played.done_ended done)).0 (played.done_bytes done);
-    promises = λ done. subst KeepsPromises (whole (played.done_ended done)).0 (played.promises done);
+    done_bytes = λ done. subst (λ (text : List ℕ). Appends before.held now.held (l.transcript text)) (whole (played.done_ended done)).0 (played.done_bytes done);
+    promises = λ done. subst l.Promise (whole (played.done_ended done)).0 (played.promises done);
     refused_left = λ refusal. (whole (refused-ended refusal)).1;
-    refused_bytes = λ refusal. subst (λ (text : List ℕ). EndsWith before.held now.held before.writes now.writes (transcript text) (last_line status)) (whole (refused-ended refusal)).0 (played.refused_bytes refusal);
+    refused_bytes = λ refusal. subst (λ (text : List ℕ). EndsWith before.held now.held before.writes now.writes (l.transcript text) (last_line status)) (whole (refused-ended refusal)).0 (played.refused_bytes refusal);
     too_long_left = λ is. left ∙ ap (λ (bs : List ℕ). Some bs) (sym (ap (λ (n : ℕ). drop n all) (sym (played.too_long is)) ∙ ap (drop (length played.script)) split ∙ drop-append_seam played.script rest));
     bytes = stops-all played.bytes;
   }
 
-pub plays-all : PlaysAllAlways
-plays-all before now status played = by before.input.left now.input.left refl played.taken.left (Takes-all before.input now.input played.script played.taken) where
+pub plays-all : (l : Language) → NeverReadFault l → PlaysAllAlways l
+plays-all l never before now status played = by before.input.left now.input.left refl played.taken.left (Takes-all before.input now.input played.script played.taken) where
   by : (left left_now : Option (List ℕ)) → now.input.left ≡ left_now → Consumes left left_now played.script → (IsEnded now.input → IfSome left (λ all. (played.script ≡ all) × (now.input.left ≡ Some [])))
-      → IfSome left (λ all. PlaysAll all before now status)
+      → IfSome left (λ all. PlaysAll l all before now status)
   by None left_now is consumed whole = tt
   by (Some all) None is consumed whole = absurd consumed
-  by (Some all) (Some rest) is consumed whole = of-all before now status played all rest is consumed whole
+  by (Some all) (Some rest) is consumed whole = of-all l never before now status played all rest is consumed whole
+
+pub group-never : NeverReadFault group_scripts
+group-never text is = by (first_fault text) is where
+  by : (fault : Option (Fault LineFault)) → ¬ (told_of told_at fault ≡ ReadFault)
+  by None is = cc is
+  by (Some fault) is = never fault.number fault.cause is where
+    never : (n : ℕ) (cause : LineFault) → ¬ (told_at n cause ≡ ReadFault)
+    never n line.BadLine is = cc is
+    never n (line.BadShape field) is = cc is
+    never n line.Want is = cc is

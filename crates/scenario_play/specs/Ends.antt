@@ -1,21 +1,41 @@
-use Rattle.std.specs.Prelude.{◌≡◌, ℕ, ◌+◌, ◌≤◌, List, [], length, Option, Some, None, Result, Ok, Err, ◌⊎◌, ⊤, Vec}
+use Rattle.std.specs.Prelude.{◌≡◌, ℕ, ◌+◌, ◌*◌, ◌^◌, ◌≤◌, List, [], length, Option, Some, None, Result, Ok, Err, ◌⊎◌, ⊤, Vec}
 use Rattle.edge_io.specs.Faults.{Rose}
 use Rattle.edge_io.specs.Moving.{Appends, Input, IsEnded, Takes}
 use Rattle.edge_io.specs.Writing.{HasWritten}
-use Rattle.group_calls.specs.Turns.{log_of}
+use Rattle.group_types.specs.Dimensions.{Dimensions}
+use Rattle.group_calls.specs.declared.event.Event.{Event}
+use Rattle.group_run.specs.Headline.{IsRun}
 use Rattle.group_run.specs.Progress.{load_of}
+use Rattle.group_run.specs.World.{after}
 use Rattle.scenario_text.specs.declared.line.LineFault.{LineFault}
 use Rattle.scenario_text.specs.declared.line.LineFault.TheVariants as line
-use Rattle.scenario_run.specs.Playing.{Next, Goes, Ends, Refused, Play}
-use Rattle.scenario_run.specs.Script.{first_fault, transcript, turns_of}
+use Rattle.scenario_run.specs.Course.{Goes, Ends, Refused}
+use Rattle.scenario_run.specs.Playing.{Play, PlayNext}
+use Rattle.scenario_play.specs.Language.{Language, told_in}
 use Rattle.scenario_play.specs.Outside.{Outside}
-use Rattle.scenario_play.specs.Status.{IsRefusal, longest_script, told, told_of}
+use Rattle.scenario_play.specs.Status.{IsRefusal, longest_script}
 use Rattle.scenario_play.specs.declared.status.Status.{Status}
 use Rattle.scenario_play.specs.declared.status.Status.TheVariants.{Done, TooLong, ReadFault, WriteFault, Want}
 
 -- the events that a group made, and those that can drain it, are at most n
 abbrev pub IsLight : ℕ → Play → Type 0
 IsLight n p = p.world.events + load_of p.world ≤ n
+
+-- the most by which a line raises them
+abbrev pub most_of_a_line : ℕ
+most_of_a_line = 2 ^ 18
+
+-- a line of this number may come: a run led to the group, and its events are few
+pub record IsLightAt (n : ℕ) (p : Play) : Type 0 where
+  pub shape : Dimensions
+  pub events : List Event
+  pub run : IsRun shape events
+  pub is : p.world ≡ after shape events
+  pub light : IsLight (n * most_of_a_line) p
+
+abbrev pub IsReady : ℕ → Option Play → Type 0
+IsReady n None = ⊤
+IsReady n (Some p) = IsLightAt n p
 
 -- how many entries a script's group has logged
 abbrev pub log_len : Option Play → ℕ
@@ -37,52 +57,40 @@ HasRead before now faults_before faults_now (Err Want) = TakesAtMost (longest_sc
 HasRead before now faults_before faults_now (Err _) = ⊥
 
 -- the group line, or a line before it, was treated
-abbrev pub HasBegun : Next → Result (Option Play) LineFault → Type 0
+abbrev pub HasBegun : PlayNext → Result (Option Play) LineFault → Type 0
 HasBegun next (Ok play) = next ≡ Goes play [] []
 HasBegun next (Err line.Want) = ⊤
 HasBegun next (Err fault) = next ≡ Refused fault
 
 -- what a line does was done: the group is the one after it and the text is what is written for it, or
 -- there is no text at the end, or the line was refused; or there was no memory
-abbrev pub HasDone : Option Play → Next → Option Play → Result (Option (List ℕ)) LineFault → Type 0
+abbrev pub HasDone : Option Play → PlayNext → Option Play → Result (Option (List ℕ)) LineFault → Type 0
 HasDone before (Goes play turns text) now (Ok (Some written)) = (now ≡ play) × (written ≡ text)
 HasDone before Ends now (Ok None) = now ≡ before
 HasDone before next now (Err line.Want) = ⊤
 HasDone before (Refused fault) now (Err cause) = cause ≡ fault
 HasDone before next now _ = ⊥
 
--- the lines were treated to the end or to the first fault, and their transcript written, or a front of it
-abbrev pub HasPlayed : List ℕ → List ℕ → ℕ → ℕ → List ℕ → Result ℕ Status → Type 0
-HasPlayed before now faults_before faults_now text (Ok logged) = (first_fault text ≡ None) × Appends before now (transcript text) × (logged ≡ length (log_of (turns_of text)))
-HasPlayed before now faults_before faults_now text (Err WriteFault) = Rose faults_before faults_now × HasWritten before now (transcript text)
-HasPlayed before now faults_before faults_now text (Err Want) = HasWritten before now (transcript text)
-HasPlayed before now faults_before faults_now text (Err status) = IsRefusal status × (told_of (first_fault text) ≡ status) × Appends before now (transcript text)
-
--- a script of these bytes was read and played: to its end, up to a line that is refused, or until it was known to be
+-- a script of these bytes, in this language, was read and played: to its end, up to a line that is refused, or until it was known to be
 -- too long, a read or a write failed, or there was no memory
-abbrev pub HasEnded : List ℕ → Outside → Outside → Result (Unit {0}) Status → Type 0
-HasEnded script before now (Ok _) = (told script ≡ Done) × IsEnded now.input × Appends before.held now.held (transcript script)
-HasEnded script before now (Err TooLong) = (now.held ≡ before.held) × (length script ≡ longest_script + 1)
-HasEnded script before now (Err ReadFault) = (now.held ≡ before.held) × Rose before.reads now.reads × (length script ≤ longest_script)
-HasEnded script before now (Err WriteFault) =
-    Rose before.writes now.writes × (length script ≤ longest_script) × IsEnded now.input × HasWritten before.held now.held (transcript script)
-HasEnded script before now (Err Want) = (now.held ≡ before.held) ⊎ (IsEnded now.input × HasWritten before.held now.held (transcript script))
-HasEnded script before now (Err status) =
-    IsRefusal status × (told script ≡ status) × IsEnded now.input × Appends before.held now.held (transcript script)
+abbrev pub HasEnded : Language → List ℕ → Outside → Outside → Result (Unit {0}) Status → Type 0
+HasEnded l script before now (Ok _) = (told_in l script ≡ Done) × IsEnded now.input × Appends before.held now.held (l.transcript script)
+HasEnded l script before now (Err TooLong) = (now.held ≡ before.held) × (length script ≡ longest_script + 1)
+HasEnded l script before now (Err ReadFault) = (now.held ≡ before.held) × Rose before.reads now.reads × (length script ≤ longest_script)
+HasEnded l script before now (Err WriteFault) =
+    Rose before.writes now.writes × (length script ≤ longest_script) × IsEnded now.input × HasWritten before.held now.held (l.transcript script)
+HasEnded l script before now (Err Want) = (now.held ≡ before.held) ⊎ (IsEnded now.input × HasWritten before.held now.held (l.transcript script))
+HasEnded l script before now (Err status) =
+    IsRefusal status × (told_in l script ≡ status) × IsEnded now.input × Appends before.held now.held (l.transcript script)
 
 -- the bytes that were taken are a script, which was read and played
-pub record HasTreated (before now : Outside) (result : Result (Unit {0}) Status) : Type 0 where
+pub record HasTreated (l : Language) (before now : Outside) (result : Result (Unit {0}) Status) : Type 0 where
   pub script : List ℕ
   pub taken : Takes before.input now.input script
   pub few : length script ≤ longest_script + 1
-  pub ends : HasEnded script before now result
+  pub ends : HasEnded l script before now result
 
 -- the bytes in an answer
-abbrev pub text_in : {E Z : Type 0} → Result (Option (Vec ℕ Z)) E → Result (Option (List ℕ)) E
-text_in (Ok (Some text)) = Ok (Some text.items)
-text_in (Ok None) = Ok None
-text_in (Err e) = Err e
-
 abbrev pub bytes_in : {E Z : Type 0} → Result (Vec ℕ Z) E → Result (List ℕ) E
 bytes_in (Ok text) = Ok text.items
 bytes_in (Err e) = Err e

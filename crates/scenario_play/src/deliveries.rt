@@ -59,5 +59,5 @@ fn deliver(
     ensures text { OnOk result (text.new.items ≡ text.old.items ++ entries_text (step world.old (Deliver from to)).turn.logged) }
 {
     let out = world.step(&Event::Deliver { from, to })?;
-    write_last(alloc, world.log(), out.logged, text)
+    write_last(alloc, b"= ", world.log(), out.logged, text)
 }

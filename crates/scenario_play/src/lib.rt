@@ -6,16 +6,20 @@
 
 mod cut;
 mod deliveries;
-mod entries;
+pub mod entries;
+mod group_player;
 pub mod laws;
 pub mod make;
 mod next;
 mod page;
 pub mod play;
+pub mod player;
 mod playing;
 mod read_script;
+pub mod showing;
 pub mod status;
 pub mod tell;
 pub mod trial;
 
-pub use status::Status;
+pub use player::Player;
+pub use status::{Count, Status};

@@ -1,7 +1,8 @@
 ghost use Rattle.std.specs.Prelude.{◌≡◌, ◌^◌, ◌<◌, ◌≤◌, [], IfSome, IfOk};
 ghost use Rattle.scenario_text.specs.Meaning.{IsLineOf};
 ghost use Rattle.scenario_run.specs.Playing.{first_by, next_of, then_by};
-ghost use Rattle.scenario_play.specs.Ends.{HasBegun, HasDone, IsLight, text_in};
+ghost use Rattle.scenario_play.specs.Ends.{HasBegun, HasDone, IsLight};
+ghost use Rattle.scenario_play.specs.Player.{text_in};
 
 use crate::playing::Play;
 use group_calls::Event;

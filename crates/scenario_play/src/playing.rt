@@ -9,12 +9,12 @@ ghost use Rattle.scenario_play.specs.Ends.{IsLight};
 
 use crate::deliveries::drain;
 use crate::entries::write_last;
+use crate::showing::write_look;
 use group_calls::Event;
 use group_core::World;
 use group_types::{ProcessId, Run, Shape};
 use memc_table::{Act, Op};
 use scenario_text::write_answer::write_answer;
-use scenario_text::write_shown::write_shown;
 use std::alloc::{AllocError, Global};
 use std::marker::Model;
 
@@ -79,7 +79,7 @@ impl Play {
         let out = self.world.step(event)?;
         let mut text = write_answer(alloc, &out.answer)?;
         text.push(b'\n')?;
-        write_last(alloc, self.world.log(), out.logged, &mut text)?;
+        write_last(alloc, b"= ", self.world.log(), out.logged, &mut text)?;
         Ok(text)
     }
 
@@ -101,24 +101,8 @@ impl Play {
         requires run { run.at + run.len ≤ space_of self.now.world.shape }
         ensures { IfOk result (λ text. text.items ≡ look self.now.world at (held self.now.world at run) ++ 10 ∷ []) }
     {
-        let mut text = self.look(alloc, at, run)?;
+        let mut text = write_look(alloc, &self.world, at, run)?;
         text.push(b'\n')?;
         Ok(text)
-    }
-
-    fn look(&self, alloc: Global, at: ProcessId, run: Run) -> Result<Vec<u8>, AllocError>
-        requires process { IsProcess self.now.world.shape at }
-        requires run { run.at + run.len ≤ space_of self.now.world.shape }
-        ensures { IfOk result (λ text. text.items ≡ look self.now.world at (held self.now.world at run)) }
-    {
-        if self.world.is_down() {
-            return Vec::from_slice(alloc, b"down");
-        }
-        if self.world.is_dead(at) {
-            return Vec::from_slice(alloc, b"lost");
-        }
-        let stamp = self.world.stamp(at)?;
-        let bytes = self.world.bytes(at, run)?;
-        write_shown(alloc, &stamp, bytes.bytes())
     }
 }

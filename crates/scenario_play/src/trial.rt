@@ -9,6 +9,7 @@ ghost use Rattle.scenario_play.specs.Status.{TellsOfScript, told};
 ghost use Rattle.scenario_play.specs.Trial.{trial_of, trial_text};
 
 use crate::cut::count_lines;
+use crate::group_player::GroupPlayer;
 use crate::page::Page;
 use crate::play::{play_lines, write_text};
 use crate::read_script::LONGEST_SCRIPT;
@@ -51,8 +52,8 @@ fn trial_line(alloc: Global, number: u64, script: &[u8]) -> Result<String, Statu
     if LONGEST_SCRIPT < script.len() {
         return Err(Status::TooLong);
     }
-    let mut page = Page::new(alloc);
-    let logged = play_lines(alloc, script, &mut page)?;
-    let (lines, bytes) = (count_lines(script), page.len());
+    let (mut player, mut page) = (GroupPlayer::new(), Page::new(alloc));
+    play_lines(alloc, &mut player, script, &mut page)?;
+    let (lines, logged, bytes) = (count_lines(script), player.logged(), page.len());
     Ok(format!(in alloc; "trial {number} lines {lines} logged {logged} bytes {bytes}\n")?)
 }

@@ -78,15 +78,21 @@ module _ (s : Dimensions) where
   stays-up w (Flush p) led delivery may up = absurd delivery
   stays-up w (Trace caller call d p) led delivery may up = absurd delivery
 
+  coming : (w : World) (e : Event) → IsLedTo s w → ¬ (IsDown w) → next_delivery w ≡ Some e → NextComes w e
+  coming w e led up is = subst (λ (v : World). NextComes v e) (sym led.is)
+      (next-comes s led.events led.run (λ d. up (subst IsDown (sym led.is) d)) e (subst (λ (v : World). next_delivery v ≡ Some e) led.is is))
+
+  pub next-delivers : (w : World) (e : Event) → IsLedTo s w → ¬ (IsDown w) → next_delivery w ≡ Some e → IsDelivery e
+  next-delivers w e led up is = (coming w e led up is).delivery
+
   pub lightens : (w : World) (e : Event) → IsLedTo s w → ¬ (IsDown w) → next_delivery w ≡ Some e → Lightens w e
-  lightens w e led up is = record {
-    may = comes.may;
-    up = stays-up w e led comes.delivery comes.may up;
-    lower = lower w e led comes.delivery comes.may comes.done;
-  } where
-    comes : NextComes w e
-    comes = subst (λ (v : World). NextComes v e) (sym led.is)
-        (next-comes s led.events led.run (λ d. up (subst IsDown (sym led.is) d)) e (subst (λ (v : World). next_delivery v ≡ Some e) led.is is))
+  lightens w e led up is =
+      let comes : NextComes w e = coming w e led up is in
+      record {
+        may = comes.may;
+        up = stays-up w e led comes.delivery comes.may up;
+        lower = lower w e led comes.delivery comes.may comes.done;
+      }
 
   -- the deliveries behind the next one
   abbrev pub behind : ℕ → World → Option Event → List Event

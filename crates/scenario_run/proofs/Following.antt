@@ -1,24 +1,31 @@
--- What a script's lines log, write and refuse behind a line, by what it does.
+-- What lines log, write and refuse behind a line, by what it does.
 use Rattle.std.proofs.Common.{ℕ, ◌≡◌, ◌+◌, List, [], ◌∷◌, ◌++◌, Option, Some, None, ap}
-use Rattle.group_calls.specs.Turns.{Turn}
-use Rattle.scenario_run.specs.Playing.{Ends, Goes, Next, Play, Refused, next_of}
-use Rattle.scenario_run.specs.Script.{Fault, fault_in, text_in, turns_in}
+use Rattle.scenario_run.specs.Course.{Ends, Fault, Goes, Next, Refused, Rules, fault_in, named_in, text_in, turns_in}
 
-abbrev pub turns_after : Next → List (List ℕ) → List Turn
-turns_after next lines = elim next [ Goes play turns text ↦ turns ++ turns_in play lines | Ends ↦ [] | Refused fault ↦ [] ]
+module _ {S T F : Type 0} (rules : Rules S T F) where
+  abbrev pub turns_after : Next S T F → List (List ℕ) → List T
+  turns_after next lines = elim next [ Goes state turns text ↦ turns ++ turns_in rules state lines | Ends ↦ [] | Refused cause ↦ [] ]
 
-abbrev pub text_after : Next → List (List ℕ) → List ℕ
-text_after next lines = elim next [ Goes play turns text ↦ text ++ text_in play lines | Ends ↦ [] | Refused fault ↦ [] ]
+  abbrev pub text_after : Next S T F → List (List ℕ) → List ℕ
+  text_after next lines = elim next [ Goes state turns text ↦ text ++ text_in rules state lines | Ends ↦ [] | Refused cause ↦ [] ]
 
-abbrev pub fault_after : ℕ → Next → List (List ℕ) → Option Fault
-fault_after n next lines = elim next [ Goes play turns text ↦ fault_in (n + 1) play lines | Ends ↦ None | Refused fault ↦ Some (record { number = n; cause = fault }) ]
+  abbrev pub fault_after : F → ℕ → Next S T F → List (List ℕ) → Option (Fault F)
+  fault_after lacking n next lines = elim next [ Goes state turns text ↦ fault_in rules lacking (n + 1) state lines | Ends ↦ None | Refused cause ↦ Some (record { number = n; cause = cause }) ]
 
-pub text-line : (before : Option Play) (bytes : List ℕ) (lines : List (List ℕ)) (next : Next) → next_of before bytes ≡ next → text_in before (bytes ∷ lines) ≡ text_after next lines
-text-line before bytes lines next is = ap (λ (n : Next). text_after n lines) is
+  pub text-line : (before : Option S) (bytes : List ℕ) (lines : List (List ℕ)) (next : Next S T F) → rules before bytes ≡ next → text_in rules before (bytes ∷ lines) ≡ text_after next lines
+  text-line before bytes lines next is = ap (λ (n : Next S T F). text_after n lines) is
 
-pub fault-line : (n : ℕ) (before : Option Play) (bytes : List ℕ) (lines : List (List ℕ)) (next : Next) → next_of before bytes ≡ next → fault_in n before (bytes ∷ lines) ≡ fault_after n next lines
-fault-line n None bytes lines next is = ap (λ (x : Next). fault_after n x lines) is
-fault-line n (Some p) bytes lines next is = ap (λ (x : Next). fault_after n x lines) is
+  pub fault-line : (lacking : F) (n : ℕ) (before : Option S) (bytes : List ℕ) (lines : List (List ℕ)) (next : Next S T F) → rules before bytes ≡ next
+      → fault_in rules lacking n before (bytes ∷ lines) ≡ fault_after lacking n next lines
+  fault-line lacking n None bytes lines next is = ap (λ (x : Next S T F). fault_after lacking n x lines) is
+  fault-line lacking n (Some p) bytes lines next is = ap (λ (x : Next S T F). fault_after lacking n x lines) is
 
-pub turns-line : (before : Option Play) (bytes : List ℕ) (lines : List (List ℕ)) (next : Next) → next_of before bytes ≡ next → turns_in before (bytes ∷ lines) ≡ turns_after next lines
-turns-line before bytes lines next is = ap (λ (n : Next). turns_after n lines) is
+  pub turns-line : (before : Option S) (bytes : List ℕ) (lines : List (List ℕ)) (next : Next S T F) → rules before bytes ≡ next → turns_in rules before (bytes ∷ lines) ≡ turns_after next lines
+  turns-line before bytes lines next is = ap (λ (n : Next S T F). turns_after n lines) is
+
+  -- the state that is named first behind a line
+  abbrev pub named_after : Next S T F → List (List ℕ) → Option S
+  named_after next lines = elim next [ Goes state turns text ↦ named_in rules state lines | Ends ↦ None | Refused cause ↦ None ]
+
+  pub named-line : (bytes : List ℕ) (lines : List (List ℕ)) (next : Next S T F) → rules None bytes ≡ next → named_in rules None (bytes ∷ lines) ≡ named_after next lines
+  named-line bytes lines next is = ap (λ (n : Next S T F). named_after n lines) is

@@ -16,18 +16,20 @@ use Rattle.scenario_text.specs.Meaning.{IsLineOf, line_of}
 use Rattle.scenario_text.specs.declared.line.Line.{Line}
 use Rattle.scenario_text.specs.declared.line.Line.TheVariants.{Skipped, Group, Ask, Collect, Deliver, Fail, Flush, Trace, Drain, Show, Time, Stop}
 use Rattle.scenario_text.specs.declared.line.LineFault.{LineFault}
+use Rattle.scenario_text.specs.declared.line.LineFault.TheVariants.{BadLine}
 use Rattle.scenario_text.proofs.Lines.{line_of-within}
 use Rattle.scenario_run.specs.Lines.{lines_of}
-use Rattle.scenario_run.specs.Playing.{Ends, Goes, Next, Play, Refused, next_of, shape_in}
-use Rattle.scenario_run.specs.Promises.{AreTrueLines, IsTrueLine, KeepsPromises, ScriptsKeepPromises}
-use Rattle.scenario_run.specs.Script.{Fault, events_of, fault_in, first_fault, shape_from, shape_of, turns_in, turns_of}
-use Rattle.scenario_run.proofs.Following.{fault_after, fault-line, turns_after, turns-line}
+use Rattle.scenario_run.specs.Course.{Ends, Goes, Refused, fault_in, named_in, turns_in}
+use Rattle.scenario_run.specs.Playing.{Play, PlayNext, next_of, shape_in}
+use Rattle.scenario_run.specs.Promises.{AreTrueLines, IsTrueLine, ScriptsKeepPromises}
+use Rattle.scenario_run.specs.Script.{events_of, turns_of}
+use Rattle.scenario_run.proofs.Following.{fault_after, named-line, turns_after}
 use Rattle.scenario_run.proofs.Leading.{IsLedTo, Leads, leads-then, led-on, opened}
-use Rattle.scenario_run.proofs.Running.{GoesOn, Opens, line-leads, line-opens, never-ends}
+use Rattle.scenario_run.proofs.Running.{Opens, line-leads, line-opens, never-ends}
 use Rattle.scenario_run.proofs.Truth.{shows-truth}
 
 -- what follows a line, by what it does
-abbrev TrueAfter : Next → List (List ℕ) → Type 0
+abbrev TrueAfter : PlayNext → List (List ℕ) → Type 0
 TrueAfter next lines = elim next [ Goes play turns text ↦ AreTrueLines play lines | Ends ↦ Unit {0} | Refused fault ↦ Unit {0} ]
 
 -- the lines behind the group line make a run
@@ -39,10 +41,10 @@ module _ (s : Dimensions) where
   none : (w : World) → Runs w []
   none w = record { v = w; leads = record { events = []; run = tt; turns_are = refl; to = refl } }
 
-  mutual-runs : (p : Play) (lines : List (List ℕ)) → IsLedTo s p.world → Runs p.world (turns_in (Some p) lines)
+  mutual-runs : (p : Play) (lines : List (List ℕ)) → IsLedTo s p.world → Runs p.world (turns_in next_of (Some p) lines)
   mutual-runs p [] led = none p.world
   mutual-runs p (line ∷ lines) led = by (next_of (Some p) line) refl (λ q. mutual-runs q lines) where
-    by : (next : Next) → next_of (Some p) line ≡ next → ((q : Play) → IsLedTo s q.world → Runs q.world (turns_in (Some q) lines)) → Runs p.world (turns_after next lines)
+    by : (next : PlayNext) → next_of (Some p) line ≡ next → ((q : Play) → IsLedTo s q.world → Runs q.world (turns_in next_of (Some q) lines)) → Runs p.world (turns_after next_of next lines)
     by Ends is later = none p.world
     by (Refused fault) is later = none p.world
     by (Goes next turns text) is later =
@@ -50,8 +52,8 @@ module _ (s : Dimensions) where
         let rest = later on.play (led-on s p.world on.play.world turns led on.leads) in
         record {
           v = rest.v;
-          leads = leads-then p.world on.play.world rest.v turns (turns_in next lines) on.leads
-              (subst (λ (q : Option Play). Leads on.play.world rest.v (turns_in q lines)) (sym on.is) rest.leads);
+          leads = leads-then p.world on.play.world rest.v turns (turns_in next_of next lines) on.leads
+              (subst (λ (q : Option Play). Leads on.play.world rest.v (turns_in next_of q lines)) (sym on.is) rest.leads);
         }
 
   -- what is shown behind the group line is true
@@ -78,7 +80,7 @@ module _ (s : Dimensions) where
   true-lines p (line ∷ lines) led =
       (true-line p (line_of (Some p.world.shape) line) led (λ l reads. line_of-within (Some p.world.shape) line l reads), by (next_of (Some p) line) refl (λ q. true-lines q lines))
     where
-      by : (next : Next) → next_of (Some p) line ≡ next → ((q : Play) → IsLedTo s q.world → AreTrueLines (Some q) lines) → TrueAfter next lines
+      by : (next : PlayNext) → next_of (Some p) line ≡ next → ((q : Play) → IsLedTo s q.world → AreTrueLines (Some q) lines) → TrueAfter next lines
       by Ends is later = tt
       by (Refused fault) is later = tt
       by (Goes next turns text) is later =
@@ -89,31 +91,28 @@ module _ (s : Dimensions) where
 record Named (lines : List (List ℕ)) : Type 0 where
   shape : Dimensions
   limits : IsShape shape
-  named : shape_from None lines ≡ Some shape
-  runs : Runs (opening shape) (turns_in None lines)
+  named : shape_in (named_in next_of None lines) ≡ Some shape
+  runs : Runs (opening shape) (turns_in next_of None lines)
   true_lines : AreTrueLines None lines
 
-begins : (n : ℕ) (lines : List (List ℕ)) → fault_in n None lines ≡ None → Named lines
+begins : (n : ℕ) (lines : List (List ℕ)) → fault_in next_of BadLine n None lines ≡ None → Named lines
 begins n [] ends = absurd (cc ends)
 begins n (line ∷ lines) ends = by (next_of None line) refl ends (begins (n + 1) lines) where
-  begun : (next : Option Play) (turns : List Turn) (text : List ℕ) → next_of None line ≡ Goes next turns text → Opens next turns text → fault_in (n + 1) next lines ≡ None
-      → (fault_in (n + 1) None lines ≡ None → Named lines) → Named (line ∷ lines)
+  begun : (next : Option Play) (turns : List Turn) (text : List ℕ) → next_of None line ≡ Goes next turns text → Opens next turns text → fault_in next_of BadLine (n + 1) next lines ≡ None
+      → (fault_in next_of BadLine (n + 1) None lines ≡ None → Named lines) → Named (line ∷ lines)
   begun next turns text is opens rest later = either opens.is where
-    shape_then : Next → Option Dimensions
-    shape_then x = elim x [ Goes play turns text ↦ shape_from play lines | Ends ↦ None | Refused fault ↦ None ]
+    turns_are : (q : Option Play) → next ≡ q → turns_in next_of None (line ∷ lines) ≡ turns_in next_of q lines
+    turns_are q same = ap (λ (x : PlayNext). turns_after next_of x lines) is ∙ ap (λ (ts : List Turn). ts ++ turns_in next_of next lines) opens.quiet ∙ ap (λ (x : Option Play). turns_in next_of x lines) same
 
-    turns_are : (q : Option Play) → next ≡ q → turns_in None (line ∷ lines) ≡ turns_in q lines
-    turns_are q same = ap (λ (x : Next). turns_after x lines) is ∙ ap (λ (ts : List Turn). ts ++ turns_in next lines) opens.quiet ∙ ap (λ (x : Option Play). turns_in x lines) same
-
-    shape_is : (q : Option Play) → next ≡ q → shape_from None (line ∷ lines) ≡ shape_from q lines
-    shape_is q same = ap shape_then is ∙ ap (λ (x : Option Play). shape_from x lines) same
+    shape_is : (q : Option Play) → next ≡ q → shape_in (named_in next_of None (line ∷ lines)) ≡ shape_in (named_in next_of q lines)
+    shape_is q same = ap shape_in (named-line next_of line lines (Goes next turns text) is ∙ ap (λ (x : Option Play). named_in next_of x lines) same)
 
     true_then : (q : Option Play) → next ≡ q → AreTrueLines q lines → AreTrueLines None (line ∷ lines)
-    true_then q same truth = (tt, subst (λ (x : Next). TrueAfter x lines) (sym is) (subst (λ (x : Option Play). AreTrueLines x lines) (sym same) truth))
+    true_then q same truth = (tt, subst (λ (x : PlayNext). TrueAfter x lines) (sym is) (subst (λ (x : Option Play). AreTrueLines x lines) (sym same) truth))
 
     either : (next ≡ None) ⊎ ((s : Dimensions) × IsShape s × (next ≡ Some (record { world = opening s; moment = 0 }))) → Named (line ∷ lines)
     either (inl none) =
-        let behind = later (subst (λ (q : Option Play). fault_in (n + 1) q lines ≡ None) none rest) in
+        let behind = later (subst (λ (q : Option Play). fault_in next_of BadLine (n + 1) q lines ≡ None) none rest) in
         record {
           shape = behind.shape;
           limits = behind.limits;
@@ -131,10 +130,10 @@ begins n (line ∷ lines) ends = by (next_of None line) refl ends (begins (n + 1
           true_lines = true_then (Some p) some (true-lines s p lines (opened s limits));
         }
 
-  by : (next : Next) → next_of None line ≡ next → fault_in n None (line ∷ lines) ≡ None → (fault_in (n + 1) None lines ≡ None → Named lines) → Named (line ∷ lines)
+  by : (next : PlayNext) → next_of None line ≡ next → fault_in next_of BadLine n None (line ∷ lines) ≡ None → (fault_in next_of BadLine (n + 1) None lines ≡ None → Named lines) → Named (line ∷ lines)
   by Ends is ends later = absurd (never-ends line is)
-  by (Refused fault) is ends later = absurd (cc (sym (ap (λ (x : Next). fault_after n x lines) is) ∙ ends))
-  by (Goes next turns text) is ends later = begun next turns text is (line-opens line next turns text is) (sym (ap (λ (x : Next). fault_after n x lines) is) ∙ ends) later
+  by (Refused fault) is ends later = absurd (cc (sym (ap (λ (x : PlayNext). fault_after next_of BadLine n x lines) is) ∙ ends))
+  by (Goes next turns text) is ends later = begun next turns text is (line-opens line next turns text is) (sym (ap (λ (x : PlayNext). fault_after next_of BadLine n x lines) is) ∙ ends) later
 
 -- the events of turns
 events-are : (w : World) (es : List Event) → map (λ turn. turn.event) (machine.turns_from w es) ≡ es

@@ -1,15 +1,13 @@
 -- The turns of a script are those of a run of the machine.
-use Rattle.std.proofs.Common.{ℕ, zero, suc, ◌≡◌, ◌≤◌, ◌<◌, ◌+◌, ◌⊎◌, inl, inr, Bool, true, false, nat_lt, List, [], ◌∷◌, ◌++◌, map, Option, Some, None, Result, Ok, Err, if◌then◌else◌, refl, sym, ap, subst, ◌∙◌, arith}
+use Rattle.std.proofs.Common.{ℕ, ◌≡◌, ◌≤◌, ◌<◌, ◌+◌, ◌⊎◌, inl, inr, Bool, true, false, nat_lt, List, [], ◌∷◌, Option, Some, None, Result, Ok, Err, if◌then◌else◌, refl, sym, ap, arith}
 use Rattle.std.proofs.lemmas.Bool.Decides.{nat_tests}
 use Rattle.group_types.specs.Dimensions.{Dimensions}
 use Rattle.group_types.specs.Lists.{at}
 use Rattle.group_types.specs.Shape.{IsShape}
-use Rattle.group_types.specs.declared.process.Partition.{Partition}
-use Rattle.group_types.specs.declared.process.ProcessId.{ProcessId}
 use Rattle.group_calls.specs.Turns.{Turn}
 use Rattle.group_calls.specs.declared.event.Event.{Event}
 use Rattle.group_calls.specs.declared.event.Event.TheVariants as happens
-use Rattle.group_run.specs.Headline.{IsRun, IsRunFrom, MayCome}
+use Rattle.group_run.specs.Headline.{MayCome}
 use Rattle.group_run.specs.World as machine
 use Rattle.group_run.specs.World.{World, after, opening, step, world_after}
 use Rattle.scenario_text.specs.Meaning.{IsLineOf, line_of}
@@ -18,7 +16,8 @@ use Rattle.scenario_text.specs.declared.line.Line.TheVariants.{Skipped, Group, A
 use Rattle.scenario_text.specs.declared.line.LineFault.{LineFault}
 use Rattle.scenario_text.specs.declared.line.LineFault.TheVariants.{BadLine}
 use Rattle.scenario_text.proofs.Lines.{line_of-within}
-use Rattle.scenario_run.specs.Playing.{Play, Next, Goes, Ends, Refused, by_event, by_trace, draining, drained_text, first_by, next_by, next_of, shape_in, then_by, turn_text}
+use Rattle.scenario_run.specs.Course.{Ends, Goes, Next, Refused}
+use Rattle.scenario_run.specs.Playing.{Play, by_event, by_trace, draining, drained_text, first_by, next_by, next_of, quietly, then_by, turn_text}
 use Rattle.scenario_run.proofs.Draining.{burden, drains, event-light, line_burden}
 use Rattle.scenario_run.proofs.Leading.{IsLedTo, Leads}
 
@@ -29,10 +28,14 @@ pub record GoesOn (w : World) (next : Option Play) (turns : List Turn) : Type 0 
   pub leads : Leads w play.world turns
   pub light : burden play.world ≤ burden w + line_burden
 
-parts : (a b : Option Play) (ts us : List Turn) (x y : List ℕ) → Goes a ts x ≡ Goes b us y → (b ≡ a) × (us ≡ ts) × (y ≡ x)
+abbrev pub goes : {S T : Type 0} (F : Type 0) → Option S → List T → List ℕ → Next S T F
+goes F state turns text = Goes state turns text
+
+-- two lines that go on alike
+pub parts : {S T F : Type 0} (a b : Option S) (ts us : List T) (x y : List ℕ) → goes F a ts x ≡ goes F b us y → (b ≡ a) × (us ≡ ts) × (y ≡ x)
 parts a b ts us x y is = (cc, cc, cc)
 
-stays : (p q : Play) (next : Option Play) (turns : List Turn) (text : List ℕ) → p.world ≡ q.world → Goes (Some q) [] [] ≡ Goes next turns text → GoesOn p.world next turns
+stays : (p q : Play) (next : Option Play) (turns : List Turn) (text : List ℕ) → p.world ≡ q.world → quietly (Some q) ≡ Goes next turns text → GoesOn p.world next turns
 stays p q next turns text same is = let both = parts (Some q) next [] turns [] text is in
     record { play = q; is = both.0; leads = record { events = []; run = tt; turns_are = sym both.1; to = same }; light = let still = ap burden same in omega (arith, still) }
 

@@ -1,4 +1,6 @@
+pub mod Course
 pub mod Lines
+pub mod Marks
 pub mod Playing
 pub mod Promises
 pub mod Script

@@ -1,12 +1,10 @@
--- What a line of a script makes of its group, and what is written for it.
+-- What a line of a script of one group makes of it, and what is written for it.
 use Rattle.std.specs.Prelude.{ℕ, nat_lt, List, [], ◌∷◌, ◌++◌, codes, length, Option, Some, None, Result, Ok, Err, option_map, if◌then◌else◌}
 use Rattle.std.specs.Fmt.{decimal}
 use Rattle.group_types.specs.Dimensions.{Dimensions}
 use Rattle.group_types.specs.Lists.{at}
 use Rattle.group_types.specs.declared.process.ProcessId.{ProcessId}
 use Rattle.group_types.specs.declared.run.Run.{Run}
-use Rattle.memc_table.specs.declared.act.Act.{Act}
-use Rattle.memc_table.specs.Asked.{Asked}
 use Rattle.group_calls.specs.Turns.{Turn, log_of}
 use Rattle.group_calls.specs.declared.event.Event.{Event}
 use Rattle.group_calls.specs.declared.event.Event.TheVariants as happens
@@ -21,21 +19,19 @@ use Rattle.scenario_text.specs.declared.line.Line.{Line}
 use Rattle.scenario_text.specs.declared.line.Line.TheVariants.{Skipped, Group, Ask, Collect, Deliver, Fail, Flush, Trace, Drain, Show, Time, Stop}
 use Rattle.scenario_text.specs.declared.line.LineFault.{LineFault}
 use Rattle.scenario_text.specs.declared.line.LineFault.TheVariants.{BadLine}
+use Rattle.scenario_run.specs.Course.{Next, Goes, Ends, Refused}
 
 -- the group of a script, and the moment of the asks that follow
 pub record Play : Type 0 where
   pub world : World
   pub moment : ℕ
 
--- what a line does: the script goes on, with the turns of the line and what is written for it; or it
--- ends; or the line is refused
-pub data Next : Type 0 where
-  Goes : Option Play → List Turn → List ℕ → Next
-  Ends : Next
-  Refused : LineFault → Next
+-- what a line of its script does
+abbrev pub PlayNext : Type 0
+PlayNext = Next Play Turn LineFault
 
 -- a line that writes nothing and makes no event
-abbrev pub quietly : Option Play → Next
+abbrev pub quietly : Option Play → PlayNext
 quietly play = Goes play [] []
 
 -- the answer of an event on a line, and then what it logged
@@ -43,11 +39,11 @@ abbrev pub turn_text : Turn → List ℕ
 turn_text turn = answer_text turn.answer ++ 10 ∷ entries_text turn.logged
 
 -- an event is made
-abbrev pub by_event : Play → Event → Next
+abbrev pub by_event : Play → Event → PlayNext
 by_event p e = let t : WorldStep = step p.world e in Goes (Some (record { world = t.world; moment = p.moment })) (t.turn ∷ []) (turn_text t.turn)
 
 -- only a call that was asked is traced
-abbrev pub by_trace : Play → ℕ → ℕ → Event → Next
+abbrev pub by_trace : Play → ℕ → ℕ → Event → PlayNext
 by_trace p caller call e = if nat_lt call (at 0 p.world.asked caller) then by_event p e else Refused BadLine
 
 -- the deliveries of a drain: always from the lowest link that has a message, until none is left; none
@@ -59,24 +55,24 @@ draining w = if is_down w then [] else drain_events (load_of w) w
 abbrev pub drained_text : List Turn → List ℕ
 drained_text turns = entries_text (log_of turns) ++ (codes "drained " ++ (decimal (length turns) ++ codes "\n"))
 
-abbrev pub by_drain : Play → List Event → Next
+abbrev pub by_drain : Play → List Event → PlayNext
 by_drain p es = Goes (Some (record { world = world_after p.world es; moment = p.moment })) (turns_from p.world es) (drained_text (turns_from p.world es))
 
 -- bytes that a process shows with its stamp, unless the group is down or the process dead
 abbrev pub look : World → ProcessId → List ℕ → List ℕ
 look w p bytes = if is_down w then codes "down" else (if is_dead w p then codes "lost" else shown_text (stamp_of w p) bytes)
 
-abbrev pub by_show : Play → ProcessId → Run → Next
+abbrev pub by_show : Play → ProcessId → Run → PlayNext
 by_show p from run = Goes (Some p) [] (look p.world from (held p.world from run) ++ 10 ∷ [])
 
 -- what a line of this meaning does where the group isn't named yet
-abbrev pub first_by : Line → Next
+abbrev pub first_by : Line → PlayNext
 first_by Skipped = quietly None
 first_by (Group shape) = quietly (Some (record { world = opening shape; moment = 0 }))
 first_by _ = Refused BadLine
 
 -- what a line of this meaning does behind the group line
-abbrev pub then_by : Play → Line → Next
+abbrev pub then_by : Play → Line → PlayNext
 then_by p Skipped = quietly (Some p)
 then_by p (Group shape) = Refused BadLine
 then_by p (Ask caller from act) = by_event p (happens.Ask caller (record { moment = p.moment; act = act }) from)
@@ -91,7 +87,7 @@ then_by p (Time moment) = quietly (Some (record { world = p.world; moment = mome
 then_by p Stop = Ends
 
 -- what a line does that is read so
-abbrev pub next_by : Option Play → Result Line LineFault → Next
+abbrev pub next_by : Option Play → Result Line LineFault → PlayNext
 next_by play (Err fault) = Refused fault
 next_by None (Ok line) = first_by line
 next_by (Some p) (Ok line) = then_by p line
@@ -101,5 +97,5 @@ abbrev pub shape_in : Option Play → Option Dimensions
 shape_in play = option_map (λ p. p.world.shape) play
 
 -- what a line does
-abbrev pub next_of : Option Play → List ℕ → Next
+abbrev pub next_of : Option Play → List ℕ → PlayNext
 next_of play line = next_by play (line_of (shape_in play) line)

@@ -1,6 +1,6 @@
 -- What holds of every script's group: its turns are a run of the machine, so the headline is about it; and
 -- the lines that show bytes show what the log tells.
-use Rattle.std.specs.Prelude.{ℕ, ◌≡◌, List, [], ◌∷◌, Option, Some, None, Result, Ok, Err}
+use Rattle.std.specs.Prelude.{ℕ, ◌≡◌, List, [], ◌∷◌, Option, Some, None, Result, Ok}
 use Rattle.group_types.specs.Dimensions.{Dimensions}
 use Rattle.group_types.specs.declared.process.ProcessId.{ProcessId}
 use Rattle.group_types.specs.declared.run.Run.{Run}
@@ -16,7 +16,8 @@ use Rattle.scenario_text.specs.declared.line.Line.{Line}
 use Rattle.scenario_text.specs.declared.line.Line.TheVariants.{Show}
 use Rattle.scenario_text.specs.declared.line.LineFault.{LineFault}
 use Rattle.scenario_run.specs.Lines.{lines_of}
-use Rattle.scenario_run.specs.Playing.{Play, Next, Goes, Ends, Refused, look, next_of, shape_in}
+use Rattle.scenario_run.specs.Course.{Goes, Ends, Refused}
+use Rattle.scenario_run.specs.Playing.{Play, look, next_of, shape_in}
 use Rattle.scenario_run.specs.Script.{events_of, first_fault, shape_of, turns_of}
 
 -- what is shown is what the log tells

@@ -3,6 +3,7 @@ use Rattle.std.specs.String.{string_bytes}
 use Rattle.command_line.specs.Words.{command_of}
 use Rattle.command_line.specs.declared.command.Command.{Command}
 use Rattle.command_line.specs.declared.command.Command.TheVariants.{Frames, Make, Play, Session, Trial}
+use Rattle.scenario_play.specs.Language.{group_scripts}
 use Rattle.scenario_play.specs.Outside.{Outside, outside}
 use Rattle.scenario_play.specs.declared.status.Status.TheVariants.{BadWords}
 use Rattle.group_program.specs.Program.{HasRun}
@@ -19,7 +20,7 @@ returns-in-Ok-Play-clause-ran g c =
     inl (subst (λ (o : Option Command). HasRun o (g.T.Clock.moment c.args.clock.now) before now c.play.result) (sym said) c.play.ensures.played)
 
 pub returns-in-Ok-Play-clause-promises : goal.returns-in-Ok-Play-clause-promises
-returns-in-Ok-Play-clause-promises g c _ done = played_whole _ _ c.play.result c.play.ensures.played done
+returns-in-Ok-Play-clause-promises g c _ done = played_whole group_scripts _ _ c.play.result c.play.ensures.played done
 
 pub returns-in-Ok-Make-clause-ran : goal.returns-in-Ok-Make-clause-ran
 returns-in-Ok-Make-clause-ran g c =

@@ -1,4 +1,4 @@
-use Rattle.std.proofs.Common.{◌≡◌, ◌+◌, length, take, sym, subst, arith, rules}
+use Rattle.std.proofs.Common.{◌≡◌, length, take, sym, subst, arith, rules}
 use Rattle.std.proofs.lemmas.List.{length-take}
 use Rattle.edge_io.specs.Moving.{Takes}
 use Rattle.edge_io.proofs.Moving.{Takes-trans}

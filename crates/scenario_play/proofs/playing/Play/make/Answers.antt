@@ -1,7 +1,7 @@
-use Rattle.std.proofs.Common.{◌≡◌, ◌-◌, length, drop, ap, subst}
+use Rattle.std.proofs.Common.{ℕ, ◌≡◌, ◌-◌, ◌++◌, List, length, drop, ap, subst, ◌∙◌}
 use Rattle.group_run.specs.World.{World, step}
 use Rattle.scenario_run.specs.Playing.{Play, turn_text}
-use Rattle.scenario_play.proofs.Delivering.{last-of, turn-written}
+use Rattle.scenario_play.proofs.Delivering.{last-of, marked-plain, turn-written}
 use Rattle.scenario_play.proofs.playing.Play.make.Goals as goal
 
 pub returns-clause-text : goal.returns-clause-text
@@ -9,5 +9,5 @@ returns-clause-text c =
     let w : World = c.self.inside.world in
     subst (λ (v : World). c.write_last.new.text.items ≡ turn_text (step v c.args.event.now).turn) (ap (λ (p : Play). p.world) c.self.view_is)
     (turn-written w c.args.event.now c.in_ok-out.out.answer c.in_ok-text.text.items c.push.new.self.items c.write_last.new.text.items
-    (drop (length c.log.result.now - c.in_ok-out.out.logged) c.log.result.now) c.in_ok-text.ensures c.in_ok-out.ensures.answer c.in_ok-push.ensures.items c.in_ok-write_last.ensures
+    (drop (length c.log.result.now - c.in_ok-out.out.logged) c.log.result.now) c.in_ok-text.ensures c.in_ok-out.ensures.answer c.in_ok-push.ensures.items (c.in_ok-write_last.ensures ∙ ap (λ (xs : List ℕ). c.push.new.self.items ++ xs) (marked-plain (drop (length c.log.result.now - c.in_ok-out.out.logged) c.log.result.now)))
     (last-of w c.args.event.now c.step.new.self c.log.result.now c.in_ok-out.out.logged c.log.ensures.log c.in_ok-out.ensures.world c.in_ok-out.ensures.logged))
