@@ -1,3 +1,4 @@
+pub mod Answering
 pub mod Barrier
 pub mod Calling
 pub mod Changes
