@@ -1,3 +1,4 @@
+pub mod Answering
 pub mod Barrier
 pub mod Calling
 pub mod Changes
@@ -11,5 +12,7 @@ pub mod Mirrors
 pub mod Placing
 pub mod Positions
 pub mod Requests
+pub mod Showing
 pub mod Signs
+pub mod Telling
 pub mod Whole

@@ -52,12 +52,12 @@ use Rattle.group_wire.proofs.Requests.{FitsAsked, Living, each-entry, waits}
 use Rattle.group_wire.proofs.Signs.{Signed, signed-opening, signed-step}
 
 -- turns are of the events that were made
-turn-events : (w : World) (es : List Event) (caller : ℕ) → asks_of caller (turns_from w es) ≡ asks_among caller es
+pub turn-events : (w : World) (es : List Event) (caller : ℕ) → asks_of caller (turns_from w es) ≡ asks_among caller es
 turn-events w [] caller = refl
 turn-events w (e ∷ es) caller = let rest = turn-events (step w e).world es caller in omega (arith, rest)
 
 -- an ask of a run is counted behind those before it
-asks-past : (caller : ℕ) (turns : List Turn) (j : ℕ) (t : Turn) → slice_get turns j ≡ Some t → asks_of caller (take j turns) + asks_in caller t.event ≤ asks_of caller turns
+pub asks-past : (caller : ℕ) (turns : List Turn) (j : ℕ) (t : Turn) → slice_get turns j ≡ Some t → asks_of caller (take j turns) + asks_in caller t.event ≤ asks_of caller turns
 asks-past caller [] j t is = absurd (cc is)
 asks-past caller (u ∷ turns) zero t is = let same : asks_in caller u.event ≡ asks_in caller t.event = ap (λ (o : Option Turn). elim o [ None ↦ asks_in caller u.event | Some x ↦ asks_in caller x.event ]) is in omega (arith, same)
 asks-past caller (u ∷ turns) (suc j) t is = let rest = asks-past caller turns j t is in omega (arith, rest)

@@ -6,3 +6,4 @@ pub mod May
 pub mod Composed
 pub mod Composition
 pub mod Laws
+pub mod Shown

@@ -1,5 +1,6 @@
 ghost use Rattle.group_wire.specs.Composition.{MisfitsNeverCome, NoticesFit, PositionsAlways, RunsCompose};
 ghost use Rattle.group_wire.specs.Laws.{BarrierAlways, FewAreNamed, MoreDataThanParity, PermitsExactly, ShownByLiving};
+ghost use Rattle.group_wire.specs.Shown.{ShownIsLogged, ShownIsMade};
 
 /// At most m members have failed, and each member that hasn't failed has cut all that have.
 pub fn barrier_always()
@@ -47,4 +48,15 @@ pub fn misfits_never_come()
 /// So does each notice that such a member may take.
 pub fn notices_fit()
     ensures { NoticesFit }
+{}
+
+/// Where no two permitted sets together hold all members, all that a client is shown is the answer of an event of the
+/// machine, of that call.
+pub fn shown_is_made()
+    ensures { ShownIsMade }
+{}
+
+/// There each reply that is shown is that of an entry of the call in the machine's log, logged since the call began.
+pub fn shown_is_logged()
+    ensures { ShownIsLogged }
 {}
