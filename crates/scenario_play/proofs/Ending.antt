@@ -15,7 +15,7 @@ use Rattle.scenario_play.specs.Outside.{EndsWith, Outside, StopsWithin, TellsFro
 use Rattle.scenario_play.specs.Played.{IsPlayed, IsWritten}
 use Rattle.scenario_play.specs.Status.{HasFaultOf, IsEarly, IsRefusal, IsTold, IsUnread, TellsOfScript, last_line, longest_script, told, told_at, told_of}
 use Rattle.scenario_play.specs.declared.status.Status.{Status}
-use Rattle.scenario_play.specs.declared.status.Status.TheVariants.{Done, BadWords, BadLine, BadShape, TooLong, ReadFault, WriteFault, Want, Cut, LineTooLong, Worn, BadFrame}
+use Rattle.scenario_play.specs.declared.status.Status.TheVariants.{Done, BadWords, BadLine, BadShape, TooLong, ReadFault, WriteFault, Want, Cut, LineTooLong, Worn, BadFrame, BadConfig, AcceptFault}
 
 short : (n : ℕ) → n ≤ longest_script → nat_lt longest_script n ≡ false
 short n within = grind (arith, nat_tests)
@@ -62,6 +62,8 @@ module _ (a b : Outside) (text : List ℕ) (within : length text ≤ longest_scr
   fault LineTooLong played = absurd played.0
   fault Worn played = absurd played.0
   fault (BadFrame n) played = absurd played.0
+  fault (BadConfig key) played = absurd played.0
+  fault AcceptFault played = absurd played.0
   fault TooLong played = absurd played.0
   fault ReadFault played = absurd played.0
 
@@ -80,6 +82,8 @@ module _ (a b : Outside) (same : b.held ≡ a.held) where
   treated-unread LineTooLong read = absurd read
   treated-unread Worn read = absurd read
   treated-unread (BadFrame n) read = absurd read
+  treated-unread (BadConfig key) read = absurd read
+  treated-unread AcceptFault read = absurd read
   treated-unread (BadLine n) read = absurd read
   treated-unread (BadShape f) read = absurd read
   treated-unread WriteFault read = absurd read
@@ -98,6 +102,8 @@ read-fault input now read_before read_now writes Cut read = tt
 read-fault input now read_before read_now writes LineTooLong read = tt
 read-fault input now read_before read_now writes Worn read = tt
 read-fault input now read_before read_now writes (BadFrame n) read = tt
+read-fault input now read_before read_now writes (BadConfig key) read = tt
+read-fault input now read_before read_now writes AcceptFault read = tt
 
 pub play-fault : (held held_now : List ℕ) (read_before read_now written_before written_now : ℕ) (text : List ℕ) (status : Status)
     → HasPlayed held held_now written_before written_now text (Err status) → HasFaultOf read_before read_now written_before written_now status
@@ -113,6 +119,8 @@ play-fault held held_now read_before read_now written_before written_now text Cu
 play-fault held held_now read_before read_now written_before written_now text LineTooLong played = tt
 play-fault held held_now read_before read_now written_before written_now text Worn played = tt
 play-fault held held_now read_before read_now written_before written_now text (BadFrame n) played = tt
+play-fault held held_now read_before read_now written_before written_now text (BadConfig key) played = tt
+play-fault held held_now read_before read_now written_before written_now text AcceptFault played = tt
 
 -- a status that was told is the one at the end, unless there was no memory
 pub came_from : (s status other : Status) → (status ≡ s) ⊎ (status ≡ Want) → status ≡ other → (other ≡ Want → ⊥) → s ≡ other
@@ -178,6 +186,8 @@ module _ (script : List ℕ) (a b c : Outside) (kept : c.input ≡ b.input) (rea
   is-told LineTooLong end = absurd end.0
   is-told Worn end = absurd end.0
   is-told (BadFrame n) end = absurd end.0
+  is-told (BadConfig key) end = absurd end.0
+  is-told AcceptFault end = absurd end.0
 
   -- one byte more than a script may have was taken
   is-long : (s : Status) → HasEnded script a b (Err s) → length script ≡ 16777217 → (s ≡ TooLong) ⊎ (s ≡ Want)
@@ -193,6 +203,8 @@ module _ (script : List ℕ) (a b c : Outside) (kept : c.input ≡ b.input) (rea
   is-long LineTooLong end all = absurd end.0
   is-long Worn end all = absurd end.0
   is-long (BadFrame n) end all = absurd end.0
+  is-long (BadConfig key) end all = absurd end.0
+  is-long AcceptFault end all = absurd end.0
 
   -- what stands in the sink: behind the transcript of a script that was read to its end, or of no line
   abbrev Stops : Status → Type 0
@@ -218,6 +230,8 @@ module _ (script : List ℕ) (a b c : Outside) (kept : c.input ≡ b.input) (rea
   stops LineTooLong status early end front = absurd end.0
   stops Worn status early end front = absurd end.0
   stops (BadFrame n) status early end front = absurd end.0
+  stops (BadConfig key) status early end front = absurd end.0
+  stops AcceptFault status early end front = absurd end.0
 
   abbrev Tells : Status → Type 0
   Tells s = EndsWith b.held c.held b.writes c.writes [] (last_line s)
@@ -231,6 +245,8 @@ module _ (script : List ℕ) (a b c : Outside) (kept : c.input ≡ b.input) (rea
   refused LineTooLong end refusal tells = absurd refusal
   refused Worn end refusal tells = absurd refusal
   refused (BadFrame n) end refusal tells = absurd refusal
+  refused (BadConfig key) end refusal tells = absurd refusal
+  refused AcceptFault end refusal tells = absurd refusal
   refused TooLong end refusal tells = absurd refusal
   refused ReadFault end refusal tells = absurd refusal
   refused WriteFault end refusal tells = absurd refusal
@@ -252,6 +268,8 @@ module _ (script : List ℕ) (a b c : Outside) (kept : c.input ≡ b.input) (rea
   unread-told LineTooLong end unread tells = absurd unread
   unread-told Worn end unread tells = absurd unread
   unread-told (BadFrame n) end unread tells = absurd unread
+  unread-told (BadConfig key) end unread tells = absurd unread
+  unread-told AcceptFault end unread tells = absurd unread
 
   not-done : (s : Status) → HasEnded script a b (Err s) → s ≡ Done → ⊥
   not-done s end is = (subst (λ (x : Status). HasEnded script a b (Err x)) is end).0

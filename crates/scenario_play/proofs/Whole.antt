@@ -13,7 +13,7 @@ use Rattle.scenario_play.specs.Played.{IsPlayed}
 use Rattle.scenario_play.specs.Status.{IsEarly, IsRefusal, IsTold, last_line, longest_script, told, told_at, told_of}
 use Rattle.scenario_play.specs.Whole.{PlaysAll, PlaysAllAlways}
 use Rattle.scenario_play.specs.declared.status.Status.{Status}
-use Rattle.scenario_play.specs.declared.status.Status.TheVariants.{Done, BadWords, BadLine, BadShape, TooLong, ReadFault, WriteFault, Want, Cut, LineTooLong, Worn, BadFrame}
+use Rattle.scenario_play.specs.declared.status.Status.TheVariants.{Done, BadWords, BadLine, BadShape, TooLong, ReadFault, WriteFault, Want, Cut, LineTooLong, Worn, BadFrame, BadConfig, AcceptFault}
 use Rattle.scenario_play.proofs.Ending.{nothing-written, told-long}
 
 -- no script is told by a fault of its source
@@ -41,6 +41,8 @@ not-both Cut refusal early = refusal
 not-both LineTooLong refusal early = refusal
 not-both Worn refusal early = refusal
 not-both (BadFrame n) refusal early = refusal
+not-both (BadConfig key) refusal early = refusal
+not-both AcceptFault refusal early = refusal
 
 module _ (before now : Outside) (status : Status) (played : IsPlayed before now status) (all rest : List ℕ) (left : now.input.left ≡ Some rest) (split : all ≡ played.script ++ rest)
     (whole : IsEnded now.input → (played.script ≡ all) × (now.input.left ≡ Some [])) where
@@ -72,6 +74,8 @@ module _ (before now : Outside) (status : Status) (played : IsPlayed before now 
   told-early LineTooLong is early = absurd early
   told-early Worn is early = absurd early
   told-early (BadFrame n) is early = absurd early
+  told-early (BadConfig key) is early = absurd early
+  told-early AcceptFault is early = absurd early
 
   told-all : (IsEnded now.input × StopsWithin before.held now.held (transcript played.script) status) ⊎ (IsEarly status × TellsFront before.held now.held status) → Told all status
   told-all (inl ended) = subst (λ (text : List ℕ). Told text status) (whole ended.0).0 played.told

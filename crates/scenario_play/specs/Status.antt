@@ -1,12 +1,14 @@
 use Rattle.std.specs.Prelude.{◌≡◌, ℕ, nat_lt, List, [], ◌++◌, codes, Option, Some, None, ◌⊎◌, if◌then◌else◌, length, ⊤}
 use Rattle.std.specs.Fmt.{decimal}
 use Rattle.edge_io.specs.Faults.{Rose}
+use Rattle.group_types.specs.declared.config_key.ConfigKey.{ConfigKey}
+use Rattle.group_types.specs.declared.config_key.ConfigKey.TheVariants as key
 use Rattle.group_types.specs.declared.shape.Field.TheVariants.{K, M, Block, Blocks}
 use Rattle.scenario_text.specs.declared.line.LineFault.{LineFault}
 use Rattle.scenario_text.specs.declared.line.LineFault.TheVariants as line
 use Rattle.scenario_run.specs.Script.{Fault, first_fault}
 use Rattle.scenario_play.specs.declared.status.Status.{Status}
-use Rattle.scenario_play.specs.declared.status.Status.TheVariants.{Done, BadWords, BadLine, BadShape, TooLong, ReadFault, WriteFault, Want, Cut, LineTooLong, Worn, BadFrame}
+use Rattle.scenario_play.specs.declared.status.Status.TheVariants.{Done, BadWords, BadLine, BadShape, TooLong, ReadFault, WriteFault, Want, Cut, LineTooLong, Worn, BadFrame, BadConfig, AcceptFault}
 
 -- the number with which the program ends
 abbrev pub number_of_status : Status → ℕ
@@ -15,13 +17,28 @@ number_of_status BadWords = 1
 number_of_status (BadLine _) = 2
 number_of_status (BadShape _) = 3
 number_of_status TooLong = 4
+number_of_status (BadConfig _) = 5
 number_of_status ReadFault = 6
 number_of_status WriteFault = 7
+number_of_status AcceptFault = 8
 number_of_status Want = 9
 number_of_status Cut = 10
 number_of_status LineTooLong = 11
 number_of_status Worn = 12
 number_of_status (BadFrame _) = 13
+
+-- the last line of settings that are refused at a key
+abbrev pub config_line : ConfigKey → List ℕ
+config_line key.Syntax = codes "fault: config syntax\n"
+config_line key.K = codes "fault: config k\n"
+config_line key.M = codes "fault: config m\n"
+config_line key.Blocks = codes "fault: config blocks\n"
+config_line key.Block = codes "fault: config block\n"
+config_line key.Address = codes "fault: config address\n"
+config_line key.Workers = codes "fault: config workers\n"
+config_line key.Connections = codes "fault: config connections\n"
+config_line key.Control = codes "fault: config control\n"
+config_line key.Unknown = codes "fault: config unknown\n"
 
 -- the last line, of a bad line and of a bad frame what stands before its number
 abbrev pub text_of_status : Status → List ℕ
@@ -33,8 +50,10 @@ text_of_status (BadShape M) = codes "fault: shape m\n"
 text_of_status (BadShape Block) = codes "fault: shape block\n"
 text_of_status (BadShape Blocks) = codes "fault: shape blocks\n"
 text_of_status TooLong = codes "fault: length\n"
+text_of_status (BadConfig key) = config_line key
 text_of_status ReadFault = codes "fault: read\n"
 text_of_status WriteFault = []
+text_of_status AcceptFault = codes "fault: accept\n"
 text_of_status Want = codes "fault: memory\n"
 text_of_status Cut = []
 text_of_status LineTooLong = []
@@ -49,8 +68,10 @@ last_line Done = text_of_status Done
 last_line BadWords = text_of_status BadWords
 last_line (BadShape field) = text_of_status (BadShape field)
 last_line TooLong = text_of_status TooLong
+last_line (BadConfig key) = text_of_status (BadConfig key)
 last_line ReadFault = text_of_status ReadFault
 last_line WriteFault = text_of_status WriteFault
+last_line AcceptFault = text_of_status AcceptFault
 last_line Want = text_of_status Want
 last_line Cut = text_of_status Cut
 last_line LineTooLong = text_of_status LineTooLong

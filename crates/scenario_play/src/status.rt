@@ -1,6 +1,7 @@
 ghost use Rattle.std.specs.Prelude.{◌≡◌};
+ghost use Rattle.scenario_play.specs.Status.{config_line};
 
-use group_types::Field;
+use group_types::{ConfigKey, Field};
 use std::alloc::AllocError;
 
 /// How a command ended.
@@ -16,10 +17,14 @@ pub enum Status {
     BadShape(Field),
     /// The input has more bytes than its limit.
     TooLong,
+    /// The first key of the settings that is wrong.
+    BadConfig(ConfigKey),
     /// The source counted a fault.
     ReadFault,
     /// The sink counted a fault.
     WriteFault,
+    /// The listener counted a fault.
+    AcceptFault,
     /// There was no memory.
     Want,
     /// The connection's input ended inside a request.
@@ -63,14 +68,34 @@ impl Status {
             Status::BadShape(Field::Block) => (3, "fault: shape block\n"),
             Status::BadShape(Field::Blocks) => (3, "fault: shape blocks\n"),
             Status::TooLong => (4, "fault: length\n"),
+            Status::BadConfig(key) => (5, config_line(key)),
             Status::ReadFault => (6, "fault: read\n"),
             Status::WriteFault => (7, ""),
+            Status::AcceptFault => (8, "fault: accept\n"),
             Status::Want => (9, "fault: memory\n"),
             Status::Cut => (10, ""),
             Status::LineTooLong => (11, ""),
             Status::Worn => (12, ""),
             Status::BadFrame(_) => (13, "fault: frame "),
         }
+    }
+}
+
+/// The last line of settings that are refused at this key.
+fn config_line(key: ConfigKey) -> &'static str
+    ensures { result.now ≡ config_line key }
+{
+    match key {
+        ConfigKey::Syntax => "fault: config syntax\n",
+        ConfigKey::K => "fault: config k\n",
+        ConfigKey::M => "fault: config m\n",
+        ConfigKey::Blocks => "fault: config blocks\n",
+        ConfigKey::Block => "fault: config block\n",
+        ConfigKey::Address => "fault: config address\n",
+        ConfigKey::Workers => "fault: config workers\n",
+        ConfigKey::Connections => "fault: config connections\n",
+        ConfigKey::Control => "fault: config control\n",
+        ConfigKey::Unknown => "fault: config unknown\n",
     }
 }
 
