@@ -309,7 +309,12 @@ module _ (s : Dimensions) (failed : Processes) (lived : ProcessId → ℕ) (ping
       by (AskedOf x) sol = tt
       by Unknown sol = tt
       by (TracedAt x) sol = tt
-      by (Answered t n) sol = (sol.0, λ alive. let old = sol.1 alive in record {
-        made_it = old.made_it; caller_is = old.caller_is; call_is = old.call_is;
-        since = subst (λ (n : ℕ). asked_by (take n made) c ≤ o.position) same old.since;
-      })
+      by (Answered t n) sol = (
+        sol.0,
+        λ alive. let old = sol.1 alive in record {
+          made_it = old.made_it;
+          caller_is = old.caller_is;
+          call_is = old.call_is;
+          since = subst (λ (n : ℕ). asked_by (take n made) c ≤ o.position) same old.since;
+        },
+      )

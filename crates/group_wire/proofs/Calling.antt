@@ -71,8 +71,11 @@ call-learns : (s : Dimensions) (failed : Processes) (wait : ProcessId → ℕ) (
 call-learns s failed wait asked next t pinged None low f = f
 call-learns s failed wait asked next t pinged (Some o) low f = by (cases_eq o.position t.call) where
   by : (o.position ≡ t.call) ⊎ (o.position ≢ t.call) → CallFits s failed wait asked next (call_learned t pinged (Some o))
-  by (inl same) = (f.0, subst (λ (b : Bool). StageFits s failed wait asked next o.position (one_or b (stage_learned t pinged o.stage) o.stage)) (sym (eq-eqb o.position t.call same))
-      (learned-fits s failed wait asked next o.position t pinged o.stage (sym same) low f.1))
+  by (inl same) = (
+    f.0,
+    subst (λ (b : Bool). StageFits s failed wait asked next o.position (one_or b (stage_learned t pinged o.stage) o.stage)) (sym (eq-eqb o.position t.call same))
+        (learned-fits s failed wait asked next o.position t pinged o.stage (sym same) low f.1),
+  )
   by (inr other) = (f.0, subst (λ (b : Bool). StageFits s failed wait asked next o.position (one_or b (stage_learned t pinged o.stage) o.stage)) (sym (ne_eqb o.position t.call other)) f.1)
 
 -- a call that is given up, once it was asked

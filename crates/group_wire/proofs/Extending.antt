@@ -137,7 +137,7 @@ module _ (s : Dimensions) (es : List Event) (run : IsRun s es) where
       counted (suc n) a within =
           let rest = counted n (a + 1) (omega (arith, within)) in
           let first : ◌≡◌ {A = ℕ} (if (node_in s (after s es).nodes (process_at s a)).dead then 1 else 0) (if failed (process_at s a) then 1 else 0) =
-              ap (λ (b : Bool). if b then 1 else 0) (dead (process_at s a) (process_at-in s a (omega (arith, within)))) in
+          ap (λ (b : Bool). if b then 1 else 0) (dead (process_at s a) (process_at-in s a (omega (arith, within)))) in
           omega (arith, rest, first)
 
   -- no node is down while at most m have failed

@@ -16,3 +16,8 @@ pub mod Showing
 pub mod Signs
 pub mod Telling
 pub mod Whole
+pub mod RowsOfCalls
+pub mod RowsOfFailures
+pub mod RowsOfFates
+pub mod RowsOfLosses
+pub mod RowsThatBreak

@@ -45,7 +45,7 @@ carried-sent false link wire sent c = record {
 }
 
 module _ (s : Dimensions) (nodes : List Node) (size : length nodes ≡ s.k + s.m) (cut : ProcessId → Processes) (failed : Processes) (taken : ProcessId → Processes) (works : Works)
-  (b : Mirrors s nodes cut failed taken works) where
+    (b : Mirrors s nodes cut failed taken works) where
   -- a member makes a step, and so does its process of the machine
   pub mirrors-acts : (p : ProcessId) (node : Node) (t : ProcessStep) → Living s failed p → NodeActs s (node_in s nodes p) node t
       → ((q : ProcessId) → Living s failed q → q ≢ p → knows_dead t.process.known q ≡ false) → Mirrors s (with_node s p node nodes) cut failed taken (stepped cut p t works)

@@ -240,9 +240,11 @@ module _ (c : Composed) (caller : ℕ) (b : PositionedAt c.group c.failed (asked
         let next : suc o.position ≡ c.group.gateways.next caller = stage.1 in
         subst (λ (d : Bool). Positioned c.group.shape c.group.words.cut c.failed (staged caller o (stage_given_up o.op (AskedOf x)) c.group.gateways) (asked_by (c.made ++ lost_ask d caller o.op x))) (sym le)
         (positioned-as _ _ _ _ _ _ (asks-once c.made (record { event = event.Ask caller o.op x; answer = says.Lost }) caller o.op x refl)
-        (positioned-once c.group.shape c.group.words.cut c.failed c.group.gateways (asked_in c) b caller (Some (record o { stage = again o.op.act })) none
-        (fits.0, given-up-fits c.group.shape c.failed (waits c.group.shape c.group.words.cut c.group.gateways.requests c.group.gateways.parked caller) (suc (asked_in c caller)) (c.group.gateways.next caller) o.position o.op.act
-        (omega (arith, at_it, next), none, next))))
+        (positioned-once c.group.shape c.group.words.cut c.failed c.group.gateways (asked_in c) b caller (Some (record o { stage = again o.op.act })) none (
+          fits.0,
+          given-up-fits c.group.shape c.failed (waits c.group.shape c.group.words.cut c.group.gateways.requests c.group.gateways.parked caller) (suc (asked_in c caller)) (c.group.gateways.next caller) o.position o.op.act
+              (omega (arith, at_it, next), none, next),
+        )))
     which (inr (at_next, _)) =
         let next : suc o.position ≡ c.group.gateways.next caller = stage.1 in
         let gt : nat_le (asks_among caller (events_of c)) o.position ≡ false = above (asks_among caller (events_of c)) o.position (omega (arith, at_next, next)) in

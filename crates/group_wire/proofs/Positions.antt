@@ -121,13 +121,13 @@ asks-once made x who op p is = same-function (asked_once (asked_by made) who) (a
     by caller all this (inl same) =
         let one : ◌≡◌ {A = ℕ} (if who == caller then 1 else 0) 1 = ap (λ (b : Bool). if b then 1 else 0) (eq-eqb who caller (sym same)) in
         let value : asked_once (asked_by made) who caller ≡ suc (asks_among who (map (λ x. x.event) made)) =
-            ap (λ (b : Bool). one_or b (suc (asks_among who (map (λ x. x.event) made))) (asks_among caller (map (λ x. x.event) made))) (eq-eqb caller who same) in
+        ap (λ (b : Bool). one_or b (suc (asks_among who (map (λ x. x.event) made))) (asks_among caller (map (λ x. x.event) made))) (eq-eqb caller who same) in
         let moved : asks_among who (map (λ x. x.event) made) ≡ asks_among caller (map (λ x. x.event) made) = ap (λ (c : ℕ). asks_among c (map (λ x. x.event) made)) (sym same) in
         omega (arith, all, this, one, value, moved)
     by caller all this (inr other) =
         let none : ◌≡◌ {A = ℕ} (if who == caller then 1 else 0) 0 = ap (λ (b : Bool). if b then 1 else 0) (ne_eqb who caller (λ same. other (sym same))) in
         let value : asked_once (asked_by made) who caller ≡ asks_among caller (map (λ x. x.event) made) =
-            ap (λ (b : Bool). one_or b (suc (asks_among who (map (λ x. x.event) made))) (asks_among caller (map (λ x. x.event) made))) (ne_eqb caller who other) in
+        ap (λ (b : Bool). one_or b (suc (asks_among who (map (λ x. x.event) made))) (asks_among caller (map (λ x. x.event) made))) (ne_eqb caller who other) in
         omega (arith, all, this, none, value)
 
 -- the same with as many asks

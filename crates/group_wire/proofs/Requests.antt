@@ -140,7 +140,7 @@ pub record Placed (s : Dimensions) (cut : ProcessId → Processes) (failed : Pro
   pub one : AtMostOne s failed (waits s cut requests parked)
 
 module _ (s : Dimensions) (cut : ProcessId → Processes) (failed : Processes) (requests : ProcessId → ProcessId → List Request) (parked : ProcessId → List Request) (asked : ℕ → ℕ)
-  (b : Placed s cut failed requests parked asked) where
+    (b : Placed s cut failed requests parked asked) where
   -- a gateway sends a request: only its caller waits for more, and only at the member that it is sent to
   module _ (g x : ProcessId) (r : Request) where
     abbrev pub with_sent : ProcessId → ProcessId → List Request
@@ -198,8 +198,8 @@ module _ (s : Dimensions) (cut : ProcessId → Processes) (failed : Processes) (
     which caller y lives (inl less) = inl less
     which caller y lives (inr (at_x, at_g, its, uncut, asks, more)) =
         let none : (z : ProcessId) → Living s failed z → waits s cut requests parked caller z ≡ 0 =
-            subst (λ (c : ℕ). (z : ProcessId) → Living s failed z → waits s cut requests parked c z ≡ 0) (sym its)
-            ((may (subst (Living s failed) at_x lives) uncut).1 (subst (λ (c : ℕ). 0 < is_ask c r) its asks)) in
+        subst (λ (c : ℕ). (z : ProcessId) → Living s failed z → waits s cut requests parked c z ≡ 0) (sym its)
+        ((may (subst (Living s failed) at_x lives) uncut).1 (subst (λ (c : ℕ). 0 < is_ask c r) its asks)) in
         let before = none y lives in
         inr (at_x, omega (arith, more, before), none)
 
@@ -214,17 +214,22 @@ module _ (s : Dimensions) (cut : ProcessId → Processes) (failed : Processes) (
     Lane caller y z rs = ((y ≢ g) ⊎ (z ≢ p)) × (count_asks caller rs ≡ count_asks caller (requests y z)) ⊎ ((y ≡ g) × (z ≡ p) × (count_asks caller (requests y z) ≡ is_ask caller r + count_asks caller rs))
 
     lane : (caller : ℕ) (y z : ProcessId) → (y ≡ g) ⊎ (y ≢ g) → (z ≡ p) ⊎ (z ≢ p) → Lane caller y z (changed_from requests g p rest y z)
-    lane caller y z (inl yg) (inl zp) = inr (yg, zp,
-        ap (λ (a : ProcessId). count_asks caller (requests a z)) yg ∙ ap (λ (a : ProcessId). count_asks caller (requests g a)) zp ∙ ap (count_asks caller) is
-        ∙ sym (ap (λ (rs : List Request). is_ask caller r + count_asks caller rs)
-        (ap (λ (a : ProcessId). changed_from requests g p rest a z) yg ∙ ap (λ (a : ProcessId). changed_from requests g p rest g a) zp
-        ∙ ap (λ (f : ProcessId → List Request). f p) (changed-here requests g (changed (requests g) p rest)) ∙ changed-here (requests g) p rest)))
+    lane caller y z (inl yg) (inl zp) = inr (
+      yg,
+      zp,
+      ap (λ (a : ProcessId). count_asks caller (requests a z)) yg ∙ ap (λ (a : ProcessId). count_asks caller (requests g a)) zp ∙ ap (count_asks caller) is
+          ∙ sym (ap (λ (rs : List Request). is_ask caller r + count_asks caller rs)
+          (ap (λ (a : ProcessId). changed_from requests g p rest a z) yg ∙ ap (λ (a : ProcessId). changed_from requests g p rest g a) zp
+          ∙ ap (λ (f : ProcessId → List Request). f p) (changed-here requests g (changed (requests g) p rest)) ∙ changed-here (requests g) p rest)),
+    )
     lane caller y z (inr other) w = inl (inl other, ap (λ (f : ProcessId → List Request). count_asks caller (f z)) (changed-other requests g y (changed (requests g) p rest) other))
-    lane caller y z (inl yg) (inr other) = inl (inr other,
-        ap (λ (a : ProcessId). count_asks caller (changed_from requests g p rest a z)) yg
-        ∙ ap (λ (f : ProcessId → List Request). count_asks caller (f z)) (changed-here requests g (changed (requests g) p rest))
-        ∙ ap (count_asks caller) (changed-other (requests g) p z rest other)
-        ∙ ap (λ (a : ProcessId). count_asks caller (requests a z)) (sym yg))
+    lane caller y z (inl yg) (inr other) = inl (
+      inr other,
+      ap (λ (a : ProcessId). count_asks caller (changed_from requests g p rest a z)) yg
+          ∙ ap (λ (f : ProcessId → List Request). count_asks caller (f z)) (changed-here requests g (changed (requests g) p rest))
+          ∙ ap (count_asks caller) (changed-other (requests g) p z rest other)
+          ∙ ap (λ (a : ProcessId). count_asks caller (requests a z)) (sym yg),
+    )
 
     Park : ℕ → ProcessId → List Request → Type 0
     Park caller z rs = (count_asks caller rs ≡ count_asks caller (parked z)) ⊎ ((z ≡ p) × (count_asks caller rs ≡ count_asks caller (parked z) + is_ask caller r))
@@ -384,6 +389,6 @@ module _ (s : Dimensions) (cut : ProcessId → Processes) (failed : Processes) (
       none-here =
           let open_to : cut x (gateway_of s who) ≡ false = ap (cut x) same ∙ uncut in
           let all : one_or false 0 (count_asks who (requests (gateway_of s who) x)) + count_asks who (parked x) ≡ 0 =
-              ap (λ (c : Bool). one_or c 0 (count_asks who (requests (gateway_of s who) x)) + count_asks who (parked x)) (sym open_to) ∙ none x lives in
+          ap (λ (c : Bool). one_or c 0 (count_asks who (requests (gateway_of s who) x)) + count_asks who (parked x)) (sym open_to) ∙ none x lives in
           let here : count_asks who (requests g x) ≡ count_asks who (requests (gateway_of s who) x) = ap (λ (a : ProcessId). count_asks who (requests a x)) (sym same) in
           omega (arith, all, here)

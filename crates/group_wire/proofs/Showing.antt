@@ -37,9 +37,12 @@ use Rattle.group_wire.proofs.Whole.{Whole, asks-past, turn-events, whole}
 made-turn : (w : World) (made : List Made) (place : ℕ) (x : Made) → slice_get made place ≡ Some x → map (λ (t : Turn). t.answer) (turns_from w (events_in made)) ≡ map (λ x. x.answer) made
     → (turn : Turn) × (slice_get (turns_from w (events_in made)) place ≡ Some turn) × (turn.event ≡ x.event) × (turn.answer ≡ x.answer)
 made-turn w [] place x is same = absurd (cc is)
-made-turn w (y ∷ made) zero x is same =
-    ((step w y.event).turn, refl, ap (λ (o : Option Made). elim o [ None ↦ y.event | Some z ↦ z.event ]) is,
-    ap first same ∙ ap (λ (o : Option Made). elim o [ None ↦ y.answer | Some z ↦ z.answer ]) is)
+made-turn w (y ∷ made) zero x is same = (
+  (step w y.event).turn,
+  refl,
+  ap (λ (o : Option Made). elim o [ None ↦ y.event | Some z ↦ z.event ]) is,
+  ap first same ∙ ap (λ (o : Option Made). elim o [ None ↦ y.answer | Some z ↦ z.answer ]) is,
+)
   where
     first : List Answer → Answer
     first [] = y.answer
@@ -176,7 +179,7 @@ module _ (c : Composed) (h : Whole c) (b : LearnedAt c) where
     fetched : Fetches found.0.event (record { caller = caller; call = o.position }) → IsLoggedSinceBegun c caller o reply
     fetched fetches =
         let l : IsLoggedSince (turns_of c.group.shape (events_of c)) sol.made_it.place (record { caller = caller; call = o.position }) reply =
-            log.within.later sol.made_it.place found.0 (record { caller = caller; call = o.position }) reply found.1 fetches answer in record {
+        log.within.later sol.made_it.place found.0 (record { caller = caller; call = o.position }) reply found.1 fetches answer in record {
           op = l.op;
           place = l.place;
           entry = ap (λ (log : List Entry). slice_get log l.place) log.kept ∙ log-whole (turns_of c.group.shape (events_of c)) (sol.made_it.place + 1) l.place (entry_of (record { caller = caller; call = o.position }) l.op reply) l.entry;

@@ -83,8 +83,11 @@ told-made made x (TraceOf caller call d) p is fits = by x.answer refl where
 handed-made : (made : List Made) (x : Made) (caller call : ℕ) (p : ProcessId) → x.event ≡ event.Collect caller call p → Each (WasMade (made ++ x ∷ [])) (handed_to caller call x.answer)
 handed-made made x caller call p is = by x.answer refl where
   by : (a : Answer) → x.answer ≡ a → Each (WasMade (made ++ x ∷ [])) (handed_to caller call a)
-  by (says.Reply reply) same = (made-last made x (record { caller = caller; call = call; traced = false; answer = says.Reply reply }) same
-      (subst (λ (e : _). IsOfCall e (record { caller = caller; call = call; traced = false; answer = says.Reply reply }) (asked_by made caller)) (sym is) (refl, refl)), tt)
+  by (says.Reply reply) same = (
+    made-last made x (record { caller = caller; call = call; traced = false; answer = says.Reply reply }) same
+        (subst (λ (e : _). IsOfCall e (record { caller = caller; call = call; traced = false; answer = says.Reply reply }) (asked_by made caller)) (sym is) (refl, refl)),
+    tt,
+  )
   by (says.Ticket n) same = tt
   by says.NotYet same = tt
   by says.NoSpace same = tt
@@ -217,7 +220,7 @@ module _ (c : Composed) (h : Whole c) (b : LearnedAt c) where
     asks : c.failed (gateway_of c.group.shape caller) ≡ false → asked_by c.made caller ≤ c.group.gateways.next caller
     asks gl =
         let f : CallFits c.group.shape c.failed (waits c.group.shape c.group.words.cut c.group.gateways.requests c.group.gateways.parked caller) (asked_in c caller) (c.group.gateways.next caller) None =
-            subst (CallFits c.group.shape c.failed (waits c.group.shape c.group.words.cut c.group.gateways.requests c.group.gateways.parked caller) (asked_in c caller) (c.group.gateways.next caller)) may.1 (h.positioned.calls caller gl) in
+        subst (CallFits c.group.shape c.failed (waits c.group.shape c.group.words.cut c.group.gateways.requests c.group.gateways.parked caller) (asked_in c caller) (c.group.gateways.next caller)) may.1 (h.positioned.calls caller gl) in
         let same = f.0 in omega (arith, same)
 
     begins : LearnedAt (composed_with c (Begin caller op))

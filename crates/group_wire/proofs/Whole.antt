@@ -76,7 +76,7 @@ pub handed-asked : (s : Dimensions) (made : List Made) (caller call : ℕ) (p : 
     → call < asked_by made caller
 handed-asked s made caller call p reply m n =
     let logged : IsLoggedSince (turns_of s es) (length (turns_of s (events_in made))) (record { caller = caller; call = call }) reply =
-        (headline_always s es n.run).one_log.within.later (length (turns_of s (events_in made))) turn (record { caller = caller; call = call }) reply there fetches answer in
+    (headline_always s es n.run).one_log.within.later (length (turns_of s (events_in made))) turn (record { caller = caller; call = call }) reply there fetches answer in
     let low = asked-of-logged s (made ++ x ∷ []) n (record { caller = caller; call = call }) logged.op logged.j logged.ask logged.asked in
     let same = asks-made caller made (x ∷ []) in
     omega (arith, low, same)

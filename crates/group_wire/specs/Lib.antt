@@ -7,3 +7,9 @@ pub mod Composed
 pub mod Composition
 pub mod Laws
 pub mod Shown
+pub mod Rows
+pub mod RowsOfCalls
+pub mod RowsOfFailures
+pub mod RowsOfFates
+pub mod RowsOfLosses
+pub mod RowsThatBreak

@@ -1,0 +1,100 @@
+ghost use Rattle.group_wire.specs.RowsOfCalls.{AHeadFails, AParityFails, NobodyFails, TracedAtTheNextHead, TwoParitiesNobodyFails};
+ghost use Rattle.group_wire.specs.RowsOfFates.{ALostAsk, GoneAndAskedAgain, ShownByAFailedOne};
+ghost use Rattle.group_wire.specs.RowsOfFailures.{BothHeadsFail, HeadsAreCondemned, NobodyIsDead, TwoFailAtOnce};
+ghost use Rattle.group_wire.specs.RowsOfLosses.{ABlockIsRebuilt, APendingUpdate};
+ghost use Rattle.group_wire.specs.RowsThatBreak.{GivenUpAtTheCut, MoreThanM, OnePongTooFew, PermittedTooEarly, ReadBehindTheCut};
+
+/// Nobody fails: calls at each gateway, each shown after its pongs.
+pub fn row_nobody_fails()
+    ensures { NobodyFails }
+{}
+
+/// The same with two parity processes, whose pongs are both waited for.
+pub fn row_two_parities_nobody_fails()
+    ensures { TwoParitiesNobodyFails }
+{}
+
+/// A data process fails while it has updates under way; the parity process heads its partition.
+pub fn row_a_head_fails()
+    ensures { AHeadFails }
+{}
+
+/// A parity process fails, and an update that waited for it is handed out.
+pub fn row_a_parity_fails()
+    ensures { AParityFails }
+{}
+
+/// A change of unknown fate is traced at the next head, and its reply shown.
+pub fn row_traced_at_the_next_head()
+    ensures { TracedAtTheNextHead }
+{}
+
+/// A change that the next head has nothing of is asked again under the next position.
+pub fn row_gone_and_asked_again()
+    ensures { GoneAndAskedAgain }
+{}
+
+/// An ask that the dead head never treated is given up, and stands behind the failure as lost.
+pub fn row_a_lost_ask()
+    ensures { ALostAsk }
+{}
+
+/// A failed gateway shows what it was told before it failed.
+pub fn row_shown_by_a_failed_one()
+    ensures { ShownByAFailedOne }
+{}
+
+/// Two fail by one permitted set.
+pub fn row_two_fail_at_once()
+    ensures { TwoFailAtOnce }
+{}
+
+/// Both data processes of a group with two parity processes fail.
+pub fn row_both_heads_fail()
+    ensures { BothHeadsFail }
+{}
+
+/// Members are condemned that live, by words that differ from member to member.
+pub fn row_nobody_is_dead()
+    ensures { NobodyIsDead }
+{}
+
+/// Heads that live are condemned, in a group with more data than parity processes.
+pub fn row_heads_are_condemned()
+    ensures { HeadsAreCondemned }
+{}
+
+/// The next head rebuilds a block before it answers.
+pub fn row_a_block_is_rebuilt()
+    ensures { ABlockIsRebuilt }
+{}
+
+/// A call waits for an update that isn't finished, and is asked again.
+pub fn row_a_pending_update()
+    ensures { APendingUpdate }
+{}
+
+/// A member permits itself a set before the others have said it: it receives what the machine has not.
+pub fn row_permitted_too_early()
+    ensures { PermittedTooEarly }
+{}
+
+/// A member reads on behind its cut: the machine has the notice alone.
+pub fn row_read_behind_the_cut()
+    ensures { ReadBehindTheCut }
+{}
+
+/// An answer is shown by one pong too few: it is a ghost's, and no entry of the log.
+pub fn row_one_pong_too_few()
+    ensures { OnePongTooFew }
+{}
+
+/// An ask is given up at the cut, and not at the notice: it isn't lost.
+pub fn row_given_up_at_the_cut()
+    ensures { GivenUpAtTheCut }
+{}
+
+/// A word for more than m is taken: the machine is down.
+pub fn row_more_than_m()
+    ensures { MoreThanM }
+{}
