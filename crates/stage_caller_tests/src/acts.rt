@@ -29,7 +29,7 @@ pub(crate) fn reads(alloc: Global, caller: &mut StageCaller<'_>, key: &[u8], val
     }
 }
 
-pub(crate) fn set(alloc: Global, key: &[u8], value: &[u8]) -> Option<Op> {
+fn set(alloc: Global, key: &[u8], value: &[u8]) -> Option<Op> {
     let act = Act::Set {
         key: Key::read(alloc, key).ok()?,
         flags: 0,
@@ -39,7 +39,7 @@ pub(crate) fn set(alloc: Global, key: &[u8], value: &[u8]) -> Option<Op> {
     Some(Op::new(0, act))
 }
 
-pub(crate) fn get(alloc: Global, key: &[u8]) -> Option<Op> {
+fn get(alloc: Global, key: &[u8]) -> Option<Op> {
     let key = Key::read(alloc, key).ok()?;
     Some(Op::new(0, Act::Get { key }))
 }

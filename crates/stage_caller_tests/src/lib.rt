@@ -7,10 +7,4 @@ mod acts;
 #[cfg(test)]
 mod alone;
 #[cfg(test)]
-mod dying;
-#[cfg(test)]
 mod losing;
-#[cfg(test)]
-mod own_keys;
-#[cfg(test)]
-mod place;
