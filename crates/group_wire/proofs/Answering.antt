@@ -31,7 +31,7 @@ use Rattle.group_wire.proofs.Changes.{changed-each, changed-pairs, changed_at-ea
 use Rattle.group_wire.proofs.Positions.{asked_by}
 use Rattle.group_wire.proofs.Requests.{Living}
 
-take-front : {X : Type 0} (n : ℕ) (xs ys : List X) → n ≤ length xs → take n (xs ++ ys) ≡ take n xs
+pub take-front : {X : Type 0} (n : ℕ) (xs ys : List X) → n ≤ length xs → take n (xs ++ ys) ≡ take n xs
 take-front n xs ys within = take-append-le n xs ys within
 
 -- what was made is so still when more is made
@@ -45,7 +45,7 @@ made-still made more t w = record {
       (sym (take-front w.place made more (let low = slice_get_within made w.place w.event w.there in omega (arith, low)))) w.of_call;
 }
 
-take-all : {X : Type 0} (xs ys : List X) → take (length xs) (xs ++ ys) ≡ xs
+pub take-all : {X : Type 0} (xs ys : List X) → take (length xs) (xs ++ ys) ≡ xs
 take-all [] ys = refl
 take-all (x ∷ xs) ys = ap (λ (rest : List _). x ∷ rest) (take-all xs ys)
 
@@ -127,7 +127,7 @@ solid-call made more begun lost now lived later pinged more_pinged caller None w
 solid-call made more begun lost now lived later pinged more_pinged caller (Some o) within rises was sol = solid-kept made more begun lost now lived later pinged more_pinged caller o.position o.stage within rises was sol
 
 -- a call that is told an answer is answered, or goes on
-told-which : (t : Told) (n : ℕ) (answer : Answer) (traced : Bool) → (stage_told t n answer traced ≡ Answered t n) ⊎ (stage_told t n answer traced ≡ Unasked) ⊎ (stage_told t n answer traced ≡ Unknown)
+pub told-which : (t : Told) (n : ℕ) (answer : Answer) (traced : Bool) → (stage_told t n answer traced ≡ Answered t n) ⊎ (stage_told t n answer traced ≡ Unasked) ⊎ (stage_told t n answer traced ≡ Unknown)
 told-which t n (says.Reply reply) traced = inl refl
 told-which t n says.NoSpace traced = inl refl
 told-which t n says.Gone true = inr (inl refl)

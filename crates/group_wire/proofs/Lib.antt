@@ -2,6 +2,7 @@ pub mod Answering
 pub mod Barrier
 pub mod Calling
 pub mod Changes
+pub mod Clients
 pub mod Composing
 pub mod Compositions
 pub mod Counting
@@ -15,9 +16,12 @@ pub mod Requests
 pub mod Showing
 pub mod Signs
 pub mod Telling
+pub mod Wanting
+pub mod Wants
 pub mod Whole
 pub mod RowsOfCalls
 pub mod RowsOfFailures
 pub mod RowsOfFates
+pub mod RowsOfGateways
 pub mod RowsOfLosses
 pub mod RowsThatBreak

@@ -109,7 +109,7 @@ handed-low asked caller call answer low = by answer refl where
   by says.Gone is = tt
 
 -- failures ask nothing
-failures-quiet : (s : Dimensions) (failed set : Processes) (xs : List ℕ) (caller : ℕ) → asks_among caller (map (λ x. x.event) (failures_at s failed set xs)) ≡ 0
+pub failures-quiet : (s : Dimensions) (failed set : Processes) (xs : List ℕ) (caller : ℕ) → asks_among caller (map (λ x. x.event) (failures_at s failed set xs)) ≡ 0
 failures-quiet s failed set [] caller = refl
 failures-quiet s failed set (x ∷ xs) caller = by (set (process_at s x) && not (failed (process_at s x))) (failures-quiet s failed set xs caller) where
   by : (b : Bool) → asks_among caller (map (λ x. x.event) (failures_at s failed set xs)) ≡ 0
@@ -117,11 +117,11 @@ failures-quiet s failed set (x ∷ xs) caller = by (set (process_at s x) && not 
   by true rest = omega (arith, rest)
   by false rest = rest
 
-quiet-none : (made : List Made) → asked_by made ≡ asked_by (made ++ [])
+pub quiet-none : (made : List Made) → asked_by made ≡ asked_by (made ++ [])
 quiet-none made = ap asked_by (sym (append-nil made))
 
 -- an event stands or doesn't, and asks nothing
-quiet-if : (made : List Made) (lost : Bool) (x : Made) → ((caller : ℕ) → asks_among caller (x.event ∷ []) ≡ 0) → asked_by made ≡ asked_by (made ++ stands_if lost (x ∷ []))
+pub quiet-if : (made : List Made) (lost : Bool) (x : Made) → ((caller : ℕ) → asks_among caller (x.event ∷ []) ≡ 0) → asked_by made ≡ asked_by (made ++ stands_if lost (x ∷ []))
 quiet-if made true x none = quiet-none made
 quiet-if made false x none = asks-quiet made (x ∷ []) none
 

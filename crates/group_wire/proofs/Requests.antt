@@ -392,3 +392,25 @@ module _ (s : Dimensions) (cut : ProcessId → Processes) (failed : Processes) (
           ap (λ (c : Bool). one_or c 0 (count_asks who (requests (gateway_of s who) x)) + count_asks who (parked x)) (sym open_to) ∙ none x lives in
           let here : count_asks who (requests g x) ≡ count_asks who (requests (gateway_of s who) x) = ap (λ (a : ProcessId). count_asks who (requests a x)) (sym same) in
           omega (arith, all, here)
+
+  -- where none of a caller's asks waits, there is none in a wire that can still be read, nor among those that were read
+  pub lane-none : (who : ℕ) → ((z : ProcessId) → Living s failed z → waits s cut requests parked who z ≡ 0) → (g x : ProcessId) → Living s failed x → cut x g ≡ false → count_asks who (requests g x) ≡ 0
+  lane-none who none g x lives uncut = by (same-cases (gateway_of s who) g) where
+    unasked : (rs : List Request) → gateway_of s who ≢ g → Each (λ r. gateway_of s (caller_in r) ≡ g) rs → count_asks who rs ≡ 0
+    unasked [] other all = refl
+    unasked (r ∷ rs) other all = which (is_ask who r) refl (unasked rs other all.1) where
+      which : (n : ℕ) → is_ask who r ≡ n → count_asks who rs ≡ 0 → is_ask who r + count_asks who rs ≡ 0
+      which zero is rest = omega (arith, is, rest)
+      which (suc n) is rest = absurd (other (ap (gateway_of s) (asker who r n is) ∙ all.0))
+
+    by : (gateway_of s who ≡ g) ⊎ (gateway_of s who ≢ g) → count_asks who (requests g x) ≡ 0
+    by (inr other) = unasked (requests g x) other (b.owned g x)
+    by (inl same) =
+        let open_to : cut x (gateway_of s who) ≡ false = ap (cut x) same ∙ uncut in
+        let all : one_or false 0 (count_asks who (requests (gateway_of s who) x)) + count_asks who (parked x) ≡ 0 =
+            ap (λ (c : Bool). one_or c 0 (count_asks who (requests (gateway_of s who) x)) + count_asks who (parked x)) (sym open_to) ∙ none x lives in
+        let here : count_asks who (requests g x) ≡ count_asks who (requests (gateway_of s who) x) = ap (λ (a : ProcessId). count_asks who (requests a x)) (sym same) in
+        omega (arith, all, here)
+
+  pub park-none : (who : ℕ) → ((z : ProcessId) → Living s failed z → waits s cut requests parked who z ≡ 0) → (x : ProcessId) → Living s failed x → count_asks who (parked x) ≡ 0
+  park-none who none x lives = let all = none x lives in omega (arith, all)

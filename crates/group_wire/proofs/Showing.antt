@@ -30,7 +30,10 @@ use Rattle.group_wire.proofs.Answering.{Solid, SolidCall, SolidStage}
 use Rattle.group_wire.proofs.Extending.{events_in}
 use Rattle.group_wire.proofs.Honest.{honest, shape-from, shown-alive}
 use Rattle.group_wire.proofs.Positions.{asked_by}
+use Rattle.group_wire.proofs.Clients.{wanted}
 use Rattle.group_wire.proofs.Telling.{LearnedAt, learned}
+use Rattle.group_wire.proofs.Wanting.{AskIs}
+use Rattle.group_wire.proofs.Wants.{FirmCall, FirmStage}
 use Rattle.group_wire.proofs.Whole.{Whole, asks-past, turn-events, whole}
 
 -- a list of turns, and what was made beside it
@@ -51,6 +54,12 @@ made-turn w (y ∷ made) (suc place) x is same = made-turn (step w y.event).worl
   rest : List Answer → List Answer
   rest [] = []
   rest (a ∷ more) = more
+
+-- what was made beside a turn
+turn-made : (w : World) (made : List Made) (j : ℕ) (t : Turn) → slice_get (turns_from w (events_in made)) j ≡ Some t → (y : Made) × (slice_get made j ≡ Some y) × (y.event ≡ t.event)
+turn-made w [] j t is = absurd (cc is)
+turn-made w (y ∷ made) zero t is = (y, refl, ap (λ (o : Option Turn). elim o [ None ↦ y.event | Some z ↦ z.event ]) is)
+turn-made w (y ∷ made) (suc j) t is = turn-made (step w y.event).world made j t is
 
 -- the asks among the first turns are those among the first events
 asks-front : (w : World) (made : List Made) (n caller : ℕ) → asks_of caller (take n (turns_from w (events_in made))) ≡ asks_among caller (map (λ x. x.event) (take n made))
@@ -107,25 +116,25 @@ asks-next caller [] i t is = absurd (cc is)
 asks-next caller (u ∷ turns) zero t is = let same : asks_in caller u.event ≡ asks_in caller t.event = ap (λ (o : Option Turn). elim o [ None ↦ asks_in caller u.event | Some x ↦ asks_in caller x.event ]) is in omega (arith, same)
 asks-next caller (u ∷ turns) (suc i) t is = let rest = asks-next caller turns i t is in omega (arith, rest)
 
+-- a gateway that shows an answer had not failed when it was told
+told-alive : (c : Composed) (caller ping : ℕ) (o : OpenCall) (t : Told) → SentAlive c (gateway_of c.group.shape caller) ping → MayAct c.group (Show caller ping) → (shows : Shows c caller o t)
+    → (c.failed (gateway_of c.group.shape caller) ≡ false) ⊎ (shows.pinged < c.lived (gateway_of c.group.shape caller))
+told-alive c caller ping o t alive may shows = by alive where
+  before : shows.pinged ≤ ping
+  before = subst (λ (stage : Stage). IsToldBefore c.group stage ping) shows.stage (subst (λ (call : Option OpenCall). CallIsTold c.group call ping) shows.call may.1.told)
+
+  by : (c.failed (gateway_of c.group.shape caller) ≡ false) ⊎ (ping < c.lived (gateway_of c.group.shape caller)) → (c.failed (gateway_of c.group.shape caller) ≡ false) ⊎ (shows.pinged < c.lived (gateway_of c.group.shape caller))
+  by (inl lives) = inl lives
+  by (inr low) = inr (let first = before in omega (arith, first, low))
+
 module _ (c : Composed) (h : Whole c) (b : LearnedAt c) where
-  turns : List Turn
-  turns = turns_of c.group.shape (events_of c)
 
   -- what is shown by a living gateway, or one that lived when it sent the ping, is solid
   pub shown-solid : (caller ping : ℕ) (o : OpenCall) (t : Told) → SentAlive c (gateway_of c.group.shape caller) ping → MayAct c.group (Show caller ping) → Shows c caller o t → Solid c.made c.begun caller o.position t
-  shown-solid caller ping o t alive may shows = sol.1 early where
+  shown-solid caller ping o t alive may shows = sol.1 (told-alive c caller ping o t alive may shows) where
     sol : SolidStage c.made c.begun (c.failed (gateway_of c.group.shape caller)) (c.lived (gateway_of c.group.shape caller)) (c.group.signs.pinged (gateway_of c.group.shape caller)) caller o.position (Answered t shows.pinged)
     sol = subst (SolidStage c.made c.begun (c.failed (gateway_of c.group.shape caller)) (c.lived (gateway_of c.group.shape caller)) (c.group.signs.pinged (gateway_of c.group.shape caller)) caller o.position) shows.stage
         (subst (SolidCall c.made c.begun (c.failed (gateway_of c.group.shape caller)) (c.lived (gateway_of c.group.shape caller)) (c.group.signs.pinged (gateway_of c.group.shape caller)) caller) shows.call (b.solid caller))
-
-    before : shows.pinged ≤ ping
-    before = subst (λ (stage : Stage). IsToldBefore c.group stage ping) shows.stage (subst (λ (call : Option OpenCall). CallIsTold c.group call ping) shows.call may.1.told)
-
-    early : (c.failed (gateway_of c.group.shape caller) ≡ false) ⊎ (shows.pinged < c.lived (gateway_of c.group.shape caller))
-    early = by alive where
-      by : (c.failed (gateway_of c.group.shape caller) ≡ false) ⊎ (ping < c.lived (gateway_of c.group.shape caller)) → (c.failed (gateway_of c.group.shape caller) ≡ false) ⊎ (shows.pinged < c.lived (gateway_of c.group.shape caller))
-      by (inl lives) = inl lives
-      by (inr low) = inr (let first = before in omega (arith, first, low))
 
   -- an ask of the call was made since the call began
   since-begun : (caller position : ℕ) (op : Asked) (j : ℕ) (ask : Turn) → asked_by (take (c.begun caller) c.made) caller ≤ position → IsAsk (turns_of c.group.shape (events_of c)) j ask (record { caller = caller; call = position }) op → c.begun caller ≤ j
@@ -140,8 +149,8 @@ module _ (c : Composed) (h : Whole c) (b : LearnedAt c) where
         let place = is.place in
         absurd (omega (arith, one, next, rise, front, place, low))
 
-  pub solid-logged : (caller : ℕ) (o : OpenCall) (t : Told) (reply : Reply) → Solid c.made c.begun caller o.position t → t.answer ≡ says.Reply reply → IsLoggedSinceBegun c caller o reply
-  solid-logged caller o t reply sol told = by sol.made_it.event.event refl (subst (λ (e : Event). IsOfCall e t (asks_among t.caller (events_before c.made sol.made_it.place))) refl sol.made_it.of_call) where
+  pub solid-logged : (caller : ℕ) (o : OpenCall) (t : Told) (reply : Reply) → Solid c.made c.begun caller o.position t → AskIs c.made caller o.position o.op → t.answer ≡ says.Reply reply → IsLoggedSinceBegun c caller o reply
+  solid-logged caller o t reply sol asks told = by sol.made_it.event.event refl (subst (λ (e : Event). IsOfCall e t (asks_among t.caller (events_before c.made sol.made_it.place))) refl sol.made_it.of_call) where
     name : CallName
     name = record { caller = caller; call = o.position }
 
@@ -157,13 +166,16 @@ module _ (c : Composed) (h : Whole c) (b : LearnedAt c) where
     -- a reply to an ask
     asked : (op : Asked) (p : ProcessId) → sol.made_it.event.event ≡ event.Ask caller op p → asks_among t.caller (events_before c.made sol.made_it.place) ≡ t.call → IsLoggedSinceBegun c caller o reply
     asked op p is place = record {
-      op = op;
       place = length (log_of (take sol.made_it.place (turns_of c.group.shape (events_of c)))) + there.0;
       entry = ap (λ (l : List Entry). slice_get l (length (log_of (take sol.made_it.place (turns_of c.group.shape (events_of c)))) + there.0)) log.kept
-          ∙ log-at (turns_of c.group.shape (events_of c)) sol.made_it.place found.0 there.0 (entry_of (record { caller = caller; call = o.position }) op reply) found.1 there.1;
+          ∙ log-at (turns_of c.group.shape (events_of c)) sol.made_it.place found.0 there.0 (entry_of (record { caller = caller; call = o.position }) op reply) found.1 there.1
+          ∙ ap (λ (a : Asked). Some (entry_of (record { caller = caller; call = o.position }) a reply)) (asks sol.made_it.place sol.made_it.event op p sol.made_it.there is before);
       since =
           let first = log-rises (turns_of c.group.shape (events_of c)) (c.begun caller) sol.made_it.place (since-begun caller o.position op sol.made_it.place found.0 sol.since is-ask) in omega (arith, first);
     } where
+      before : asks_among caller (events_before c.made sol.made_it.place) ≡ o.position
+      before = ap (λ (n : ℕ). asks_among n (events_before c.made sol.made_it.place)) (sym sol.caller_is) ∙ place ∙ sol.call_is
+
       is-ask : IsAsk (turns_of c.group.shape (events_of c)) sol.made_it.place found.0 (record { caller = caller; call = o.position }) op
       is-ask = record {
         there = found.1;
@@ -175,14 +187,20 @@ module _ (c : Composed) (h : Whole c) (b : LearnedAt c) where
       there : (i : ℕ) × (slice_get found.0.logged i ≡ Some (entry_of (record { caller = caller; call = o.position }) op reply))
       there = contained-get found.0.logged (entry_of (record { caller = caller; call = o.position }) op reply) (log.within.at_once sol.made_it.place found.0 (record { caller = caller; call = o.position }) op reply is-ask answer)
 
+    -- an ask of the call is for what the client asked
+    its-op : (l : IsLoggedSince (turns_of c.group.shape (events_of c)) sol.made_it.place (record { caller = caller; call = o.position }) reply) → l.op ≡ o.op
+    its-op l =
+        let y = turn-made (opening c.group.shape) c.made l.j l.ask l.asked.there in
+        asks l.j y.0 l.op l.asked.at y.1 (y.2 ∙ l.asked.event) (sym (asks-front (opening c.group.shape) c.made l.j caller) ∙ l.asked.place)
+
     -- a reply to a collect or a trace
     fetched : Fetches found.0.event (record { caller = caller; call = o.position }) → IsLoggedSinceBegun c caller o reply
     fetched fetches =
         let l : IsLoggedSince (turns_of c.group.shape (events_of c)) sol.made_it.place (record { caller = caller; call = o.position }) reply =
         log.within.later sol.made_it.place found.0 (record { caller = caller; call = o.position }) reply found.1 fetches answer in record {
-          op = l.op;
           place = l.place;
-          entry = ap (λ (log : List Entry). slice_get log l.place) log.kept ∙ log-whole (turns_of c.group.shape (events_of c)) (sol.made_it.place + 1) l.place (entry_of (record { caller = caller; call = o.position }) l.op reply) l.entry;
+          entry = ap (λ (log : List Entry). slice_get log l.place) log.kept ∙ log-whole (turns_of c.group.shape (events_of c)) (sol.made_it.place + 1) l.place (entry_of (record { caller = caller; call = o.position }) l.op reply) l.entry
+              ∙ ap (λ (a : Asked). Some (entry_of (record { caller = caller; call = o.position }) a reply)) (its-op l);
           since =
               let first = log-rises (turns_of c.group.shape (events_of c)) (c.begun caller) l.j (since-begun caller o.position l.op l.j l.ask sol.since l.asked) in
               let then = l.since in omega (arith, first, then);
@@ -213,4 +231,14 @@ shown_is_made s actions caller ping o t run apart may shows =
 
 pub shown_is_logged : ShownIsLogged
 shown_is_logged s actions caller ping o t reply run apart may shows told =
-    solid-logged (composed s actions) (whole s actions run) (learned s actions run) caller o t reply (solid s actions caller ping o t run apart may shows) told
+    solid-logged c (whole s actions run) (learned s actions run) caller o t reply (solid s actions caller ping o t run apart may shows) (firm early).1 told
+  where
+    c : Composed
+    c = composed s actions
+
+    early : (c.failed (gateway_of c.group.shape caller) ≡ false) ⊎ (shows.pinged < c.lived (gateway_of c.group.shape caller))
+    early = told-alive c caller ping o t (shown-alive c (honest s actions run) apart caller ping may) may shows
+
+    firm : FirmStage c.made caller (c.failed (gateway_of c.group.shape caller)) (c.lived (gateway_of c.group.shape caller)) o.position o.op (Answered t shows.pinged)
+    firm = subst (FirmStage c.made caller (c.failed (gateway_of c.group.shape caller)) (c.lived (gateway_of c.group.shape caller)) o.position o.op) shows.stage
+        (subst (FirmCall c.made caller (c.failed (gateway_of c.group.shape caller)) (c.lived (gateway_of c.group.shape caller))) shows.call ((wanted s actions run).firm caller))

@@ -215,7 +215,7 @@ module _ (c : Composed) (h : Whole c) (b : LearnedAt c) where
       solids (TracedAt x) sol = tt
       solids (AskedOf x) sol = restarts o.op.act
 
-  learned-step : (a : Action) → MayAct c.group a → LearnedAt (composed_with c a)
+  pub learned-step : (a : Action) → MayAct c.group a → LearnedAt (composed_with c a)
   learned-step (Begin caller op) may = begins where
     asks : c.failed (gateway_of c.group.shape caller) ≡ false → asked_by c.made caller ≤ c.group.gateways.next caller
     asks gl =

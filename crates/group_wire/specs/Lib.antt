@@ -11,5 +11,6 @@ pub mod Rows
 pub mod RowsOfCalls
 pub mod RowsOfFailures
 pub mod RowsOfFates
+pub mod RowsOfGateways
 pub mod RowsOfLosses
 pub mod RowsThatBreak

@@ -1,7 +1,6 @@
 -- What clients are shown: replies that stand in the log of the members' events.
 use Rattle.std.specs.Prelude.{ℕ, ◌≡◌, ◌≤◌, List, length, map, take, slice_get, Option, Some, None}
 use Rattle.group_types.specs.Dimensions.{Dimensions}
-use Rattle.memc_table.specs.Asked.{Asked}
 use Rattle.memc_table.specs.declared.reply.Reply.{Reply}
 use Rattle.group_calls.specs.Turns.{CallName, entry_of, log_of}
 use Rattle.group_calls.specs.declared.entry.Entry.{Entry}
@@ -37,11 +36,10 @@ pub record WasMade (made : List Made) (t : Told) : Type 0 where
   pub answer : event.answer ≡ t.answer
   pub of_call : IsOfCall event.event t (asks_among t.caller (events_before made place))
 
--- a reply that is shown is that of an entry of the call, which was logged since the call began
+-- a reply that is shown is that of the entry of the call, for what the client asked, which was logged since the call began
 pub record IsLoggedSinceBegun (c : Composed) (caller : ℕ) (o : OpenCall) (reply : Reply) : Type 0 where
-  pub op : Asked
   pub place : ℕ
-  pub entry : slice_get (machine c).log place ≡ Some (entry_of (record { caller = caller; call = o.position }) op reply)
+  pub entry : slice_get (machine c).log place ≡ Some (entry_of (record { caller = caller; call = o.position }) o.op reply)
   pub since : length (log_of (take (c.begun caller) (turns_of c.group.shape (events_of c)))) ≤ place
 
 -- what a call shows at its end

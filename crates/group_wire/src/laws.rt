@@ -56,7 +56,8 @@ pub fn shown_is_made()
     ensures { ShownIsMade }
 {}
 
-/// There each reply that is shown is that of an entry of the call in the machine's log, logged since the call began.
+/// There each reply that is shown is that of the call's entry in the machine's log, for what the client asked, logged
+/// since the call began.
 pub fn shown_is_logged()
     ensures { ShownIsLogged }
 {}

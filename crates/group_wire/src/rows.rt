@@ -2,6 +2,7 @@ ghost use Rattle.group_wire.specs.RowsOfCalls.{AHeadFails, AParityFails, NobodyF
 ghost use Rattle.group_wire.specs.RowsOfFates.{ALostAsk, GoneAndAskedAgain, ShownByAFailedOne};
 ghost use Rattle.group_wire.specs.RowsOfFailures.{BothHeadsFail, HeadsAreCondemned, NobodyIsDead, TwoFailAtOnce};
 ghost use Rattle.group_wire.specs.RowsOfLosses.{ABlockIsRebuilt, APendingUpdate};
+ghost use Rattle.group_wire.specs.RowsOfGateways.{AReadIsAskedAgain, Ghosts, KeptBehindACut, ThreeGateways};
 ghost use Rattle.group_wire.specs.RowsThatBreak.{GivenUpAtTheCut, MoreThanM, OnePongTooFew, PermittedTooEarly, ReadBehindTheCut};
 
 /// Nobody fails: calls at each gateway, each shown after its pongs.
@@ -72,6 +73,26 @@ pub fn row_a_block_is_rebuilt()
 /// A call waits for an update that isn't finished, and is asked again.
 pub fn row_a_pending_update()
     ensures { APendingUpdate }
+{}
+
+/// A read is given up, and asked again at the next head.
+pub fn row_a_read_is_asked_again()
+    ensures { AReadIsAskedAgain }
+{}
+
+/// A request that a member had read before its cut is treated behind it.
+pub fn row_kept_behind_a_cut()
+    ensures { KeptBehindACut }
+{}
+
+/// Calls of every gateway of a group with two parity processes and one failure.
+pub fn row_three_gateways()
+    ensures { ThreeGateways }
+{}
+
+/// A failed member that lives goes on, and shows nothing of it.
+pub fn row_ghosts()
+    ensures { Ghosts }
 {}
 
 /// A member permits itself a set before the others have said it: it receives what the machine has not.
