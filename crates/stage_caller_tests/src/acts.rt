@@ -29,7 +29,7 @@ pub(crate) fn reads(alloc: Global, caller: &mut StageCaller<'_>, key: &[u8], val
     }
 }
 
-fn set(alloc: Global, key: &[u8], value: &[u8]) -> Option<Op> {
+pub(crate) fn set(alloc: Global, key: &[u8], value: &[u8]) -> Option<Op> {
     let act = Act::Set {
         key: Key::read(alloc, key).ok()?,
         flags: 0,

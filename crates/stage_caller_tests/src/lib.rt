@@ -7,4 +7,6 @@ mod acts;
 #[cfg(test)]
 mod alone;
 #[cfg(test)]
+mod dying;
+#[cfg(test)]
 mod losing;
