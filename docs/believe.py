@@ -2,7 +2,7 @@
 """Writes BELIEVE.md: which definitions a reader has to believe, behind the headline and behind run_program's clauses.
 
 It follows, from each root, the names that a definition of specs/ cites: definitions of its own file, and those that a
-`use` line brings. Types that are declared in src/ are counted by the lines of their declaration there. `--check` writes
+`use` line brings, also of definitions in a `module _`. Types that are declared in src/ are counted by the lines of their declaration there. `--check` writes
 nothing, and says whether the page is up to date.
 """
 import re
@@ -24,15 +24,23 @@ class Module:
 
     def __init__(self, crate, name, path):
         self.crate, self.name, self.path = crate, name, path
-        self.definitions, self.imports, self.aliases = {}, {}, {}
-        current, comment = None, []
+        self.definitions, self.imports, self.aliases, self.around = {}, {}, {}, {}
+        current, comment, around = None, [], ""
         for line in path.read_text().split("\n"):
             if line.startswith("use Rattle."):
                 self.read_use(line)
                 continue
+            if line.startswith("module _ "):
+                current, comment, around = None, [], line
+                continue
+            if around and line.startswith("  "):
+                line = line[2:]
+            elif line.strip():
+                around = ""
             found = HEAD.match(line)
             if found:
                 current = found[1] or found[2]
+                self.around[current] = around
                 self.definitions.setdefault(current, []).extend([*comment, line])
                 comment = []
             elif line.startswith("--"):
@@ -62,7 +70,8 @@ class Module:
 
     def cited(self, name):
         """The places and names that a definition cites, as (crate, module, name)."""
-        text = "\n".join(line for line in self.definitions[name] if not line.startswith("--"))
+        lines = [*self.definitions[name], self.around.get(name, "")]
+        text = "\n".join(line for line in lines if not line.startswith("--"))
         for operator in {it for it in [*self.imports, *self.definitions] if "◌" in it and it != name}:
             # a `do` block binds by >>=
             if operator.replace("◌", "") in text or operator == "◌>>=◌" and "←" in text:

@@ -1,15 +1,19 @@
 //! The program: it makes the real input, output, listener and clock, and ends with the number of
 //! the status that `run_program` gives. The contract of `run_program` says what is written and when
-//! each status comes. What standard input and output really give and take is left to the system, and so is
+//! each status comes. What standard input and output and the port really give and take is left to the system, and so is
 //! what a person reads on standard error.
 #![tactic(auto)]
 
-use edge_io::{MemoryListener, ReadEdge, SystemClock, WriteEdge, write_all};
-use group_program::{Status, exit_of, help_at, run_program, tell};
+mod person;
+
+use edge_io::{ReadEdge, SystemClock, WriteEdge};
+use group_program::{Status, exit_of, run_program, tell};
+use person::Person;
 use std::alloc::{AllocError, Global};
 use std::env::Args;
 use std::process::ExitCode;
 use std::{env, io};
+use tcp_edge::TcpEdge;
 
 fn main(rt: HostRuntime) -> ExitCode {
     // Arguments that are no text name no command: they count as no words.
@@ -18,23 +22,22 @@ fn main(rt: HostRuntime) -> ExitCode {
         Err(error) if error.kind() == io::ErrorKind::OutOfMemory => Err(AllocError),
         Err(_) => Ok(Vec::new(rt.alloc())),
     };
-    let listener = MemoryListener::new(rt.alloc(), Vec::new(rt.alloc()), &[]);
-    let status = match (words, listener) {
-        (Ok(words), Ok(mut listener)) => run_program(
-            &rt,
-            rt.alloc(),
-            &words,
-            &mut ReadEdge::new(rt.stdin()),
-            &mut WriteEdge::new(rt.stdout()),
-            &mut listener,
-            &SystemClock::new(&rt),
-        ),
-        _ => tell(rt.alloc(), &mut WriteEdge::new(rt.stdout()), Status::Want),
+    let Ok(words) = words else {
+        return exit_of(tell(rt.alloc(), &mut WriteEdge::new(rt.stdout()), Status::Want));
     };
-    // What a person is told is no part of the output, and whether it could be written changes nothing.
-    if let Ok(help) = help_at(rt.alloc(), status) {
-        let _ = write_all(&mut WriteEdge::new(rt.stderr()), help.as_bytes());
-    }
+    let person = Person::new(rt);
+    let mut port = TcpEdge::new(&rt);
+    let status = run_program(
+        &rt,
+        rt.alloc(),
+        &words,
+        &mut ReadEdge::new(rt.stdin()),
+        &mut WriteEdge::new(rt.stdout()),
+        &mut port,
+        &person,
+        &SystemClock::new(&rt),
+    );
+    person.explain(&words, status, port.last_error());
     exit_of(status)
 }
 

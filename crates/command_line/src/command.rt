@@ -10,6 +10,8 @@ pub enum Command {
         blocks: u32,
         block: u32,
     },
+    /// Serves the connections of a port over one group, by settings.
+    Serve,
     /// Makes the script of this number.
     Make {
         number: u64,

@@ -21,6 +21,7 @@ pub fn read_words(alloc: Global, words: &[String]) -> Result<Command, WordsFault
     match word.as_str() {
         "play" => read_bare(alloc, "play", Command::Play, rest),
         "session" => read_session(alloc, rest),
+        "serve" => read_bare(alloc, "serve", Command::Serve, rest),
         "make" => read_make(alloc, rest),
         "trial" => read_trial(alloc, rest),
         "frames" => read_bare(alloc, "frames", Command::Frames, rest),

@@ -1,3 +1,4 @@
+use crate::fault::{End, Fault};
 use std::alloc::{AllocError, Global};
 use std::rt::Files;
 use std::str::Split;
@@ -14,11 +15,18 @@ pub struct Dialogue {
     pub output: Vec<u8>,
     /// The number of the status that it must end with.
     pub status: u8,
+    /// The call that fails.
+    pub fault: Option<Fault>,
+    /// What the client of `serve` says, where there is one.
+    pub client: Option<Vec<u8>>,
+    /// What that client must be answered.
+    pub answers: Vec<u8>,
 }
 
 impl Dialogue {
-    /// The dialogue of a line: a name, a status and words, one space apart. What is given and what must be written are
-    /// the files `<name>.in` and `<name>.out`.
+    /// The dialogue of a line: a name, a status, a fault or none, and words, one space apart. What is given and what
+    /// must be written are the files `<name>.in` and `<name>.out`, and of `serve` what its client says and is answered
+    /// `<name>.client` and `<name>.answers`.
     pub fn named<R: Files + AllocGlobal>(
         rt: &R,
         alloc: Global,
@@ -30,12 +38,58 @@ impl Dialogue {
             .next()
             .and_then(|word| word.parse().ok())
             .unwrap_or(255);
+        let mut words = owned(alloc, words)?;
+        let fault = words.first().and_then(|word| Fault::named(word));
+        if fault.is_some() {
+            words.remove(0);
+        }
+        let (client, answers) = said(rt, alloc, name, &words)?;
+        let input = file_of(rt, alloc, name, "in")?;
+        let output = written(file_of(rt, alloc, name, "out")?, status, &fault)?;
         Ok(Dialogue {
-            words: owned(alloc, words)?,
-            input: file_of(rt, alloc, name, "in")?,
-            output: file_of(rt, alloc, name, "out")?,
+            words,
+            input,
+            output,
             status,
+            fault,
+            client,
+            answers,
         })
+    }
+
+    /// The number of the call that fails at this end: 0 where none does.
+    pub fn failing(&self, end: End) -> u64 {
+        self.fault.map_or(0, |fault| fault.at(end))
+    }
+}
+
+/// What must be written where a call fails: a front of the output, and the last line of the status.
+fn written(output: Vec<u8>, status: u8, fault: &Option<Fault>) -> Result<Vec<u8>, AllocError> {
+    let mut written = output;
+    if let Some(fault) = fault {
+        written.truncate(fault.len);
+        written.extend_from_slice(match status {
+            6 => b"fault: read\n".as_slice(),
+            8 => b"fault: accept\n".as_slice(),
+            _ => b"".as_slice(),
+        })?;
+    }
+    Ok(written)
+}
+
+/// What the client of a dialogue says and must be answered.
+fn said<R: Files + AllocGlobal>(
+    rt: &R,
+    alloc: Global,
+    name: &str,
+    words: &[String],
+) -> io::Result<(Option<Vec<u8>>, Vec<u8>)> {
+    match words.first() {
+        Some(word) if word.as_str() == "serve" && words.len() == 1 => {
+            let client = file_of(rt, alloc, name, "client")?;
+            Ok((Some(client), file_of(rt, alloc, name, "answers")?))
+        }
+        _ => Ok((None, Vec::new(alloc))),
     }
 }
 

@@ -1,9 +1,11 @@
 //! Whole dialogues with the program, each told by two files: what is given to it, and what it must write. Standard
-//! input has a line for each, with its name, the status that it must end with, and the words of the command line;
+//! input has a line for each, with its name, the status that it must end with, the call that fails, if one does, and the
+//! words of the command line;
 //! each line is printed with what came of it. What must be written was told by another program than this one.
 #![tactic(auto)]
 
 mod dialogue;
+mod fault;
 mod playing;
 
 use dialogue::Dialogue;

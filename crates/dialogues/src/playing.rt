@@ -1,8 +1,9 @@
 ghost use Rattle.std.specs.Prelude.{◌≤◌, All};
 
 use crate::dialogue::Dialogue;
+use crate::fault::End;
 use edge_io::{FixedClock, MemoryListener, MemorySink, MemorySource};
-use group_program::run_program;
+use group_program::{Silent, run_program};
 use std::alloc::{AllocError, Global};
 use std::sync::Wait;
 use std::thread::Threads;
@@ -16,14 +17,14 @@ pub fn told<R: Threads + Wait + Sync>(
     alloc: Global,
     dialogue: &Dialogue,
 ) -> Result<String, AllocError> {
+    let own = dialogue.fault.map_or(0, |fault| fault.piece);
+    if 0 < own {
+        return told_in(rt, alloc, dialogue, own);
+    }
     for &piece in sizes(&dialogue.input) {
-        let (status, written) = played(rt, alloc, dialogue, piece)?;
-        if written != dialogue.output {
-            let at = same(&written, &dialogue.output);
-            return format!(in alloc; "in pieces of {piece}: differs at byte {at}");
-        }
-        if status != dialogue.status {
-            return format!(in alloc; "in pieces of {piece}: ends with {status}");
+        let text = told_in(rt, alloc, dialogue, piece)?;
+        if text.as_str() != "ok" {
+            return Ok(text);
         }
     }
     String::from_str(alloc, "ok")
@@ -40,18 +41,48 @@ fn sizes(input: &[u8]) -> &[usize]
     }
 }
 
-// The status that the program ends with, and what it writes.
+// The same in pieces of one size.
+fn told_in<R: Threads + Wait + Sync>(
+    rt: &R,
+    alloc: Global,
+    dialogue: &Dialogue,
+    piece: usize,
+) -> Result<String, AllocError>
+    requires { 1 ≤ piece }
+{
+    let (status, written, answers) = played(rt, alloc, dialogue, piece)?;
+    if answers != dialogue.answers {
+        let at = same(&answers, &dialogue.answers);
+        return format!(in alloc;
+            "in pieces of {piece}: its client is answered otherwise at byte {at}"
+        );
+    }
+    if written != dialogue.output {
+        let at = same(&written, &dialogue.output);
+        return format!(in alloc; "in pieces of {piece}: differs at byte {at}");
+    }
+    if status != dialogue.status {
+        return format!(in alloc; "in pieces of {piece}: ends with {status}");
+    }
+    String::from_str(alloc, "ok")
+}
+
+// The status that the program ends with, what it writes, and what its client is answered.
 fn played<R: Threads + Wait + Sync>(
     rt: &R,
     alloc: Global,
     dialogue: &Dialogue,
     piece: usize,
-) -> Result<(u8, Vec<u8>), AllocError>
+) -> Result<(u8, Vec<u8>, Vec<u8>), AllocError>
     requires { 1 ≤ piece }
 {
-    let mut source = MemorySource::new(alloc, &dialogue.input, &[])?.with_piece(piece);
-    let mut sink = MemorySink::new(alloc, &[])?;
-    let mut listener = MemoryListener::new(alloc, Vec::new(alloc), &[])?;
+    let mut source = MemorySource::new(
+        alloc,
+        &dialogue.input,
+        &[dialogue.failing(End::Read)],
+    )?.with_piece(piece);
+    let mut sink = MemorySink::new(alloc, &[dialogue.failing(End::Write)])?;
+    let mut listener = listener(alloc, dialogue)?;
     let status = run_program(
         rt,
         alloc,
@@ -59,9 +90,20 @@ fn played<R: Threads + Wait + Sync>(
         &mut source,
         &mut sink,
         &mut listener,
+        &Silent,
         &FixedClock::new(0),
     );
-    Ok((status.number(), Vec::from_slice(alloc, sink.bytes())?))
+    let written = Vec::from_slice(alloc, sink.bytes())?;
+    Ok((status.number(), written, listener.held(alloc, 1)?))
+}
+
+// A listener to which the client of a dialogue comes, where there is one.
+fn listener(alloc: Global, dialogue: &Dialogue) -> Result<MemoryListener, AllocError> {
+    let mut clients = Vec::new(alloc);
+    if let Some(bytes) = &dialogue.client {
+        clients.push(Vec::from_slice(alloc, bytes)?)?;
+    }
+    MemoryListener::new(alloc, clients, &[dialogue.failing(End::Accept)])
 }
 
 // How many bytes are the same at the start.

@@ -1,5 +1,5 @@
 -- What each key of the settings may be, of the members of a TOML table.
-use Rattle.std.specs.Prelude.{ℕ, ◌*◌, nat_le, Bool, true, false, ◌&&◌, List, [], ◌∷◌, length, codes, pos, if◌then◌else◌, Option, Some, None, option_map}
+use Rattle.std.specs.Prelude.{ℕ, ◌*◌, ◌≤◌, nat_le, Bool, true, false, ◌&&◌, List, [], ◌∷◌, length, codes, pos, if◌then◌else◌, Option, Some, None, option_map}
 use Rattle.std.specs.Borrow.{Bor}
 use Rattle.std.specs.Int.{is_power_of_two}
 use Rattle.std.specs.List.{list_any}
@@ -60,6 +60,11 @@ address_in ms = short_text (get_member (codes "address") ms)
 
 abbrev pub workers_in : Members → Option ℕ
 workers_in ms = or_else 4 (number 1 64) (get_member (codes "workers") ms)
+
+-- so many workers as settings may ask for
+pub record HasWorkers (workers : ℕ) : Type 0 where
+  pub some : 1 ≤ workers
+  pub few : workers ≤ 64
 
 abbrev pub connections_in : Members → Option ℕ
 connections_in ms = or_else 0 (number 0 4611686018427387904) (get_member (codes "connections") ms)

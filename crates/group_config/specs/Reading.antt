@@ -1,5 +1,5 @@
 -- What a text of settings gives: the first of its checks that fails, in their order, or the settings.
-use Rattle.std.specs.Prelude.{ℕ, ◌≡◌, ◌⊎◌, List, if◌then◌else◌, Option, Some, None, Result, Ok, Err, IsUtf8}
+use Rattle.std.specs.Prelude.{ℕ, ◌≡◌, ◌⊎◌, List, if◌then◌else◌, Option, Some, None, Result, Ok, Err, IsUtf8, ⊤}
 use Rattle.toml.specs.Data.{Members}
 use Rattle.toml.specs.Parse.{parse_document}
 use Rattle.group_types.specs.Dimensions.{Dimensions}
@@ -7,7 +7,7 @@ use Rattle.group_config.specs.Keys.{k_in, m_in, block_in, blocks_in, address_in,
 use Rattle.group_config.specs.declared.fault.ConfigFault.{ConfigFault}
 use Rattle.group_config.specs.declared.fault.ConfigFault.TheVariants.{BadConfig, Want}
 use Rattle.group_types.specs.declared.config_key.ConfigKey.{ConfigKey}
-use Rattle.group_types.specs.declared.config_key.ConfigKey.TheVariants.{K, M, Block, Blocks, Address, Workers, Connections, Control, Unknown}
+use Rattle.group_types.specs.declared.config_key.ConfigKey.TheVariants.{K, M, Block, Blocks, Address, Workers, Connections, Control, Syntax, Unknown}
 use Rattle.group_config.specs.declared.settings.Settings.{Settings}
 
 -- the text is UTF-8 and this TOML document
@@ -56,3 +56,19 @@ settings_of ms = follow (shape_of ms) (behind_shape ms)
 abbrev pub Tells : Result Settings ConfigFault → Result Settings ConfigKey → Type 0
 Tells result (Ok settings) = (result ≡ Ok settings) ⊎ (result ≡ Err Want)
 Tells result (Err key) = (result ≡ Err (BadConfig key)) ⊎ (result ≡ Err Want)
+
+-- the text gives these settings
+pub record Gives (text : List ℕ) (settings : Settings) : Type 0 where
+  pub members : Members
+  pub document : IsDocument text members
+  pub are : settings_of members ≡ Ok settings
+
+-- the first check of the text that fails is that of this key
+abbrev pub Refuses : List ℕ → ConfigKey → Type 0
+Refuses text key = (IsNoDocument text × (key ≡ Syntax)) ⊎ ((ms : Members) × IsDocument text ms × (settings_of ms ≡ Err key))
+
+-- what a result says of its text
+abbrev pub ComesOf : List ℕ → Result Settings ConfigFault → Type 0
+ComesOf text (Ok settings) = Gives text settings
+ComesOf text (Err (BadConfig key)) = Refuses text key
+ComesOf text (Err Want) = ⊤

@@ -1,7 +1,8 @@
-ghost use Rattle.std.specs.Prelude.{◌≡◌, ◌⊎◌, Err};
+ghost use Rattle.std.specs.Prelude.{◌≡◌, ◌⊎◌, Err, IfOk};
 ghost use Rattle.toml.specs.Data.{Members};
 ghost use Rattle.toml.specs.View.{table_view};
-ghost use Rattle.group_config.specs.Reading.{IsDocument, IsNoDocument, Tells, behind_shape, settings_of};
+ghost use Rattle.group_config.specs.Keys.{HasWorkers};
+ghost use Rattle.group_config.specs.Reading.{ComesOf, IsDocument, IsNoDocument, Tells, behind_shape, settings_of};
 ghost use Rattle.group_config.specs.declared.fault.ConfigFault.TheVariants.{BadConfig, Want};
 ghost use Rattle.group_types.specs.declared.config_key.ConfigKey.TheVariants.{Syntax};
 
@@ -24,6 +25,8 @@ const MOST_CONNECTIONS: u64 = 1 << 62;
 pub fn read_settings(alloc: Global, text: &[u8]) -> Result<Settings, ConfigFault>
     ensures document { (ms : Members) → IsDocument text.now ms → Tells result (settings_of ms) }
     ensures syntax { IsNoDocument text.now → (result ≡ Err (BadConfig Syntax)) ⊎ (result ≡ Err Want) }
+    ensures comes { ComesOf text.now result }
+    ensures workers { IfOk result (λ s. HasWorkers s.workers) }
 {
     match toml::table_from_slice(alloc, text) {
         Ok(table) => settings_in(alloc, &table),
@@ -33,7 +36,8 @@ pub fn read_settings(alloc: Global, text: &[u8]) -> Result<Settings, ConfigFault
 }
 
 fn settings_in(alloc: Global, table: &Table) -> Result<Settings, ConfigFault>
-    ensures { Tells result (settings_of (table_view table.now)) }
+    ensures told { Tells result (settings_of (table_view table.now)) }
+    ensures workers { IfOk result (λ s. HasWorkers s.workers) }
 {
     match shape_in(table) {
         Ok(shape) => behind_shape_in(alloc, table, shape),
@@ -43,7 +47,8 @@ fn settings_in(alloc: Global, table: &Table) -> Result<Settings, ConfigFault>
 
 /// The settings of a table that gives this shape.
 fn behind_shape_in(alloc: Global, table: &Table, shape: Shape) -> Result<Settings, ConfigFault>
-    ensures { Tells result (behind_shape (table_view table.now) shape) }
+    ensures told { Tells result (behind_shape (table_view table.now) shape) }
+    ensures workers { IfOk result (λ s. HasWorkers s.workers) }
 {
     let Some(address) = short_text_of(value_at(table, "address")) else {
         return Err(bad(ConfigKey::Address));

@@ -35,7 +35,8 @@ pub(crate) fn number_of(value: Option<&Value>, least: u64, most: u64) -> Option<
 
 /// The same, or `given` where there is no value.
 pub(crate) fn number_or(value: Option<&Value>, given: u64, least: u64, most: u64) -> Option<u64>
-    ensures { result ≡ or_else given (number least most) (data_of value.entry) }
+    ensures found { result ≡ or_else given (number least most) (data_of value.entry) }
+    ensures range { least ≤ given → given ≤ most → IfSome result (λ n. (least ≤ n) × (n ≤ most)) }
 {
     match value {
         None => Some(given),

@@ -1,4 +1,6 @@
-use Rattle.std.proofs.Common.{◌≡◌, ◌≢◌, ℕ, ◌⊎◌, inl, inr, [], List, refl, sym, ◌∙◌, subst}
+use Rattle.std.proofs.Common.{◌≡◌, ◌≢◌, ℕ, ◌⊎◌, inl, inr, [], ◌++◌, List, take, Result, Ok, Err, append-nil, refl, sym, ap, ◌∙◌, subst, arith}
+use Rattle.std.proofs.lemmas.List.{take_all}
+use Rattle.edge_io.specs.Moving.{Input}
 use Rattle.scenario_play.specs.Outside.{EndsWith, Outside, TellsFront}
 use Rattle.scenario_play.specs.Language.{Language}
 use Rattle.scenario_play.specs.Played.{HasPlayedWhole, IsPlayed}
@@ -8,7 +10,12 @@ use Rattle.scenario_play.specs.declared.status.Status.TheVariants.{BadWords, Don
 use Rattle.scenario_session.specs.declared.end.SessionEnd.{SessionEnd}
 use Rattle.scenario_session.specs.declared.end.SessionEnd.TheVariants as end
 use Rattle.scenario_play.proofs.Ending.{came_from}
+use Rattle.group_server.specs.Service.{HasServedGroup, Tally}
+use Rattle.group_server.specs.declared.fault.ServiceFault.{ServiceFault}
+use Rattle.group_server.specs.declared.fault.ServiceFault.TheVariants as fault
 use Rattle.group_program.specs.Program.{HasStopped}
+use Rattle.group_program.specs.Serving.{HasServedWhole, IsServed}
+use Rattle.group_program.specs.Serving as serving
 use Rattle.group_program.specs.Session.{HasTold, status_of}
 
 -- what is told by the call that writes the last line
@@ -71,3 +78,29 @@ played_whole l before now status played done = record {
   written = played.done_bytes done;
   promises = played.promises done;
 }
+
+-- a group that was served to its end
+module _ {L : Type 0} (listened : L → List ℕ → L → Type 0) (tells : L → Tally) (l l_now : L) (before now : Outside) (status : Status) (done : status ≡ Done) where
+  abbrev Serves : Input → List ℕ → Result ℕ ServiceFault → Type 0
+  Serves input held end = HasServedGroup listened tells before.input input before.held held l l_now end
+
+  nothing_behind : (middle : Outside) → (status ≡ Want) ⊎ EndsWith middle.held now.held middle.writes now.writes [] (last_line status) → middle.held ≡ now.held
+  nothing_behind middle (inl want) = absurd (cc (sym done ∙ want))
+  nothing_behind middle (inr told) = by (subst (λ (s : Status). EndsWith middle.held now.held middle.writes now.writes [] (last_line s)) done told) where
+    by : EndsWith middle.held now.held middle.writes now.writes [] [] → middle.held ≡ now.held
+    by ends = sym (ends.bytes ∙ ap (λ (bs : List ℕ). middle.held ++ bs) (take_all ends.count [] (omega arith)) ∙ append-nil middle.held)
+
+  not_done : (wanted : Status) → (status ≡ wanted) ⊎ (status ≡ Want) → wanted ≢ Done → ⊥
+  not_done wanted (inl is) not = not (sym is ∙ done)
+  not_done wanted (inr want) not = cc (sym done ∙ want)
+
+  pub served_whole : IsServed listened tells l l_now before now status → HasServedWhole listened tells l l_now before now
+  served_whole served = by served.end served.served served.told where
+    by : (end : Result ℕ ServiceFault) → Serves served.middle.input served.middle.held end → HasTold (serving.status_of end) served.middle now status → HasServedWhole listened tells l l_now before now
+    by (Ok n) serves told = (n, subst (λ (i : Input). Serves i now.held (Ok n)) (sym served.kept) (subst (λ (h : List ℕ). Serves served.middle.input h (Ok n)) (nothing_behind served.middle told.line) serves))
+    by (Err fault.TooLong) serves told = absurd (not_done _ told.is (λ is. cc is))
+    by (Err (fault.BadConfig key)) serves told = absurd (not_done _ told.is (λ is. cc is))
+    by (Err fault.ReadFault) serves told = absurd (not_done _ told.is (λ is. cc is))
+    by (Err fault.WriteFault) serves told = absurd (not_done _ told.is (λ is. cc is))
+    by (Err fault.AcceptFault) serves told = absurd (not_done _ told.is (λ is. cc is))
+    by (Err fault.Want) serves told = absurd (not_done _ told.is (λ is. cc is))

@@ -4,6 +4,7 @@ use std::alloc::{AllocError, Global};
 
 const COMMANDS: &str = "usage: cocytus_main play < SCRIPT
        cocytus_main session <k> <m> <blocks> <block>
+       cocytus_main serve < SETTINGS
        cocytus_main make <n>
        cocytus_main trial <n>
        cocytus_main frames < STREAM
@@ -27,24 +28,35 @@ stop
 A process is d<n> or p<n>; a value is -, hexadecimal digits, or *<len>*<hh>.
 ";
 
-/// What a person is told beside the last line: what was expected there, or what went wrong.
-pub fn help_at(alloc: Global, status: Status) -> Result<String, AllocError> {
+/// What a person is told beside the last line of a command with these words: what was expected there, or what went
+/// wrong.
+pub fn help_at(alloc: Global, words: &[String], status: Status) -> Result<String, AllocError> {
     match status {
         Status::BadLine(n) => format!(in alloc; "line {n} of the script {LINES}"),
         Status::BadFrame(at) => {
             format!(in alloc; "the frame at byte {at} of the input is none of a message\n")
         }
         Status::BadShape(field) => format!(in alloc; "{}\n", BadShape { field }),
+        Status::BadConfig(key) => format!(in alloc; "{}\n", key.allowed()),
+        Status::TooLong => too_long(words).to_string(alloc),
         other => help_text(other).to_string(alloc),
+    }
+}
+
+/// Which limit the input of a command has.
+fn too_long(words: &[String]) -> &'static str {
+    match words.first() {
+        Some(word) if word.as_str() == "serve" => "settings have at most 65536 bytes\n",
+        _ => "a script has at most 16777216 bytes\n",
     }
 }
 
 fn help_text(status: Status) -> &'static str {
     match status {
         Status::BadWords => COMMANDS,
-        Status::TooLong => "a script has at most 16777216 bytes\n",
         Status::ReadFault => "standard input could not be read\n",
         Status::WriteFault => "standard output could not be written\n",
+        Status::AcceptFault => "no connection can be accepted at the address of the settings\n",
         Status::Want => "there is not enough memory\n",
         Status::Cut => "the input ended inside a request or a frame\n",
         Status::LineTooLong => "a line of a request has at most 32768 bytes\n",

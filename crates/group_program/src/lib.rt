@@ -6,11 +6,15 @@
 mod ending;
 mod help;
 mod listing;
+mod notice;
 mod program;
 mod serving;
+mod serving_group;
 
 pub use ending::exit_of;
+pub use group_server::{Notice, Settings, Silent};
 pub use help::help_at;
+pub use notice::notice_of;
 pub use program::run_program;
 pub use scenario_play::Status;
 pub use scenario_play::tell::tell;

@@ -1,19 +1,23 @@
-ghost use Rattle.std.specs.Prelude.{◌≡◌, ◌⊎◌, map, Some, None};
+ghost use Rattle.std.specs.Prelude.{◌≡◌, ◌≢◌, ◌⊎◌, map, Some, None};
 ghost use Rattle.std.specs.String.{string_bytes};
 ghost use Rattle.command_line.specs.Words.{command_of};
 ghost use Rattle.edge_io.specs.Faults.{Rose};
+ghost use Rattle.group_server.specs.Service.{tally};
 ghost use Rattle.group_types.specs.Dimensions.{Dimensions};
 ghost use Rattle.group_types.specs.Shape.{IsShape};
 ghost use Rattle.scenario_play.specs.Language.{group_scripts};
 ghost use Rattle.scenario_play.specs.Outside.{outside};
 ghost use Rattle.scenario_play.specs.Played.{HasPlayedWhole};
 ghost use Rattle.group_program.specs.Program.{HasRun, HasStopped};
+ghost use Rattle.group_program.specs.Serving.{HasServedWhole};
 ghost use Rattle.group_program.specs.Words.{ReadsNothing};
 
 use crate::listing::list_frames;
 use crate::serving::serve_session;
+use crate::serving_group::serve_by_settings;
 use command_line::{Command, WordsFault, read_words};
 use edge_io::{Clock, Listener, Sink, Source};
+use group_server::Notice;
 use scenario_play::Status;
 use scenario_play::make::make;
 use scenario_play::play::play;
@@ -23,44 +27,85 @@ use std::alloc::Global;
 use std::sync::Wait;
 use std::thread::Threads;
 
-/// Runs the command that the words after the program's name ask for: `play`, `session`, `make`, `trial` or
-/// `frames`.
-pub fn run_program<R: Threads + Wait + Sync, S: Source, K: Sink, L: Listener, T: Clock>(
+/// Runs the command that the words after the program's name ask for: `play`, `session`, `serve`, `make`, `trial` or
+/// `frames`. Before the first connection of `serve` the notice tells what is served.
+pub fn run_program<R: Threads + Wait + Sync, S: Source, K: Sink, L: Listener, N: Notice, T: Clock>(
     rt: &R,
     alloc: Global,
     words: &[String],
     source: &mut S,
     sink: &mut K,
     listener: &mut L,
+    notice: &N,
     clock: &T,
 ) -> Status
-    ensures ran { HasRun (command_of (map string_bytes words.now)) (T.moment clock.now)
+where
+    L::Incoming: Drop,
+    L::Outgoing: Drop,
+    ensures ran { HasRun L.listened (λ l. tally (L.accepted l) (L.over l)) listener.old listener.new
+        (command_of (map string_bytes words.now)) (T.moment clock.now)
         (outside (S.input source.old) (S.faults source.old) (K.held sink.old) (K.faults sink.old))
         (outside (S.input source.new) (S.faults source.new) (K.held sink.new) (K.faults sink.new)) result
         ⊎ (HasStopped (K.held sink.old) (K.held sink.new) result × (source.new ≡ source.old)) }
     ensures promises { command_of (map string_bytes words.now) ≡ Some Command.Play → result ≡ Status.Done
         → HasPlayedWhole group_scripts (S.input source.old) (S.input source.new) (K.held sink.old) (K.held sink.new) }
+    ensures serves { command_of (map string_bytes words.now) ≡ Some Command.Serve → result ≡ Status.Done
+        → HasServedWhole L.listened (λ l. tally (L.accepted l) (L.over l)) listener.old listener.new
+        (outside (S.input source.old) (S.faults source.old) (K.held sink.old) (K.faults sink.old))
+        (outside (S.input source.new) (S.faults source.new) (K.held sink.new) (K.faults sink.new)) }
     ensures bad_words { result ≡ Status.BadWords → command_of (map string_bytes words.now) ≡ None }
     ensures read { result ≡ Status.ReadFault → Rose (S.faults source.old) (S.faults source.new) }
     ensures write { result ≡ Status.WriteFault → Rose (K.faults sink.old) (K.faults sink.new) }
+    ensures accept { result ≡ Status.AcceptFault → Rose (L.faults listener.old) (L.faults listener.new) }
     ensures unread { ReadsNothing (command_of (map string_bytes words.now)) → source.new ≡ source.old }
     ensures unshaped { (d : Dimensions) → command_of (map string_bytes words.now) ≡ Some (Command.Session d.k d.m d.blocks d.block) → ¬ (IsShape d) → source.new ≡ source.old }
-    ensures listener { listener.new ≡ listener.old }
+    ensures listener { command_of (map string_bytes words.now) ≢ Some Command.Serve → listener.new ≡ listener.old }
 {
     match read_words(alloc, words) {
-        Ok(Command::Play) => play(alloc, source, sink),
-        Ok(Command::Make { number }) => make(alloc, number, sink),
-        Ok(Command::Trial { number }) => trial(alloc, number, sink),
-        Ok(Command::Frames) => list_frames(alloc, source, sink),
-        Ok(
-            Command::Session {
-                k,
-                m,
-                blocks,
-                block,
-            },
-        ) => { serve_session(alloc, k, m, blocks, block, source, sink, clock) }
+        Ok(command) => run_command(rt, alloc, command, source, sink, listener, notice, clock),
         Err(WordsFault::BadWords) => tell(alloc, sink, Status::BadWords),
         Err(WordsFault::Want) => tell(alloc, sink, Status::Want),
+    }
+}
+
+/// Runs a command.
+fn run_command<R: Threads + Wait + Sync, S: Source, K: Sink, L: Listener, N: Notice, T: Clock>(
+    rt: &R,
+    alloc: Global,
+    command: Command,
+    source: &mut S,
+    sink: &mut K,
+    listener: &mut L,
+    notice: &N,
+    clock: &T,
+) -> Status
+where
+    L::Incoming: Drop,
+    L::Outgoing: Drop,
+    ensures ran { HasRun L.listened (λ l. tally (L.accepted l) (L.over l)) listener.old listener.new
+        (Some command) (T.moment clock.now)
+        (outside (S.input source.old) (S.faults source.old) (K.held sink.old) (K.faults sink.old))
+        (outside (S.input source.new) (S.faults source.new) (K.held sink.new) (K.faults sink.new)) result }
+    ensures named { result ≢ Status.BadWords }
+    ensures read { result ≡ Status.ReadFault → Rose (S.faults source.old) (S.faults source.new) }
+    ensures write { result ≡ Status.WriteFault → Rose (K.faults sink.old) (K.faults sink.new) }
+    ensures accept { result ≡ Status.AcceptFault → Rose (L.faults listener.old) (L.faults listener.new) }
+    ensures unread { ReadsNothing (Some command) → source.new ≡ source.old }
+    ensures unshaped { (d : Dimensions) → command ≡ Command.Session d.k d.m d.blocks d.block → ¬ (IsShape d)
+        → source.new ≡ source.old }
+    ensures listener { command ≢ Command.Serve → listener.new ≡ listener.old }
+{
+    match command {
+        Command::Play => play(alloc, source, sink),
+        Command::Make { number } => make(alloc, number, sink),
+        Command::Trial { number } => trial(alloc, number, sink),
+        Command::Frames => list_frames(alloc, source, sink),
+        Command::Serve => serve_by_settings(rt, alloc, source, sink, listener, notice, clock),
+        Command::Session {
+            k,
+            m,
+            blocks,
+            block,
+        } => serve_session(alloc, k, m, blocks, block, source, sink, clock),
     }
 }

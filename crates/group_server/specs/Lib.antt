@@ -1,1 +1,4 @@
+pub mod Faults
+pub mod Service
 pub mod Serving
+pub mod Steps

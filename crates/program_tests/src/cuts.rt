@@ -28,7 +28,7 @@ fn a_cut_script_is_played_up_to_its_cut_line(rt: HostRuntime) -> Result<(), Fail
             let front = &line[..cut];
             let status = end_of_cut(number, front);
             let text = joined(rt.alloc(), &script, front)?;
-            let ended = play(&rt, rt.alloc(), &text, 7, &[], &[])?;
+            let ended = play(&rt, rt.alloc(), &text, 7)?;
             assert_eq!(rt; ended.0, status, "cut {cut} of line {number}");
             let last = last_line(rt.alloc(), status)?;
             let wanted = joined(rt.alloc(), &written, last.as_bytes())?;
@@ -36,7 +36,7 @@ fn a_cut_script_is_played_up_to_its_cut_line(rt: HostRuntime) -> Result<(), Fail
         }
         script.extend_from_slice(line)?;
         written.extend_from_slice(told)?;
-        let ended = play(&rt, rt.alloc(), &script, 7, &[], &[])?;
+        let ended = play(&rt, rt.alloc(), &script, 7)?;
         assert_eq!(rt; ended.0, Status::Done, "line {number}");
         assert_eq!(rt; ended.1, written, "line {number}");
         script.push(b'\n')?;

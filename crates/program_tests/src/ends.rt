@@ -1,6 +1,7 @@
 // What a person is told on standard error of each end.
+use crate::runs::owned;
 use group_program::{Status, help_at};
-use group_types::Field;
+use group_types::{ConfigKey, Field};
 use std::test::Fail;
 
 #[test]
@@ -11,9 +12,10 @@ fn each_end_but_done_is_explained(rt: HostRuntime) -> Result<(), Fail> {
             Status::BadLine(7),
             "line 7 of the script is none of these, ",
         ),
-        (Status::TooLong, "a script has at most 16777216 bytes\n"),
         (Status::ReadFault, "standard input could not be read\n"),
         (Status::WriteFault, "standard output could not be written\n"),
+        (Status::BadConfig(ConfigKey::K), "k is the number of data "),
+        (Status::AcceptFault, "no connection can be accepted "),
         (Status::Want, "there is not enough memory\n"),
         (Status::Cut, "the input ended inside a request or a frame\n"),
         (
@@ -29,9 +31,25 @@ fn each_end_but_done_is_explained(rt: HostRuntime) -> Result<(), Fail> {
             "the frame at byte 7 of the input is none of a message\n",
         ),
     ] {
-        assert!(rt; help_at(rt.alloc(), status)?.starts_with(begin), "{begin}");
+        assert!(rt;
+            help_at(rt.alloc(), &[], status)?.starts_with(begin),
+            "{begin}"
+        );
     }
-    assert!(rt; help_at(rt.alloc(), Status::Done)?.is_empty());
-    assert!(rt; !help_at(rt.alloc(), Status::BadShape(Field::Block))?.is_empty());
+    assert!(rt; help_at(rt.alloc(), &[], Status::Done)?.is_empty());
+    assert!(rt; !help_at(rt.alloc(), &[], Status::BadShape(Field::Block))?.is_empty());
+    Ok(())
+}
+
+#[test]
+fn a_limit_is_told_of_its_command(rt: HostRuntime) -> Result<(), Fail> {
+    for (word, begin) in [
+        ("play", "a script has at most 16777216 bytes\n"),
+        ("serve", "settings have at most 65536 bytes\n"),
+    ] {
+        let words = owned(rt.alloc(), &[word])?;
+        let told = help_at(rt.alloc(), &words, Status::TooLong)?;
+        assert_eq!(rt; told.as_str(), begin);
+    }
     Ok(())
 }

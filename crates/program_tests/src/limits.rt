@@ -20,7 +20,7 @@ fn values_are_as_long_as_the_protocol_allows(rt: HostRuntime) -> Result<(), Fail
     let words = owned(rt.alloc(), &WORDS)?;
     for (len, written) in ROWS {
         let input = set_of(rt.alloc(), len)?;
-        let told = run(&rt, rt.alloc(), &words, input.as_bytes(), 65_536, &[], &[])?;
+        let told = run(&rt, rt.alloc(), &words, input.as_bytes(), 65_536)?;
         assert_eq!(rt; told.0, Status::Done, "{len}");
         assert_eq!(rt; told.1.as_slice(), written.as_bytes(), "{len}");
     }

@@ -1,0 +1,40 @@
+use edge_io::{WriteEdge, write_all};
+use group_program::{Notice, Settings, Status, help_at, notice_of};
+use std::io;
+
+/// The one who reads standard error. What is told there is no part of the output, and whether it could be written changes
+/// nothing.
+#[derive(Drop)]
+pub(crate) struct Person {
+    rt: HostRuntime,
+}
+
+impl Person {
+    pub(crate) fn new(rt: HostRuntime) -> Person {
+        Person { rt }
+    }
+
+    /// Tells how a command with these words ended, and why no connection could be accepted.
+    pub(crate) fn explain(&self, words: &[String], status: Status, error: Option<&io::Error>) {
+        if let Ok(help) = help_at(self.rt.alloc(), words, status) {
+            self.say(&help);
+        }
+        if let Some(error) = error {
+            if let Ok(line) = format!(in self.rt.alloc(); "{error}\n") {
+                self.say(&line);
+            }
+        }
+    }
+
+    fn say(&self, text: &str) {
+        let _ = write_all(&mut WriteEdge::new(self.rt.stderr()), text.as_bytes());
+    }
+}
+
+impl Notice for Person {
+    fn tell(&self, settings: &Settings) {
+        if let Ok(text) = notice_of(self.rt.alloc(), settings) {
+            self.say(&text);
+        }
+    }
+}

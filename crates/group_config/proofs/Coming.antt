@@ -1,0 +1,16 @@
+-- What a result that the checks give says of its text.
+use Rattle.std.proofs.Common.{◌≡◌, inl, inr, List, ℕ, Result, Ok, Err, refl, sym, subst}
+use Rattle.toml.specs.Data.{Members}
+use Rattle.group_config.specs.Reading.{ComesOf, IsDocument, Tells, settings_of}
+use Rattle.group_config.specs.declared.fault.ConfigFault.{ConfigFault}
+use Rattle.group_config.specs.declared.fault.ConfigFault.TheVariants.{BadConfig, Want}
+use Rattle.group_config.specs.declared.settings.Settings.{Settings}
+use Rattle.group_types.specs.declared.config_key.ConfigKey.{ConfigKey}
+
+pub comes : (text : List ℕ) (ms : Members) (result : Result Settings ConfigFault) → IsDocument text ms → Tells result (settings_of ms) → ComesOf text result
+comes text ms result document = by (settings_of ms) refl where
+  by : (checked : Result Settings ConfigKey) → settings_of ms ≡ checked → Tells result checked → ComesOf text result
+  by (Ok settings) are (inl is) = subst (ComesOf text) (sym is) (record { members = ms; document = document; are = are })
+  by (Ok settings) are (inr is) = subst (ComesOf text) (sym is) tt
+  by (Err key) are (inl is) = subst (ComesOf text) (sym is) (inr (ms, document, are))
+  by (Err key) are (inr is) = subst (ComesOf text) (sym is) tt

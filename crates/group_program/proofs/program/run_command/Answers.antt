@@ -1,0 +1,22 @@
+use Rattle.std.proofs.Common.{arith}
+use Rattle.scenario_make.specs.Script.{script_text}
+use Rattle.scenario_play.specs.Status.{told}
+use Rattle.scenario_play.specs.Trial.{trial_text}
+use Rattle.scenario_play.specs.declared.status.Status.TheVariants.{Done}
+use Rattle.group_program.proofs.Accepting.{listed-not, played-not, session-not, told-not, written-not}
+use Rattle.group_program.proofs.program.run_command.Goals as goal
+
+pub returns-in-Play-clause-accept : goal.returns-in-Play-clause-accept
+returns-in-Play-clause-accept g c is = absurd (played-not _ _ c.play.result c.play.ensures.played is)
+
+pub returns-in-Make-clause-accept : goal.returns-in-Make-clause-accept
+returns-in-Make-clause-accept g c is = absurd (written-not Done _ _ _ _ _ c.make.result c.make.ensures (λ done. cc done) is)
+
+pub returns-in-Trial-clause-accept : goal.returns-in-Trial-clause-accept
+returns-in-Trial-clause-accept g c is = absurd (written-not _ _ _ _ _ _ c.trial.result c.trial.ensures (told-not (script_text c.in-Trial.number)) is)
+
+pub returns-in-Frames-clause-accept : goal.returns-in-Frames-clause-accept
+returns-in-Frames-clause-accept g c is = absurd (listed-not _ _ c.list_frames.result c.list_frames.ensures.listed is)
+
+pub returns-in-Session-clause-accept : goal.returns-in-Session-clause-accept
+returns-in-Session-clause-accept g c is = absurd (session-not _ _ _ _ c.serve_session.result c.serve_session.ensures.session is)
