@@ -4,7 +4,9 @@ use Rattle.edge_io.specs.Faults.{Rose}
 use Rattle.group_types.specs.Dimensions.{Dimensions}
 use Rattle.scenario_text.specs.declared.line.LineFault.{LineFault}
 use Rattle.scenario_text.specs.declared.line.LineFault.TheVariants as line
-use Rattle.scenario_run.specs.Script.{Fault, first_fault}
+use Rattle.scenario_run.specs.Course.{Fault}
+use Rattle.scenario_run.specs.Script.{first_fault}
+use Rattle.scenario_play.specs.Language.{Language, told_in}
 use Rattle.scenario_play.specs.Outside.{Outside}
 use Rattle.scenario_play.specs.Played.{IsPlayed, IsWritten}
 use Rattle.scenario_play.specs.Status.{IsTold, longest_script, told, told_at, told_of}
@@ -27,15 +29,15 @@ told_at-not n line.Want is = cc is
 -- what is told of a script
 pub told-not : (text : List ℕ) → told text ≢ AcceptFault
 told-not text is = by (nat_lt longest_script (length text)) (first_fault text) is where
-  by : (b : Bool) (fault : Option Fault) → (if b then TooLong else told_of fault) ≢ AcceptFault
+  by : (b : Bool) (fault : Option (Fault LineFault)) → (if b then TooLong else told_of told_at fault) ≢ AcceptFault
   by true fault is = cc is
   by false None is = cc is
   by false (Some fault) is = told_at-not fault.number fault.cause is
 
-pub played-not : (before now : Outside) (status : Status) → IsPlayed before now status → status ≢ AcceptFault
-played-not before now status played is = by played.told where
-  by : IsTold (told played.script) before.reads now.reads before.writes now.writes status → ⊥
-  by (inl same) = told-not played.script (sym same ∙ is)
+pub played-not : (l : Language) → ((text : List ℕ) → told_in l text ≢ AcceptFault) → (before now : Outside) (status : Status) → IsPlayed l before now status → status ≢ AcceptFault
+played-not l not before now status played is = by played.told where
+  by : IsTold (told_in l played.script) before.reads now.reads before.writes now.writes status → ⊥
+  by (inl same) = not played.script (sym same ∙ is)
   by (inr (inl want)) = cc (sym want ∙ is)
   by (inr (inr (inl read))) = cc (sym read.0 ∙ is)
   by (inr (inr (inr wrote))) = cc (sym wrote.0 ∙ is)

@@ -3,11 +3,12 @@ use Rattle.scenario_make.specs.Script.{script_text}
 use Rattle.scenario_play.specs.Status.{told}
 use Rattle.scenario_play.specs.Trial.{trial_text}
 use Rattle.scenario_play.specs.declared.status.Status.TheVariants.{Done}
+use Rattle.scenario_play.specs.Language.{group_scripts}
 use Rattle.group_program.proofs.Accepting.{listed-not, played-not, session-not, told-not, written-not}
 use Rattle.group_program.proofs.program.run_command.Goals as goal
 
 pub returns-in-Play-clause-accept : goal.returns-in-Play-clause-accept
-returns-in-Play-clause-accept g c is = absurd (played-not _ _ c.play.result c.play.ensures.played is)
+returns-in-Play-clause-accept g c is = absurd (played-not group_scripts told-not _ _ c.play.result c.play.ensures.played is)
 
 pub returns-in-Make-clause-accept : goal.returns-in-Make-clause-accept
 returns-in-Make-clause-accept g c is = absurd (written-not Done _ _ _ _ _ c.make.result c.make.ensures (λ done. cc done) is)
