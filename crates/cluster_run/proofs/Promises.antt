@@ -1,0 +1,158 @@
+-- Every script's cluster keeps the promises of the headline.
+use Rattle.std.proofs.Common.{ℕ, ◌≡◌, ◌<◌, ◌≤◌, ◌+◌, ◌⊎◌, inl, inr, List, [], ◌∷◌, ◌++◌, length, map, All, Option, Some, None, Result, refl, sym, ap, subst, ◌∙◌, append_assoc}
+use Rattle.group_types.specs.Shape.{IsShape}
+use Rattle.group_run.specs.Meaning.{IsDown}
+use Rattle.membership.specs.Members.{count_dead}
+use Rattle.group_layout.specs.Cluster.{Cluster, ClusterEntry, GroupTurn, IsLayout, MayAllHappen, cluster_after, cluster_step, cluster_turns, logged_in, tagged, world_in}
+use Rattle.group_layout.specs.Legal.{IsClusterLegal}
+use Rattle.group_layout.specs.Promise.{AreRuns, IsOwn}
+use Rattle.group_layout.specs.declared.event.ClusterEvent.{ClusterEvent}
+use Rattle.group_layout.proofs.Answers.{answers_are_within}
+use Rattle.group_layout.proofs.Failing.{few_failures_are_borne}
+use Rattle.group_layout.proofs.Happening.{Even, clusters_are_runs}
+use Rattle.group_layout.proofs.Owning.{entries_are_own}
+use Rattle.group_layout.proofs.Tables.{logs_are_legal}
+use Rattle.group_cluster.specs.Plan.{IsPlan, Plan}
+use Rattle.scenario_run.specs.Course.{Ends, Goes, Refused, fault_in, named_in, turns_in}
+use Rattle.scenario_run.specs.Lines.{lines_of}
+use Rattle.scenario_run.proofs.Following.{fault_after, named-line, turns_after, turns-line}
+use Rattle.cluster_run.specs.Led.{IsLedTo}
+use Rattle.cluster_run.specs.Playing.{ClusterNext, ClusterPlay, ClusterTurn, log_of, next_of, opening_of, turn_of, turns_from}
+use Rattle.cluster_run.specs.Promises.{KeepsPromises, ScriptsKeepPromises, end_of}
+use Rattle.cluster_run.specs.Script.{events_of, first_fault, plan_in, turns_of}
+use Rattle.cluster_run.specs.declared.fault.ClusterFault.TheVariants.{BadLine}
+use Rattle.cluster_run.proofs.Leading.{Leads, laid, leads-then, led-even, led-nodes, led-on, none-leads, opened}
+use Rattle.cluster_run.proofs.Running.{GoesOn, Opens, line-leads, line-opens, never-ends}
+
+-- the lines behind the one that names the groups are events that may happen
+record Runs (c : Cluster) (turns : List ClusterTurn) : Type 0 where
+  d : Cluster
+  leads : Leads c d turns
+
+module _ (plan : Plan) where
+  none : (c : Cluster) → Runs c []
+  none c = record { d = c; leads = none-leads c c refl }
+
+  runs : (p : ClusterPlay) (lines : List (List ℕ)) → IsLedTo plan p.cluster → Runs p.cluster (turns_in next_of (Some p) lines)
+  runs p [] led = none p.cluster
+  runs p (line ∷ lines) led = by (next_of (Some p) line) refl (λ q. runs q lines) where
+    by : (next : ClusterNext) → next_of (Some p) line ≡ next → ((q : ClusterPlay) → IsLedTo plan q.cluster → Runs q.cluster (turns_in next_of (Some q) lines)) → Runs p.cluster (turns_after next_of next lines)
+    by Ends is later = none p.cluster
+    by (Refused fault) is later = none p.cluster
+    by (Goes next turns text) is later =
+        let on : GoesOn plan p.cluster next turns = line-leads plan p line next turns text led is in
+        let rest = later on.play (led-on plan p.cluster on.play.cluster turns led on.leads) in
+        record {
+          d = rest.d;
+          leads = leads-then p.cluster on.play.cluster rest.d turns (turns_in next_of next lines) on.leads
+              (subst (λ (q : Option ClusterPlay). Leads on.play.cluster rest.d (turns_in next_of q lines)) (sym on.is) rest.leads);
+        }
+
+-- a script that names its groups
+record Named (lines : List (List ℕ)) : Type 0 where
+  plan : Plan
+  limits : IsPlan plan
+  named : plan_in (named_in next_of None lines) ≡ Some plan
+  runs_are : Runs (opening_of plan) (turns_in next_of None lines)
+
+-- the numbers of the opening cluster
+opening-plan : (plan : Plan) → IsPlan plan → plan_in (Some (record { cluster = opening_of plan; moment = 0 })) ≡ Some plan
+opening-plan plan limits =
+    let many = (led-even plan (opening_of plan) (opened plan limits)).many in
+    let nodes = led-nodes plan (opening_of plan) (opened plan limits) in
+    ap (λ (n : ℕ). Some (record { groups = n; nodes = length (opening_of plan).failed; shape = plan.shape })) many
+    ∙ ap (λ (n : ℕ). Some (record { groups = plan.groups; nodes = n; shape = plan.shape })) nodes
+
+begins : (n : ℕ) (lines : List (List ℕ)) → fault_in next_of BadLine n None lines ≡ None → Named lines
+begins n [] ends = absurd (cc ends)
+begins n (line ∷ lines) ends = by (next_of None line) refl ends (begins (n + 1) lines) where
+  begun : (next : Option ClusterPlay) (turns : List ClusterTurn) (text : List ℕ) → next_of None line ≡ Goes next turns text → Opens next turns text → fault_in next_of BadLine (n + 1) next lines ≡ None
+      → (fault_in next_of BadLine (n + 1) None lines ≡ None → Named lines) → Named (line ∷ lines)
+  begun next turns text is opens rest later = either opens.is where
+    turns_are : (q : Option ClusterPlay) → next ≡ q → turns_in next_of None (line ∷ lines) ≡ turns_in next_of q lines
+    turns_are q same = ap (λ (x : ClusterNext). turns_after next_of x lines) is ∙ ap (λ (ts : List ClusterTurn). ts ++ turns_in next_of next lines) opens.quiet
+        ∙ ap (λ (x : Option ClusterPlay). turns_in next_of x lines) same
+
+    plan_is : (q : Option ClusterPlay) → next ≡ q → plan_in (named_in next_of None (line ∷ lines)) ≡ plan_in (named_in next_of q lines)
+    plan_is q same = ap plan_in (named-line next_of line lines (Goes next turns text) is ∙ ap (λ (x : Option ClusterPlay). named_in next_of x lines) same)
+
+    either : (next ≡ None) ⊎ ((plan : Plan) × IsPlan plan × (next ≡ Some (record { cluster = opening_of plan; moment = 0 }))) → Named (line ∷ lines)
+    either (inl nothing) =
+        let behind = later (subst (λ (q : Option ClusterPlay). fault_in next_of BadLine (n + 1) q lines ≡ None) nothing rest) in
+        record {
+          plan = behind.plan;
+          limits = behind.limits;
+          named = plan_is None nothing ∙ behind.named;
+          runs_are = subst (Runs (opening_of behind.plan)) (sym (turns_are None nothing)) behind.runs_are;
+        }
+    either (inr (plan, limits, some)) =
+        let p : ClusterPlay = record { cluster = opening_of plan; moment = 0 } in
+        record {
+          plan = plan;
+          limits = limits;
+          named = plan_is (Some p) some ∙ opening-plan plan limits;
+          runs_are = subst (Runs (opening_of plan)) (sym (turns_are (Some p) some)) (runs plan p lines (opened plan limits));
+        }
+
+  by : (next : ClusterNext) → next_of None line ≡ next → fault_in next_of BadLine n None (line ∷ lines) ≡ None → (fault_in next_of BadLine (n + 1) None lines ≡ None → Named lines) → Named (line ∷ lines)
+  by Ends is ends later = absurd (never-ends line is)
+  by (Refused fault) is ends later = absurd (cc (sym (ap (λ (x : ClusterNext). fault_after next_of BadLine n x lines) is) ∙ ends))
+  by (Goes next turns text) is ends later = begun next turns text is (line-opens line next turns text is) (sym (ap (λ (x : ClusterNext). fault_after next_of BadLine n x lines) is) ∙ ends) later
+
+-- the events of turns
+events-are : (c : Cluster) (es : List ClusterEvent) → map (λ turn. turn.event) (turns_from c es) ≡ es
+events-are c [] = refl
+events-are c (e ∷ es) = ap (λ (xs : List ClusterEvent). e ∷ xs) (events-are (cluster_step c e).cluster es)
+
+-- what turns logged is what the groups' turns logged
+pub logged-append : (ts us : List GroupTurn) → logged_in (ts ++ us) ≡ logged_in ts ++ logged_in us
+logged-append [] us = refl
+logged-append (t ∷ ts) us =
+    ap (λ (xs : List ClusterEntry). tagged t.group t.turn.logged ++ xs) (logged-append ts us) ∙ sym (append_assoc (tagged t.group t.turn.logged) (logged_in ts) (logged_in us))
+
+pub logged-all : (c : Cluster) (es : List ClusterEvent) → logged_in (cluster_turns c es) ≡ log_of (turns_from c es)
+logged-all c [] = refl
+logged-all c (e ∷ es) =
+    logged-append (cluster_step c e).turns (cluster_turns (cluster_step c e).cluster es)
+    ∙ ap (λ (xs : List ClusterEntry). logged_in (cluster_step c e).turns ++ xs) (logged-all (cluster_step c e).cluster es)
+
+pub scripts_keep_promises : ScriptsKeepPromises
+scripts_keep_promises text whole = record {
+  plan = plan;
+  named = named.named;
+  limits = named.limits;
+  may = may;
+  turns = turns;
+  log = log;
+  runs = clusters_are_runs plan.shape plan.nodes plan.groups (events_of text) limits layout may;
+  legal = subst (IsClusterLegal plan.shape.k) log (logs_are_legal plan.shape plan.nodes plan.groups (events_of text) limits layout may);
+  own = subst (All (IsOwn plan.shape.k plan.groups)) log (entries_are_own plan.shape plan.nodes plan.groups (events_of text) limits layout may);
+  within = answers_are_within plan.shape plan.nodes plan.groups (events_of text) limits layout may;
+  borne = few_failures_are_borne plan.shape plan.nodes plan.groups (events_of text) limits layout may;
+} where
+  named : Named (lines_of text)
+  named = begins 1 (lines_of text) whole
+
+  plan : Plan
+  plan = named.plan
+
+  limits : IsShape plan.shape
+  limits = named.limits.shape
+
+  layout : IsLayout plan.shape plan.nodes plan.groups
+  layout = laid plan named.limits
+
+  leads : Leads (opening_of plan) named.runs_are.d (turns_of text)
+  leads = named.runs_are.leads
+
+  same : leads.events ≡ events_of text
+  same = sym (events-are (opening_of plan) leads.events) ∙ ap (λ (ts : List ClusterTurn). map (λ turn. turn.event) ts) leads.turns_are
+
+  may : MayAllHappen (opening_of plan) (events_of text)
+  may = subst (MayAllHappen (opening_of plan)) same leads.may
+
+  turns : turns_from (opening_of plan) (events_of text) ≡ turns_of text
+  turns = ap (turns_from (opening_of plan)) (sym same) ∙ leads.turns_are
+
+  log : (end_of plan (events_of text)).groups.log ≡ log_of (turns_of text)
+  log = (clusters_are_runs plan.shape plan.nodes plan.groups (events_of text) limits layout may).log ∙ logged-all (opening_of plan) (events_of text) ∙ ap log_of turns

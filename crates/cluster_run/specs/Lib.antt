@@ -1,0 +1,7 @@
+pub mod Faults
+pub mod Led
+pub mod Meaning
+pub mod Playing
+pub mod Promises
+pub mod Script
+pub mod Texts
