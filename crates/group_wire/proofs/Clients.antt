@@ -197,7 +197,7 @@ module _ (c : Composed) (h : Whole c) (l : LearnedAt c) (b : WantedAt c) where
     by (Answered t n) same = still
     by Unknown same =
         let base : Wanted c.group.shape c.group.words.cut c.failed c.lived (record c.group.gateways { call = changed_at c.group.gateways.call caller (Some (record o { stage = TracedAt x })) }) (c.made ++ []) =
-            wanted-call c.group.shape c.group.words.cut c.failed c.lived c.group.gateways (c.made ++ []) still caller (Some (record o { stage = TracedAt x })) (same-op (record o { stage = TracedAt x }) refl) (λ gl. asks-for Unknown same gl) tt in record {
+        wanted-call c.group.shape c.group.words.cut c.failed c.lived c.group.gateways (c.made ++ []) still caller (Some (record o { stage = TracedAt x })) (same-op (record o { stage = TracedAt x }) refl) (λ gl. asks-for Unknown same gl) tt in record {
           rights = rights-sent c.group.shape c.group.words.cut c.failed c.group.gateways.requests c.group.gateways.parked (wants (record c.group.gateways { call = changed_at c.group.gateways.call caller (Some (record o { stage = TracedAt x })) })) base.rights
               (gateway_of c.group.shape caller) x (TraceOf caller o.position (home_of (key_of o.op.act) c.group.shape.k)) (λ _ _. tt);
           asks = base.asks;
@@ -205,8 +205,8 @@ module _ (c : Composed) (h : Whole c) (l : LearnedAt c) (b : WantedAt c) where
         }
     by Unasked same =
         let base : Wanted c.group.shape c.group.words.cut c.failed c.lived (record c.group.gateways { call = changed_at c.group.gateways.call caller (Some (record o { position = c.group.gateways.next caller; stage = AskedOf x })) }) (c.made ++ []) =
-            wanted-call c.group.shape c.group.words.cut c.failed c.lived c.group.gateways (c.made ++ []) still caller (Some (record o { position = c.group.gateways.next caller; stage = AskedOf x })) (same-op (record o { position = c.group.gateways.next caller; stage = AskedOf x }) refl)
-            (λ gl. fresh gl) tt in record {
+        wanted-call c.group.shape c.group.words.cut c.failed c.lived c.group.gateways (c.made ++ []) still caller (Some (record o { position = c.group.gateways.next caller; stage = AskedOf x })) (same-op (record o { position = c.group.gateways.next caller; stage = AskedOf x }) refl)
+        (λ gl. fresh gl) tt in record {
           rights = rights-sent c.group.shape c.group.words.cut c.failed c.group.gateways.requests c.group.gateways.parked
               (wants (record c.group.gateways { call = changed_at c.group.gateways.call caller (Some (record o { position = c.group.gateways.next caller; stage = AskedOf x })) })) base.rights
               (gateway_of c.group.shape caller) x (AskFor caller (c.group.gateways.next caller) o.op)
@@ -218,9 +218,9 @@ module _ (c : Composed) (h : Whole c) (l : LearnedAt c) (b : WantedAt c) where
         fresh : c.failed (gateway_of c.group.shape caller) ≡ false → AskIs (c.made ++ []) caller (c.group.gateways.next caller) o.op
         fresh gl =
             let f : CallFits c.group.shape c.failed (waits c.group.shape c.group.words.cut c.group.gateways.requests c.group.gateways.parked caller) (asked_in c caller) (c.group.gateways.next caller) (Some o) =
-                subst (CallFits c.group.shape c.failed (waits c.group.shape c.group.words.cut c.group.gateways.requests c.group.gateways.parked caller) (asked_in c caller) (c.group.gateways.next caller)) is (h.positioned.calls caller gl) in
+            subst (CallFits c.group.shape c.failed (waits c.group.shape c.group.words.cut c.group.gateways.requests c.group.gateways.parked caller) (asked_in c caller) (c.group.gateways.next caller)) is (h.positioned.calls caller gl) in
             let g : StageFits c.group.shape c.failed (waits c.group.shape c.group.words.cut c.group.gateways.requests c.group.gateways.parked caller) (asked_in c caller) (c.group.gateways.next caller) o.position Unasked =
-                subst (StageFits c.group.shape c.failed (waits c.group.shape c.group.words.cut c.group.gateways.requests c.group.gateways.parked caller) (asked_in c caller) (c.group.gateways.next caller) o.position) same f.1 in
+            subst (StageFits c.group.shape c.failed (waits c.group.shape c.group.words.cut c.group.gateways.requests c.group.gateways.parked caller) (asked_in c caller) (c.group.gateways.next caller) o.position) same f.1 in
             let more = asks-made caller c.made [] in
             let at_next = g.0 in
             ask-none (c.made ++ []) caller (c.group.gateways.next caller) o.op (omega (arith, more, at_next))

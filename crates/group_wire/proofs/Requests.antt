@@ -408,7 +408,7 @@ module _ (s : Dimensions) (cut : ProcessId → Processes) (failed : Processes) (
     by (inl same) =
         let open_to : cut x (gateway_of s who) ≡ false = ap (cut x) same ∙ uncut in
         let all : one_or false 0 (count_asks who (requests (gateway_of s who) x)) + count_asks who (parked x) ≡ 0 =
-            ap (λ (c : Bool). one_or c 0 (count_asks who (requests (gateway_of s who) x)) + count_asks who (parked x)) (sym open_to) ∙ none x lives in
+        ap (λ (c : Bool). one_or c 0 (count_asks who (requests (gateway_of s who) x)) + count_asks who (parked x)) (sym open_to) ∙ none x lives in
         let here : count_asks who (requests g x) ≡ count_asks who (requests (gateway_of s who) x) = ap (λ (a : ProcessId). count_asks who (requests a x)) (sym same) in
         omega (arith, all, here)
 

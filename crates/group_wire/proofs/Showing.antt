@@ -128,7 +128,6 @@ told-alive c caller ping o t alive may shows = by alive where
   by (inr low) = inr (let first = before in omega (arith, first, low))
 
 module _ (c : Composed) (h : Whole c) (b : LearnedAt c) where
-
   -- what is shown by a living gateway, or one that lived when it sent the ping, is solid
   pub shown-solid : (caller ping : ℕ) (o : OpenCall) (t : Told) → SentAlive c (gateway_of c.group.shape caller) ping → MayAct c.group (Show caller ping) → Shows c caller o t → Solid c.made c.begun caller o.position t
   shown-solid caller ping o t alive may shows = sol.1 (told-alive c caller ping o t alive may shows) where

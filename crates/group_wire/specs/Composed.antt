@@ -66,7 +66,8 @@ message_made x p (m ∷ rest) = record { event = event.Deliver x p; answer = say
 -- a member that permits itself a set, and hasn't failed, makes all of the set fail, in the order of processes
 abbrev pub failures_at : Dimensions → Processes → Processes → List ℕ → List Made
 failures_at s failed set [] = []
-failures_at s failed set (x ∷ xs) = front_if (set (process_at s x) && not (failed (process_at s x))) (record { event = event.Fail (process_at s x) 0; answer = says.Done }) (failures_at s failed set xs)
+failures_at s failed set (x ∷ xs) = front_if (set (process_at s x) && not (failed (process_at s x)))
+    (record { event = event.Fail (process_at s x) 0; answer = says.Done }) (failures_at s failed set xs)
 
 -- an ask that is given up and was never treated is asked of the dead
 abbrev pub lost_ask : Bool → ℕ → Asked → ProcessId → List Made

@@ -20,7 +20,8 @@ BarrierAlways = (s : Dimensions) (actions : List Action) → AreActions s action
 
 -- right after a member that hasn't failed permitted itself a set, those who have failed are exactly that set
 abbrev pub PermitsExactly : Type 0
-PermitsExactly = (s : Dimensions) (actions : List Action) (p : ProcessId) → AreActions s actions → MayAct (composed s actions).group (Permit p) → (composed s actions).failed p ≡ false
+PermitsExactly = (s : Dimensions) (actions : List Action) (p : ProcessId) → AreActions s actions → MayAct (composed s actions).group (Permit p)
+    → (composed s actions).failed p ≡ false
     → (x : ProcessId) → (composed_with (composed s actions) (Permit p)).failed x ≡ (composed s actions).group.words.cut p x
 
 -- no two permitted sets together hold all members: there is one in neither

@@ -51,9 +51,13 @@ pub record Shows (c : Composed) (caller : ℕ) (o : OpenCall) (t : Told) : Type 
 -- where no two permitted sets together hold all members, all that is shown is the answer of a member's event of that call,
 -- and a reply stands in the log, since the call began
 abbrev pub ShownIsMade : Type 0
-ShownIsMade = (s : Dimensions) (actions : List Action) (caller ping : ℕ) (o : OpenCall) (t : Told) → AreActions s actions → NoTwoHoldAll (composed s actions).group
-    → MayAct (composed s actions).group (Show caller ping) → Shows (composed s actions) caller o t → WasMade (composed s actions).made t × (t.caller ≡ caller) × (t.call ≡ o.position)
+ShownIsMade = (s : Dimensions) (actions : List Action) (caller ping : ℕ) (o : OpenCall) (t : Told) → AreActions s actions
+    → NoTwoHoldAll (composed s actions).group
+    → MayAct (composed s actions).group (Show caller ping) → Shows (composed s actions) caller o t → WasMade (composed s actions).made t
+    × (t.caller ≡ caller) × (t.call ≡ o.position)
 
 abbrev pub ShownIsLogged : Type 0
-ShownIsLogged = (s : Dimensions) (actions : List Action) (caller ping : ℕ) (o : OpenCall) (t : Told) (reply : Reply) → AreActions s actions → NoTwoHoldAll (composed s actions).group
-    → MayAct (composed s actions).group (Show caller ping) → Shows (composed s actions) caller o t → t.answer ≡ says.Reply reply → IsLoggedSinceBegun (composed s actions) caller o reply
+ShownIsLogged = (s : Dimensions) (actions : List Action) (caller ping : ℕ) (o : OpenCall) (t : Told) (reply : Reply) → AreActions s actions
+    → NoTwoHoldAll (composed s actions).group
+    → MayAct (composed s actions).group (Show caller ping) → Shows (composed s actions) caller o t → t.answer ≡ says.Reply reply
+    → IsLoggedSinceBegun (composed s actions) caller o reply

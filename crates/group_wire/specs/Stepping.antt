@@ -27,7 +27,8 @@ abbrev pub sent_on : {X : Type 0} → (ProcessId → Processes) → (ProcessId �
 sent_on cut wires p q frame = changed_from wires p q (one_or (cut p q) (wires p q) (wires p q ++ frame ∷ []))
 
 -- the wires after frames were sent on all of a member's
-abbrev pub sent_to_all : {X : Type 0} → (ProcessId → Processes) → (ProcessId → ProcessId → List X) → ProcessId → (ProcessId → List X) → ProcessId → ProcessId → List X
+abbrev pub sent_to_all : {X : Type 0} → (ProcessId → Processes) → (ProcessId → ProcessId → List X) → ProcessId → (ProcessId → List X) → ProcessId
+    → ProcessId → List X
 sent_to_all cut wires p frames = changed wires p (λ q. one_or (cut p q) (wires p q) (wires p q ++ frames q))
 
 -- the set at the front of a wire is heard
