@@ -1,7 +1,6 @@
 -- What is shown to a client is the reply to what it asked.
-use Rattle.std.proofs.Common.{ℕ, zero, suc, ◌≡◌, ◌≢◌, ◌<◌, ◌≤◌, ◌+◌, ◌==◌, ◌⊎◌, inl, inr, nat_le, Bool, true, false, List, [], ◌∷◌, ◌++◌, Option, Some, None, IfSome, length, take, map, refl, sym, ap, subst, ◌∙◌, arith, All}
-use Rattle.std.proofs.lemmas.Bool.{cases_eq, ne_eqb}
-use Rattle.std.specs.Prelude.{slice_get}
+use Rattle.std.proofs.Common.{ℕ, ◌≡◌, ◌<◌, ◌≤◌, ◌+◌, ◌⊎◌, inl, inr, nat_le, Bool, true, false, List, [], ◌∷◌, ◌++◌, Option, Some, None, IfSome, refl, sym, ap, subst, ◌∙◌, arith}
+use Rattle.std.proofs.lemmas.Bool.{ne_eqb}
 use Rattle.std.specs.List.{range_with_len}
 use Rattle.group_types.specs.Dimensions.{Dimensions}
 use Rattle.group_types.specs.Each.{Each}
@@ -11,26 +10,25 @@ use Rattle.group_types.specs.declared.process.ProcessId.{ProcessId}
 use Rattle.memc_table.specs.Act.{key_of}
 use Rattle.memc_table.specs.Asked.{Asked}
 use Rattle.group_message.specs.declared.message.Message.{Message}
-use Rattle.group_calls.specs.declared.event.Answer.{Answer}
 use Rattle.group_calls.specs.declared.event.Answer.TheVariants as says
 use Rattle.group_calls.specs.declared.event.Event.{Event}
 use Rattle.group_calls.specs.declared.event.Event.TheVariants as event
 use Rattle.group_run.specs.Asking.{collect_from}
 use Rattle.group_run.specs.Heading.{partition}
 use Rattle.group_wire.specs.Actions.{Action, Begin, Send, Read, Treat, Collect, Flush, Learn, Receive, GiveUp, Cut, Say, Hear, Permit, Take, Ping, Pong, Count, Show, Stop}
-use Rattle.group_wire.specs.Composed.{AreActions, AreActionsFrom, Composed, Made, asks_among, call_given_up, composed, composed_from, composed_with, events_of, failed_after, failures_at, given_up, lost_ask, made_by, message_made, opening_composed, request_made, stands_if}
+use Rattle.group_wire.specs.Composed.{AreActions, AreActionsFrom, Composed, Made, asks_among, call_given_up, composed, composed_from, composed_with, events_of, failures_at, given_up, lost_ask, made_by, message_made, opening_composed, request_made, stands_if}
 use Rattle.group_wire.specs.May.{MayAct}
-use Rattle.group_wire.specs.Sets.{Processes, changed, changed_at, changed_from, either, entry_at, one_or, with_one, without}
+use Rattle.group_wire.specs.Sets.{Processes, changed, changed_at, changed_from, either, one_or, with_one, without}
 use Rattle.group_wire.specs.State.{Request, AskFor, TraceOf, Told, Stage, Unasked, AskedOf, Unknown, TracedAt, Answered, OpenCall, Gateways, Group, gateway_of}
-use Rattle.group_wire.specs.Stepping.{call_learned, gateways_after, handed_to, heard_first, if_open, learned_first, parked_at, read_first, request_treated, sends_by, sent_on, stage_given_up, staged, tell, told_of, treating, words_after}
+use Rattle.group_wire.specs.Stepping.{call_learned, handed_to, heard_first, if_open, learned_first, parked_at, read_first, request_treated, sends_by, sent_on, stage_given_up, staged, tell, told_of, treating, words_after}
 use Rattle.group_wire.proofs.Answering.{SolidCall, SolidStage}
 use Rattle.group_wire.proofs.Changes.{changed-each, changed_at-each, changed_at-here, either-not, grown-set}
 use Rattle.group_wire.proofs.Placing.{failures-quiet, quiet-if, quiet-none}
-use Rattle.group_wire.proofs.Positions.{CallFits, StageFits, asked_by, asked_in, asks-made, asks-once, asks-quiet}
+use Rattle.group_wire.proofs.Positions.{CallFits, StageFits, asked_by, asked_in, asks-made, asks-quiet}
 use Rattle.group_wire.proofs.Requests.{Living, each-entry, lane-none, park-none, waits}
 use Rattle.group_wire.proofs.Telling.{LearnedAt, learned-step}
 use Rattle.group_wire.proofs.Wanting.{AskIs, Right, Rights, ask-none, ask-one, op_of, rights-as, rights-cut, rights-fail, rights-new, rights-none, rights-read, rights-sent, rights-taken, wants}
-use Rattle.group_wire.proofs.Wants.{AskCall, AskStage, Firm, FirmCall, FirmStage, asks-call, asks-call-learned, asks-given-up, asks-stay, firm-call, firm-call-learned, firm-given-up, op-learned}
+use Rattle.group_wire.proofs.Wants.{AskCall, AskStage, FirmCall, asks-call, asks-call-learned, asks-given-up, asks-stay, firm-call, firm-call-learned, firm-given-up, op-learned}
 use Rattle.group_wire.proofs.Whole.{Whole, whole-opening, whole-step}
 
 -- what holds of what clients asked

@@ -1,12 +1,11 @@
 -- A run in which a data process is cut, fails, and its death is taken: such runs are there.
-use Rattle.std.proofs.Common.{ℕ, ◌≡◌, ◌≢◌, ◌<◌, ◌≤◌, true, false, List, [], ◌∷◌, refl, sym, ap, subst, arith}
+use Rattle.std.proofs.Common.{ℕ, ◌≡◌, ◌≢◌, ◌<◌, true, false, refl, ap, subst, arith}
 use Rattle.group_types.specs.Names.{IsProcess}
 use Rattle.group_types.specs.Shape.{IsShape}
 use Rattle.group_types.specs.declared.process.ProcessId.{ProcessId}
 use Rattle.group_types.specs.declared.process.ProcessId.TheVariants.{DataNode, ParityNode}
-use Rattle.group_wire.specs.Actions.{Action, Cut, Permit, Take}
-use Rattle.group_wire.specs.Composed.{Composed, composed_with, opening_composed}
-use Rattle.group_wire.specs.May.{AllHaveSaid, IsHere}
+use Rattle.group_wire.specs.Actions.{Cut}
+use Rattle.group_wire.specs.Composed.{composed_with, opening_composed}
 use Rattle.group_wire.specs.Rows.{AFailureMayCome, d0, p0, small}
 use Rattle.group_wire.specs.Sets.{IsWithin, size_of}
 

@@ -3,15 +3,15 @@ use Rattle.std.proofs.Common.{ℕ, zero, suc, ◌≡◌, ◌≢◌, ◌<◌, ◌
 use Rattle.std.proofs.lemmas.Bool.{cases_eq, eq-eqb, ne_eqb}
 use Rattle.group_types.specs.Dimensions.{Dimensions, callers}
 use Rattle.group_types.specs.Each.{Each}
-use Rattle.group_types.specs.Names.{IsProcess, same_process}
+use Rattle.group_types.specs.Names.{IsProcess}
 use Rattle.group_types.specs.declared.process.ProcessId.{ProcessId}
-use Rattle.group_types.proofs.Eaches.{each-append, each-weaker}
+use Rattle.group_types.proofs.Eaches.{each-append}
 use Rattle.group_types.proofs.Names.{same-cases}
 use Rattle.memc_table.specs.Act.{value_of}
 use Rattle.memc_table.specs.Asked.{Asked}
-use Rattle.group_wire.specs.Sets.{Processes, changed, changed_at, changed_from, either, entry_at, one_or, with_one, without}
+use Rattle.group_wire.specs.Sets.{Processes, changed, changed_at, changed_from, entry_at, one_or, without}
 use Rattle.group_wire.specs.State.{Request, AskFor, TraceOf, gateway_of}
-use Rattle.group_wire.proofs.Changes.{changed-each, changed-here, changed-other, changed-pairs, changed_at-each, changed_at-here, one_or-is}
+use Rattle.group_wire.proofs.Changes.{changed-each, changed-here, changed-other, changed-pairs, changed_at-each, one_or-is}
 
 abbrev pub caller_in : Request → ℕ
 caller_in (AskFor caller call op) = caller

@@ -15,10 +15,10 @@ use Rattle.group_calls.specs.declared.event.Event.TheVariants as event
 use Rattle.group_run.specs.Asking.{collect_from}
 use Rattle.group_run.specs.Heading.{partition}
 use Rattle.group_run.specs.World.{front_if}
-use Rattle.group_wire.specs.Actions.{Action, Begin, Send, Read, Treat, Collect, Flush, Learn, Receive, GiveUp, Cut, Say, Hear, Permit, Take, Ping, Pong, Count, Show, Stop}
+use Rattle.group_wire.specs.Actions.{Action, Begin, Treat, Collect, Flush, Receive, GiveUp, Permit, Take}
 use Rattle.group_wire.specs.May.{MayAct}
 use Rattle.group_wire.specs.Sets.{Processes, changed_at, either, nobody, one_or}
-use Rattle.group_wire.specs.State.{Request, AskFor, TraceOf, Stage, Unasked, AskedOf, Unknown, TracedAt, Answered, OpenCall, Group, gateway_of, opening_group}
+use Rattle.group_wire.specs.State.{Request, AskFor, TraceOf, Stage, AskedOf, OpenCall, Group, gateway_of, opening_group}
 use Rattle.group_wire.specs.Stepping.{group_after, parked_at, treating}
 
 -- an event that a member made, with the answer that it gave there

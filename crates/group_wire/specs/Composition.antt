@@ -1,5 +1,5 @@
 -- What a run of a group on its machines is to the machine: a run, in which those who haven't failed are what they are here.
-use Rattle.std.specs.Prelude.{ℕ, ◌≡◌, ◌≢◌, ◌<◌, ◌≤◌, ◌⊎◌, Bool, true, false, List, [], ◌∷◌, ◌++◌, map, Some, None}
+use Rattle.std.specs.Prelude.{ℕ, ◌≡◌, ◌≢◌, ◌≤◌, ◌⊎◌, Bool, true, false, List, [], ◌∷◌, ◌++◌, map, Some}
 use Rattle.group_types.specs.Dimensions.{Dimensions}
 use Rattle.group_types.specs.Names.{IsProcess}
 use Rattle.group_types.specs.declared.process.ProcessId.{ProcessId}
@@ -13,7 +13,7 @@ use Rattle.group_wire.specs.Actions.{Action, Receive, Take}
 use Rattle.group_wire.specs.Composed.{AreActions, Composed, asks_among, composed, events_of}
 use Rattle.group_wire.specs.May.{MayAct}
 use Rattle.group_wire.specs.Sets.{one_or, size_of}
-use Rattle.group_wire.specs.State.{OpenCall, Stage, AskedOf, Group, gateway_of}
+use Rattle.group_wire.specs.State.{OpenCall, AskedOf, gateway_of}
 
 -- a member that hasn't failed
 pub record HasNotFailed (c : Composed) (p : ProcessId) : Type 0 where

@@ -1,9 +1,8 @@
 -- What clients are shown: replies that stand in the log of the members' events.
-use Rattle.std.specs.Prelude.{ℕ, ◌≡◌, ◌≤◌, List, length, map, take, slice_get, Option, Some, None}
+use Rattle.std.specs.Prelude.{ℕ, ◌≡◌, ◌≤◌, List, length, map, take, slice_get, Some}
 use Rattle.group_types.specs.Dimensions.{Dimensions}
 use Rattle.memc_table.specs.declared.reply.Reply.{Reply}
-use Rattle.group_calls.specs.Turns.{CallName, entry_of, log_of}
-use Rattle.group_calls.specs.declared.entry.Entry.{Entry}
+use Rattle.group_calls.specs.Turns.{entry_of, log_of}
 use Rattle.group_calls.specs.declared.event.Answer.TheVariants as says
 use Rattle.group_calls.specs.declared.event.Event.{Event}
 use Rattle.group_calls.specs.declared.event.Event.TheVariants as event
@@ -13,7 +12,7 @@ use Rattle.group_wire.specs.Composed.{AreActions, Composed, Made, asks_among, co
 use Rattle.group_wire.specs.Composition.{machine}
 use Rattle.group_wire.specs.Laws.{NoTwoHoldAll}
 use Rattle.group_wire.specs.May.{MayAct}
-use Rattle.group_wire.specs.State.{Told, Stage, Answered, OpenCall}
+use Rattle.group_wire.specs.State.{Told, Answered, OpenCall}
 
 -- the events before a place
 abbrev pub events_before : List Made → ℕ → List Event
