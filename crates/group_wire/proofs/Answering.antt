@@ -15,7 +15,8 @@ use Rattle.group_wire.specs.Composed.{Made, asks_among}
 use Rattle.group_wire.specs.Sets.{Processes, changed_at, changed_from, one_or}
 use Rattle.group_wire.specs.Shown.{IsOfCall, WasMade}
 use Rattle.group_wire.specs.State.{Request, Told, Stage, Unasked, AskedOf, Unknown, TracedAt, Answered, OpenCall, Gateways, gateway_of}
-use Rattle.group_wire.specs.Stepping.{call_learned, sent_on, stage_learned, stage_told}
+use Rattle.group_wire.specs.Sending.{sent_on}
+use Rattle.group_wire.specs.Serving.{call_learned, stage_learned, stage_told}
 use Rattle.group_wire.proofs.Changes.{changed-pairs, changed_at-each, changed_at-here, one_or-is}
 use Rattle.group_wire.proofs.Positions.{asked_by}
 use Rattle.group_wire.proofs.Requests.{Living}

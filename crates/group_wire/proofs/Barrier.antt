@@ -11,7 +11,7 @@ use Rattle.group_wire.specs.Composed.{Composed, failed_after}
 use Rattle.group_wire.specs.May.{MayAct}
 use Rattle.group_wire.specs.Sets.{IsWithin, Processes, changed, either, nobody, one_or, size_of, with_one}
 use Rattle.group_wire.specs.State.{Words, opening_group}
-use Rattle.group_wire.specs.Stepping.{heard_first, words_after}
+use Rattle.group_wire.specs.Sending.{heard_first, words_after}
 use Rattle.group_wire.proofs.Changes.{changed-each, changed-here, changed-other, changed-pairs, either-left, either-right, either-which, either-not, grown-set, size-within, size-nobody}
 
 -- r has said to p that it has cut x, which p has heard or which is on the wire

@@ -12,7 +12,8 @@ use Rattle.group_calls.specs.declared.event.Answer.{Answer}
 use Rattle.group_calls.specs.declared.event.Answer.TheVariants as says
 use Rattle.group_wire.specs.Sets.{Processes, changed_at, changed_from, one_or}
 use Rattle.group_wire.specs.State.{Request, AskFor, TraceOf, Told, Stage, Unasked, AskedOf, Unknown, TracedAt, Answered, OpenCall, Gateways, gateway_of}
-use Rattle.group_wire.specs.Stepping.{again, call_learned, stage_learned, stage_told, sent_on}
+use Rattle.group_wire.specs.Sending.{sent_on}
+use Rattle.group_wire.specs.Serving.{again, call_learned, stage_learned, stage_told}
 use Rattle.group_wire.proofs.Changes.{changed-pairs, changed_at-each, changed_at-here}
 use Rattle.group_wire.proofs.Positions.{CallFits, NoneWait, Positioned, StageFits, call-kept}
 use Rattle.group_wire.proofs.Requests.{FitsAsked, Living, caller_in, is_ask, placed-sent, sent-which, waits, with_sent}

@@ -20,7 +20,8 @@ use Rattle.group_wire.specs.Composed.{AreActions, AreActionsFrom, Composed, Made
 use Rattle.group_wire.specs.May.{MayAct}
 use Rattle.group_wire.specs.Sets.{Processes, changed, changed_at, changed_from, either, one_or, with_one, without}
 use Rattle.group_wire.specs.State.{Request, AskFor, TraceOf, Told, Stage, Unasked, AskedOf, Unknown, TracedAt, Answered, OpenCall, Gateways, Group, gateway_of}
-use Rattle.group_wire.specs.Stepping.{call_learned, handed_to, heard_first, if_open, learned_first, parked_at, read_first, request_treated, sends_by, sent_on, stage_given_up, staged, tell, told_of, treating, words_after}
+use Rattle.group_wire.specs.Sending.{heard_first, parked_at, sent_on, treating, words_after}
+use Rattle.group_wire.specs.Serving.{call_learned, handed_to, if_open, learned_first, read_first, request_treated, sends_by, stage_given_up, staged, tell, told_of}
 use Rattle.group_wire.proofs.Answering.{SolidCall, SolidStage}
 use Rattle.group_wire.proofs.Changes.{changed-each, changed_at-each, changed_at-here, either-not, grown-set}
 use Rattle.group_wire.proofs.Placing.{failures-quiet, quiet-if, quiet-none}

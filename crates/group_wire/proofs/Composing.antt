@@ -29,7 +29,7 @@ use Rattle.group_wire.specs.Composed.{Made}
 use Rattle.group_wire.specs.Composition.{Carried}
 use Rattle.group_wire.specs.Sets.{Processes, changed, changed_from, one_or, size_of, with_one}
 use Rattle.group_wire.specs.State.{Works}
-use Rattle.group_wire.specs.Stepping.{stepped}
+use Rattle.group_wire.specs.Sending.{stepped}
 use Rattle.group_wire.proofs.Extending.{Makes, after-made, events_in, makes-more, nodes-many, shape-after, unknown-after, up-after}
 use Rattle.group_wire.proofs.Mirrors.{Mirrors, link_in, mirrors-acts, mirrors-popped, mirrors-taken}
 use Rattle.group_wire.proofs.Positions.{asked_by}

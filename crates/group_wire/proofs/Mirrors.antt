@@ -21,7 +21,7 @@ use Rattle.law_moves.proofs.Steps.{NodeActs, died}
 use Rattle.group_wire.specs.Composition.{Carried}
 use Rattle.group_wire.specs.Sets.{Processes, changed, changed_from, one_or, with_one}
 use Rattle.group_wire.specs.State.{Works}
-use Rattle.group_wire.specs.Stepping.{stepped}
+use Rattle.group_wire.specs.Sending.{stepped}
 use Rattle.group_wire.proofs.Changes.{changed-each, changed-here, changed-other}
 use Rattle.group_wire.proofs.Requests.{Living}
 

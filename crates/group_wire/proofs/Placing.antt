@@ -23,7 +23,8 @@ use Rattle.group_wire.specs.Composed.{Composed, Made, asks_among, call_given_up,
 use Rattle.group_wire.specs.May.{CallIsTold, IsToldBefore, MayAct, WaitsForDead, call_waits_for, waits_for}
 use Rattle.group_wire.specs.Sets.{Processes, changed, either, one_or, with_one, without}
 use Rattle.group_wire.specs.State.{Request, AskFor, TraceOf, Told, Stage, Unasked, AskedOf, Unknown, TracedAt, Answered, OpenCall, Gateways, Group, gateway_of, opening_group}
-use Rattle.group_wire.specs.Stepping.{again, gateways_after, handed_to, heard_first, if_open, learned_first, parked_at, read_first, request_treated, sends_by, sent_on, stage_given_up, staged, tell, told_of, treating, words_after}
+use Rattle.group_wire.specs.Sending.{heard_first, parked_at, sent_on, treating, words_after}
+use Rattle.group_wire.specs.Serving.{again, gateways_after, handed_to, if_open, learned_first, read_first, request_treated, sends_by, stage_given_up, staged, tell, told_of}
 use Rattle.group_wire.proofs.Barrier.{Barred}
 use Rattle.group_wire.proofs.Calling.{given-up-fits, positioned-asks, positioned-learns, positioned-traces}
 use Rattle.group_wire.proofs.Changes.{changed-each, changed_at-here, either-not, grown-set}

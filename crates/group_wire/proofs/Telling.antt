@@ -21,7 +21,9 @@ use Rattle.group_wire.specs.May.{MayAct}
 use Rattle.group_wire.specs.Sets.{Processes, changed, changed_at, changed_from, either, one_or, without}
 use Rattle.group_wire.specs.Shown.{IsOfCall, WasMade}
 use Rattle.group_wire.specs.State.{Request, AskFor, TraceOf, Told, Stage, Unasked, AskedOf, Unknown, TracedAt, Answered, OpenCall, Gateways, Group, gateway_of}
-use Rattle.group_wire.specs.Stepping.{again, answered_first, counted_first, handed_to, if_open, learned_first, parked_at, read_first, request_treated, sends_by, sent_on, stage_given_up, staged, tell, told_of, treating}
+use Rattle.group_wire.specs.Sending.{parked_at, sent_on, treating}
+use Rattle.group_wire.specs.Serving.{again, handed_to, if_open, learned_first, read_first, request_treated, sends_by, stage_given_up, staged, tell, told_of}
+use Rattle.group_wire.specs.Stepping.{answered_first, counted_first}
 use Rattle.group_wire.proofs.Answering.{BegunCall, BegunStage, Learned, SolidCall, SolidStage, asked_before, learned-begins, learned-call, learned-learns, learned-made, learned-more, learned-requests, learned-told, made-last}
 use Rattle.group_wire.proofs.Changes.{changed-each, changed_at-each, changed_at-here, either-not}
 use Rattle.group_wire.proofs.Positions.{CallFits, asked_by, asked_in}

@@ -10,7 +10,7 @@ use Rattle.group_calls.specs.declared.event.Answer.{Answer}
 use Rattle.group_wire.specs.Composed.{Made}
 use Rattle.group_wire.specs.Sets.{Processes, one_or}
 use Rattle.group_wire.specs.State.{Told, Stage, Unasked, AskedOf, Unknown, TracedAt, Answered, OpenCall}
-use Rattle.group_wire.specs.Stepping.{again, call_learned, stage_given_up, stage_learned, stage_told}
+use Rattle.group_wire.specs.Serving.{again, call_learned, stage_given_up, stage_learned, stage_told}
 use Rattle.group_wire.proofs.Answering.{told-which}
 use Rattle.group_wire.proofs.Positions.{CallFits, NoneWait, StageFits, asked_by, asks-made}
 use Rattle.group_wire.proofs.Wanting.{AskIs, ask-none, ask-past, op_of}

@@ -35,7 +35,7 @@ use Rattle.group_wire.specs.Composed.{AreActions, AreActionsFrom, Composed, Made
 use Rattle.group_wire.specs.May.{MayAct, call_waits_for, waits_for}
 use Rattle.group_wire.specs.Sets.{Processes, changed, changed_from, either, one_or, with_one}
 use Rattle.group_wire.specs.State.{Request, AskFor, TraceOf, Stage, Unasked, AskedOf, Unknown, TracedAt, Answered, OpenCall, Works, gateway_of}
-use Rattle.group_wire.specs.Stepping.{heard_first, parked_at, stepped, treating, words_after, works_received, works_treated}
+use Rattle.group_wire.specs.Sending.{heard_first, parked_at, stepped, treating, words_after, works_received, works_treated}
 use Rattle.group_wire.proofs.Barrier.{Barred, barred-opening, barred-step}
 use Rattle.group_wire.proofs.Changes.{changed-each, grown-set}
 use Rattle.group_wire.proofs.Composing.{Composes, composes-ask, composes-collect, composes-flush, composes-lost, composes-receive, composes-take, composes-trace}

@@ -19,7 +19,8 @@ use Rattle.group_wire.specs.Actions.{Action, Begin, Treat, Collect, Flush, Recei
 use Rattle.group_wire.specs.May.{MayAct}
 use Rattle.group_wire.specs.Sets.{Processes, changed_at, either, nobody, one_or}
 use Rattle.group_wire.specs.State.{Request, AskFor, TraceOf, Stage, AskedOf, OpenCall, Group, gateway_of, opening_group}
-use Rattle.group_wire.specs.Stepping.{group_after, parked_at, treating}
+use Rattle.group_wire.specs.Sending.{parked_at, treating}
+use Rattle.group_wire.specs.Stepping.{group_after}
 
 -- an event that a member made, with the answer that it gave there
 pub record Made : Type 0 where
