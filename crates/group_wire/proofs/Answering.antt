@@ -1,33 +1,23 @@
 -- What gateways are told along runs: answers of members' events, of calls that were asked since they began.
-use Rattle.std.proofs.Common.{ℕ, zero, suc, ◌≡◌, ◌≢◌, ◌<◌, ◌≤◌, ◌+◌, ◌==◌, ◌⊎◌, inl, inr, Bool, true, false, List, [], ◌∷◌, ◌++◌, Option, Some, None, length, take, map, refl, sym, ap, subst, ◌∙◌, arith, All}
+use Rattle.std.proofs.Common.{ℕ, ◌≡◌, ◌≢◌, ◌<◌, ◌≤◌, ◌==◌, ◌⊎◌, inl, inr, Bool, true, false, List, [], ◌∷◌, ◌++◌, Option, Some, None, length, take, map, refl, sym, ap, subst, ◌∙◌, arith}
 use Rattle.std.proofs.lemmas.Bool.{cases_eq, eq-eqb, ne_eqb}
 use Rattle.std.proofs.lemmas.List.{append-nil, length-append, take-append-le}
 use Rattle.std.proofs.lemmas.Option.{slice_get_within}
-use Rattle.std.specs.Prelude.{slice_get}
-use Rattle.std.specs.List.{range_with_len}
 use Rattle.group_types.specs.Dimensions.{Dimensions}
 use Rattle.group_types.specs.Each.{Each}
-use Rattle.group_types.specs.Names.{IsProcess}
 use Rattle.group_types.specs.declared.process.ProcessId.{ProcessId}
 use Rattle.group_types.proofs.Eaches.{each-append, each-weaker}
 use Rattle.memc_table.specs.Asked.{Asked}
-use Rattle.memc_table.specs.declared.act.Act.{Act}
-use Rattle.memc_table.specs.declared.act.Act.TheVariants as act
-use Rattle.memc_table.specs.declared.reply.Reply.{Reply}
 use Rattle.group_calls.specs.declared.event.Answer.{Answer}
 use Rattle.group_calls.specs.declared.event.Answer.TheVariants as says
-use Rattle.group_calls.specs.declared.event.Event.{Event}
-use Rattle.group_calls.specs.declared.event.Event.TheVariants as event
-use Rattle.group_run.specs.Asking.{collect_from}
 use Rattle.law_log.proofs.Turnings.{get-last, get-left}
-use Rattle.group_wire.specs.Actions.{Action, Begin, Send, Read, Treat, Collect, Flush, Learn, Receive, GiveUp, Cut, Say, Hear, Permit, Take, Ping, Pong, Count, Show, Stop}
-use Rattle.group_wire.specs.Composed.{Composed, Made, asks_among, begun_after, composed_with, events_of, failed_after, lived_after, made_by, request_event, request_made, stands_if}
-use Rattle.group_wire.specs.May.{MayAct}
-use Rattle.group_wire.specs.Sets.{Processes, changed, changed_at, changed_from, either, one_or}
-use Rattle.group_wire.specs.Shown.{IsOfCall, WasMade, events_before}
-use Rattle.group_wire.specs.State.{Request, AskFor, TraceOf, Told, Stage, Unasked, AskedOf, Unknown, TracedAt, Answered, OpenCall, Gateways, Group, Signs, gateway_of}
-use Rattle.group_wire.specs.Stepping.{again, asks_by, call_learned, gateways_after, handed_to, if_open, learned_first, parked_at, read_first, request_treated, sends_by, sent_on, signs_after, stage_given_up, stage_learned, stage_told, staged, tell, told_of, traces_by, treating}
-use Rattle.group_wire.proofs.Changes.{changed-each, changed-pairs, changed_at-each, changed_at-here, one_or-is}
+use Rattle.group_wire.specs.Composed.{Made, asks_among}
+use Rattle.group_wire.specs.Sets.{Processes, changed_at, changed_from, one_or}
+use Rattle.group_wire.specs.Shown.{IsOfCall, WasMade}
+use Rattle.group_wire.specs.State.{Request, Told, Stage, Unasked, AskedOf, Unknown, TracedAt, Answered, OpenCall, Gateways, gateway_of}
+use Rattle.group_wire.specs.Sending.{sent_on}
+use Rattle.group_wire.specs.Serving.{call_learned, stage_learned, stage_told}
+use Rattle.group_wire.proofs.Changes.{changed-pairs, changed_at-each, changed_at-here, one_or-is}
 use Rattle.group_wire.proofs.Positions.{asked_by}
 use Rattle.group_wire.proofs.Requests.{Living}
 

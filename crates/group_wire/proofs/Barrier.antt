@@ -1,18 +1,18 @@
 -- What members know of one another, along runs: who has failed is cut by all that haven't, and all of a permitted set fail
 -- at once.
-use Rattle.std.proofs.Common.{ℕ, ◌≡◌, ◌≢◌, ◌≤◌, ◌+◌, ◌||◌, ◌⊎◌, inl, inr, Bool, true, false, List, [], ◌∷◌, ◌++◌, refl, sym, ap, subst, ◌∙◌, arith}
+use Rattle.std.proofs.Common.{◌≡◌, ◌≢◌, ◌≤◌, ◌||◌, ◌⊎◌, inl, inr, Bool, true, false, List, [], ◌∷◌, ◌++◌, refl, sym, ap, ◌∙◌, arith}
 use Rattle.std.specs.List.{list_any}
 use Rattle.group_types.specs.Dimensions.{Dimensions}
-use Rattle.group_types.specs.Names.{IsProcess, same_process}
+use Rattle.group_types.specs.Names.{IsProcess}
 use Rattle.group_types.specs.declared.process.ProcessId.{ProcessId}
 use Rattle.group_types.proofs.Names.{same-cases}
 use Rattle.group_wire.specs.Actions.{Action, Begin, Send, Read, Treat, Collect, Flush, Learn, Receive, GiveUp, Cut, Say, Hear, Permit, Take, Ping, Pong, Count, Show, Stop}
 use Rattle.group_wire.specs.Composed.{Composed, failed_after}
-use Rattle.group_wire.specs.May.{AllHaveSaid, MayAct}
-use Rattle.group_wire.specs.Sets.{IsWithin, Processes, changed, changed_from, either, nobody, one_or, size_of, with_one}
-use Rattle.group_wire.specs.State.{Group, Words, opening_group}
-use Rattle.group_wire.specs.Stepping.{heard_first, words_after}
-use Rattle.group_wire.proofs.Changes.{changed-each, changed-here, changed-other, changed-pairs, either-left, either-right, either-which, either-not, grown-set, one_or-is, size-within, size-nobody}
+use Rattle.group_wire.specs.May.{MayAct}
+use Rattle.group_wire.specs.Sets.{IsWithin, Processes, changed, either, nobody, one_or, size_of, with_one}
+use Rattle.group_wire.specs.State.{Words, opening_group}
+use Rattle.group_wire.specs.Sending.{heard_first, words_after}
+use Rattle.group_wire.proofs.Changes.{changed-each, changed-here, changed-other, changed-pairs, either-left, either-right, either-which, either-not, grown-set, size-within, size-nobody}
 
 -- r has said to p that it has cut x, which p has heard or which is on the wire
 abbrev pub told : Words → ProcessId → ProcessId → Processes

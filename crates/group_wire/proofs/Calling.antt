@@ -1,24 +1,22 @@
 -- What gateways do keeps positions.
-use Rattle.std.proofs.Common.{ℕ, zero, suc, ◌≡◌, ◌≢◌, ◌<◌, ◌≤◌, ◌+◌, ◌==◌, ◌⊎◌, inl, inr, nat_le, Bool, true, false, List, [], ◌∷◌, ◌++◌, Option, Some, None, map, refl, sym, ap, subst, ◌∙◌, arith, All}
+use Rattle.std.proofs.Common.{ℕ, suc, ◌≡◌, ◌≢◌, ◌<◌, ◌≤◌, ◌+◌, ◌⊎◌, inl, inr, Bool, true, false, List, ◌∷◌, Option, Some, None, refl, sym, ap, subst, ◌∙◌, arith, All}
 use Rattle.std.proofs.lemmas.Bool.{cases_eq, eq-eqb, ne_eqb}
-use Rattle.std.proofs.lemmas.Grind.{common_steps}
 use Rattle.group_types.specs.Dimensions.{Dimensions, callers}
 use Rattle.group_types.specs.Each.{Each}
-use Rattle.group_types.specs.Hash.{home_of}
 use Rattle.group_types.specs.Names.{IsProcess}
 use Rattle.group_types.specs.declared.process.ProcessId.{ProcessId}
-use Rattle.memc_table.specs.Act.{key_of, value_of}
-use Rattle.memc_table.specs.Asked.{Asked}
+use Rattle.memc_table.specs.Act.{value_of}
 use Rattle.memc_table.specs.declared.act.Act.{Act}
 use Rattle.memc_table.specs.declared.act.Act.TheVariants as act
 use Rattle.group_calls.specs.declared.event.Answer.{Answer}
 use Rattle.group_calls.specs.declared.event.Answer.TheVariants as says
-use Rattle.group_wire.specs.Sets.{Processes, changed, changed_at, changed_from, one_or}
+use Rattle.group_wire.specs.Sets.{Processes, changed_at, changed_from, one_or}
 use Rattle.group_wire.specs.State.{Request, AskFor, TraceOf, Told, Stage, Unasked, AskedOf, Unknown, TracedAt, Answered, OpenCall, Gateways, gateway_of}
-use Rattle.group_wire.specs.Stepping.{again, call_learned, stage_given_up, stage_learned, stage_told, sent_on}
+use Rattle.group_wire.specs.Sending.{sent_on}
+use Rattle.group_wire.specs.Serving.{again, call_learned, stage_learned, stage_told}
 use Rattle.group_wire.proofs.Changes.{changed-pairs, changed_at-each, changed_at-here}
-use Rattle.group_wire.proofs.Positions.{CallFits, NoneWait, Positioned, StageFits, Waited, call-kept}
-use Rattle.group_wire.proofs.Requests.{FitsAsked, Living, Placed, asked_once, caller_in, is_ask, placed-sent, sent-which, waits, with_sent}
+use Rattle.group_wire.proofs.Positions.{CallFits, NoneWait, Positioned, StageFits, call-kept}
+use Rattle.group_wire.proofs.Requests.{FitsAsked, Living, caller_in, is_ask, placed-sent, sent-which, waits, with_sent}
 
 -- what is told of a call that was asked as often as its gateway says
 told-fits : (s : Dimensions) (failed : Processes) (wait : ProcessId → ℕ) (asked next position : ℕ) (t : Told) (pinged : ℕ) (answer : Answer) (traced : Bool)

@@ -1,11 +1,11 @@
 -- What is read of functions of processes that are changed at one place, and of sets.
-use Rattle.std.proofs.Common.{ℕ, zero, suc, ◌≡◌, ◌≢◌, ◌<◌, ◌≤◌, ◌+◌, ◌==◌, ◌||◌, ◌⊎◌, inl, inr, Bool, true, false, List, [], ◌∷◌, ◌++◌, map, refl, sym, ap, subst, ◌∙◌, if◌then◌else◌, arith}
+use Rattle.std.proofs.Common.{ℕ, ◌≡◌, ◌≢◌, ◌≤◌, ◌+◌, ◌==◌, ◌||◌, ◌⊎◌, inl, inr, Bool, true, false, List, [], ◌∷◌, map, refl, sym, ap, subst, ◌∙◌, if◌then◌else◌, arith}
 use Rattle.std.proofs.lemmas.Bool.{cases_eq, eq-eqb, ne_eqb}
-use Rattle.std.specs.List.{list_any, range_with_len}
+use Rattle.std.specs.List.{range_with_len}
 use Rattle.group_types.specs.Dimensions.{Dimensions}
-use Rattle.group_types.specs.Names.{IsProcess, process_at, index_of, same_process}
+use Rattle.group_types.specs.Names.{process_at, same_process}
 use Rattle.group_types.specs.declared.process.ProcessId.{ProcessId}
-use Rattle.group_types.proofs.Names.{same-cases, same-eq, same-ne, same-refl}
+use Rattle.group_types.proofs.Names.{same-eq, same-ne, same-refl}
 use Rattle.membership.specs.Members.{count_dead}
 use Rattle.group_wire.specs.Sets.{IsWithin, Processes, changed, changed_at, changed_from, either, one_or, size_of, with_one}
 

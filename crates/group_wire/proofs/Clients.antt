@@ -1,7 +1,6 @@
 -- What is shown to a client is the reply to what it asked.
-use Rattle.std.proofs.Common.{ℕ, zero, suc, ◌≡◌, ◌≢◌, ◌<◌, ◌≤◌, ◌+◌, ◌==◌, ◌⊎◌, inl, inr, nat_le, Bool, true, false, List, [], ◌∷◌, ◌++◌, Option, Some, None, IfSome, length, take, map, refl, sym, ap, subst, ◌∙◌, arith, All}
-use Rattle.std.proofs.lemmas.Bool.{cases_eq, ne_eqb}
-use Rattle.std.specs.Prelude.{slice_get}
+use Rattle.std.proofs.Common.{ℕ, ◌≡◌, ◌<◌, ◌≤◌, ◌+◌, ◌⊎◌, inl, inr, nat_le, Bool, true, false, List, [], ◌∷◌, ◌++◌, Option, Some, None, IfSome, refl, sym, ap, subst, ◌∙◌, arith}
+use Rattle.std.proofs.lemmas.Bool.{ne_eqb}
 use Rattle.std.specs.List.{range_with_len}
 use Rattle.group_types.specs.Dimensions.{Dimensions}
 use Rattle.group_types.specs.Each.{Each}
@@ -11,26 +10,26 @@ use Rattle.group_types.specs.declared.process.ProcessId.{ProcessId}
 use Rattle.memc_table.specs.Act.{key_of}
 use Rattle.memc_table.specs.Asked.{Asked}
 use Rattle.group_message.specs.declared.message.Message.{Message}
-use Rattle.group_calls.specs.declared.event.Answer.{Answer}
 use Rattle.group_calls.specs.declared.event.Answer.TheVariants as says
 use Rattle.group_calls.specs.declared.event.Event.{Event}
 use Rattle.group_calls.specs.declared.event.Event.TheVariants as event
 use Rattle.group_run.specs.Asking.{collect_from}
 use Rattle.group_run.specs.Heading.{partition}
 use Rattle.group_wire.specs.Actions.{Action, Begin, Send, Read, Treat, Collect, Flush, Learn, Receive, GiveUp, Cut, Say, Hear, Permit, Take, Ping, Pong, Count, Show, Stop}
-use Rattle.group_wire.specs.Composed.{AreActions, AreActionsFrom, Composed, Made, asks_among, call_given_up, composed, composed_from, composed_with, events_of, failed_after, failures_at, given_up, lost_ask, made_by, message_made, opening_composed, request_made, stands_if}
+use Rattle.group_wire.specs.Composed.{AreActions, AreActionsFrom, Composed, Made, asks_among, call_given_up, composed, composed_from, composed_with, events_of, failures_at, given_up, lost_ask, made_by, message_made, opening_composed, request_made, stands_if}
 use Rattle.group_wire.specs.May.{MayAct}
-use Rattle.group_wire.specs.Sets.{Processes, changed, changed_at, changed_from, either, entry_at, one_or, with_one, without}
+use Rattle.group_wire.specs.Sets.{Processes, changed, changed_at, changed_from, either, one_or, with_one, without}
 use Rattle.group_wire.specs.State.{Request, AskFor, TraceOf, Told, Stage, Unasked, AskedOf, Unknown, TracedAt, Answered, OpenCall, Gateways, Group, gateway_of}
-use Rattle.group_wire.specs.Stepping.{call_learned, gateways_after, handed_to, heard_first, if_open, learned_first, parked_at, read_first, request_treated, sends_by, sent_on, stage_given_up, staged, tell, told_of, treating, words_after}
+use Rattle.group_wire.specs.Sending.{heard_first, parked_at, sent_on, treating, words_after}
+use Rattle.group_wire.specs.Serving.{call_learned, handed_to, if_open, learned_first, read_first, request_treated, sends_by, stage_given_up, staged, tell, told_of}
 use Rattle.group_wire.proofs.Answering.{SolidCall, SolidStage}
 use Rattle.group_wire.proofs.Changes.{changed-each, changed_at-each, changed_at-here, either-not, grown-set}
 use Rattle.group_wire.proofs.Placing.{failures-quiet, quiet-if, quiet-none}
-use Rattle.group_wire.proofs.Positions.{CallFits, StageFits, asked_by, asked_in, asks-made, asks-once, asks-quiet}
+use Rattle.group_wire.proofs.Positions.{CallFits, StageFits, asked_by, asked_in, asks-made, asks-quiet}
 use Rattle.group_wire.proofs.Requests.{Living, each-entry, lane-none, park-none, waits}
 use Rattle.group_wire.proofs.Telling.{LearnedAt, learned-step}
 use Rattle.group_wire.proofs.Wanting.{AskIs, Right, Rights, ask-none, ask-one, op_of, rights-as, rights-cut, rights-fail, rights-new, rights-none, rights-read, rights-sent, rights-taken, wants}
-use Rattle.group_wire.proofs.Wants.{AskCall, AskStage, Firm, FirmCall, FirmStage, asks-call, asks-call-learned, asks-given-up, asks-stay, firm-call, firm-call-learned, firm-given-up, op-learned}
+use Rattle.group_wire.proofs.Wants.{AskCall, AskStage, FirmCall, asks-call, asks-call-learned, asks-given-up, asks-stay, firm-call, firm-call-learned, firm-given-up, op-learned}
 use Rattle.group_wire.proofs.Whole.{Whole, whole-opening, whole-step}
 
 -- what holds of what clients asked
@@ -197,7 +196,7 @@ module _ (c : Composed) (h : Whole c) (l : LearnedAt c) (b : WantedAt c) where
     by (Answered t n) same = still
     by Unknown same =
         let base : Wanted c.group.shape c.group.words.cut c.failed c.lived (record c.group.gateways { call = changed_at c.group.gateways.call caller (Some (record o { stage = TracedAt x })) }) (c.made ++ []) =
-            wanted-call c.group.shape c.group.words.cut c.failed c.lived c.group.gateways (c.made ++ []) still caller (Some (record o { stage = TracedAt x })) (same-op (record o { stage = TracedAt x }) refl) (λ gl. asks-for Unknown same gl) tt in record {
+        wanted-call c.group.shape c.group.words.cut c.failed c.lived c.group.gateways (c.made ++ []) still caller (Some (record o { stage = TracedAt x })) (same-op (record o { stage = TracedAt x }) refl) (λ gl. asks-for Unknown same gl) tt in record {
           rights = rights-sent c.group.shape c.group.words.cut c.failed c.group.gateways.requests c.group.gateways.parked (wants (record c.group.gateways { call = changed_at c.group.gateways.call caller (Some (record o { stage = TracedAt x })) })) base.rights
               (gateway_of c.group.shape caller) x (TraceOf caller o.position (home_of (key_of o.op.act) c.group.shape.k)) (λ _ _. tt);
           asks = base.asks;
@@ -205,8 +204,8 @@ module _ (c : Composed) (h : Whole c) (l : LearnedAt c) (b : WantedAt c) where
         }
     by Unasked same =
         let base : Wanted c.group.shape c.group.words.cut c.failed c.lived (record c.group.gateways { call = changed_at c.group.gateways.call caller (Some (record o { position = c.group.gateways.next caller; stage = AskedOf x })) }) (c.made ++ []) =
-            wanted-call c.group.shape c.group.words.cut c.failed c.lived c.group.gateways (c.made ++ []) still caller (Some (record o { position = c.group.gateways.next caller; stage = AskedOf x })) (same-op (record o { position = c.group.gateways.next caller; stage = AskedOf x }) refl)
-            (λ gl. fresh gl) tt in record {
+        wanted-call c.group.shape c.group.words.cut c.failed c.lived c.group.gateways (c.made ++ []) still caller (Some (record o { position = c.group.gateways.next caller; stage = AskedOf x })) (same-op (record o { position = c.group.gateways.next caller; stage = AskedOf x }) refl)
+        (λ gl. fresh gl) tt in record {
           rights = rights-sent c.group.shape c.group.words.cut c.failed c.group.gateways.requests c.group.gateways.parked
               (wants (record c.group.gateways { call = changed_at c.group.gateways.call caller (Some (record o { position = c.group.gateways.next caller; stage = AskedOf x })) })) base.rights
               (gateway_of c.group.shape caller) x (AskFor caller (c.group.gateways.next caller) o.op)
@@ -218,9 +217,9 @@ module _ (c : Composed) (h : Whole c) (l : LearnedAt c) (b : WantedAt c) where
         fresh : c.failed (gateway_of c.group.shape caller) ≡ false → AskIs (c.made ++ []) caller (c.group.gateways.next caller) o.op
         fresh gl =
             let f : CallFits c.group.shape c.failed (waits c.group.shape c.group.words.cut c.group.gateways.requests c.group.gateways.parked caller) (asked_in c caller) (c.group.gateways.next caller) (Some o) =
-                subst (CallFits c.group.shape c.failed (waits c.group.shape c.group.words.cut c.group.gateways.requests c.group.gateways.parked caller) (asked_in c caller) (c.group.gateways.next caller)) is (h.positioned.calls caller gl) in
+            subst (CallFits c.group.shape c.failed (waits c.group.shape c.group.words.cut c.group.gateways.requests c.group.gateways.parked caller) (asked_in c caller) (c.group.gateways.next caller)) is (h.positioned.calls caller gl) in
             let g : StageFits c.group.shape c.failed (waits c.group.shape c.group.words.cut c.group.gateways.requests c.group.gateways.parked caller) (asked_in c caller) (c.group.gateways.next caller) o.position Unasked =
-                subst (StageFits c.group.shape c.failed (waits c.group.shape c.group.words.cut c.group.gateways.requests c.group.gateways.parked caller) (asked_in c caller) (c.group.gateways.next caller) o.position) same f.1 in
+            subst (StageFits c.group.shape c.failed (waits c.group.shape c.group.words.cut c.group.gateways.requests c.group.gateways.parked caller) (asked_in c caller) (c.group.gateways.next caller) o.position) same f.1 in
             let more = asks-made caller c.made [] in
             let at_next = g.0 in
             ask-none (c.made ++ []) caller (c.group.gateways.next caller) o.op (omega (arith, more, at_next))

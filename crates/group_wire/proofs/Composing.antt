@@ -1,12 +1,11 @@
 -- What members that haven't failed do, as events of the machine.
-use Rattle.std.proofs.Common.{ℕ, zero, suc, ◌≡◌, ◌≢◌, ◌<◌, ◌≤◌, ◌+◌, ◌⊎◌, ◌&&◌, ◌||◌, inl, inr, nat_lt, not, Bool, true, false, List, [], ◌∷◌, ◌++◌, Option, Some, None, length, take, map, refl, sym, ap, subst, ◌∙◌, arith, All}
-use Rattle.std.proofs.lemmas.List.{append-nil, append_assoc}
+use Rattle.std.proofs.Common.{ℕ, ◌≡◌, ◌≢◌, ◌<◌, ◌≤◌, ◌+◌, Bool, true, false, List, [], ◌∷◌, ◌++◌, length, refl, sym, ap, subst, ◌∙◌, All}
+use Rattle.std.proofs.lemmas.List.{append-nil}
 use Rattle.std.specs.List.{range_with_len}
 use Rattle.group_types.specs.Dimensions.{Dimensions}
 use Rattle.group_types.specs.Lists.{at}
-use Rattle.group_types.specs.Names.{IsProcess, index_of, process_at, same_process}
+use Rattle.group_types.specs.Names.{IsProcess, index_of}
 use Rattle.group_types.specs.declared.process.ProcessId.{ProcessId}
-use Rattle.group_types.proofs.Names.{same-cases}
 use Rattle.membership.specs.Members.{knows_dead}
 use Rattle.memc_table.specs.Act.{value_of}
 use Rattle.memc_table.specs.Asked.{Asked}
@@ -17,21 +16,21 @@ use Rattle.group_calls.specs.declared.event.Answer.TheVariants as says
 use Rattle.group_calls.specs.declared.event.Event.{Event}
 use Rattle.group_calls.specs.declared.event.Event.TheVariants as event
 use Rattle.group_run.specs.Applying.{ProcessStep, quiet, head_at}
-use Rattle.group_run.specs.Asking.{CallStep, ask_process, collect_from, fate_of}
-use Rattle.group_run.specs.Headline.{IsRun, MayCome}
+use Rattle.group_run.specs.Asking.{ask_process, collect_from, fate_of}
+use Rattle.group_run.specs.Headline.{MayCome}
 use Rattle.group_run.specs.Heading.{partition}
 use Rattle.group_run.specs.Process.{Node, Process}
 use Rattle.group_run.specs.Receiving.{receive}
 use Rattle.group_run.specs.Replica.{callers}
-use Rattle.group_run.specs.World.{World, DeliveryStep, NodeStep, after, all_change, ask_node, deliver_nodes, delivered, flush_process, if_up, link_emptied, next_name, node_after, node_in, node_of, receive_node, step, treated, unchanged, with_link, with_node}
+use Rattle.group_run.specs.World.{World, NodeStep, after, ask_node, deliver_nodes, delivered, flush_process, if_up, next_name, node_in, node_of, receive_node, step, treated, unchanged, with_link, with_node}
 use Rattle.law_moves.proofs.Reading.{node-back, node-here, node-other, size-with_node}
 use Rattle.law_moves.proofs.Steps.{NodeActs, node_acts, node_receives}
 use Rattle.group_wire.specs.Composed.{Made}
 use Rattle.group_wire.specs.Composition.{Carried}
 use Rattle.group_wire.specs.Sets.{Processes, changed, changed_from, one_or, size_of, with_one}
 use Rattle.group_wire.specs.State.{Works}
-use Rattle.group_wire.specs.Stepping.{stepped}
-use Rattle.group_wire.proofs.Extending.{Makes, after-made, events_in, makes-more, nodes-many, settled_then, shape-after, unknown-after, up-after}
+use Rattle.group_wire.specs.Sending.{stepped}
+use Rattle.group_wire.proofs.Extending.{Makes, after-made, events_in, makes-more, nodes-many, shape-after, unknown-after, up-after}
 use Rattle.group_wire.proofs.Mirrors.{Mirrors, link_in, mirrors-acts, mirrors-popped, mirrors-taken}
 use Rattle.group_wire.proofs.Positions.{asked_by}
 use Rattle.group_wire.proofs.Requests.{Living}

@@ -1,5 +1,5 @@
 -- Runs of a group on its machines compose to runs of the machine.
-use Rattle.std.proofs.Common.{ℕ, ◌≡◌, ◌≢◌, ◌<◌, ◌≤◌, ◌+◌, ◌⊎◌, inl, inr, Bool, true, false, List, [], ◌∷◌, ◌++◌, Option, Some, None, map, refl, sym, ap, subst, ◌∙◌, arith}
+use Rattle.std.proofs.Common.{ℕ, ◌≡◌, ◌≢◌, ◌<◌, ◌⊎◌, inl, inr, Bool, true, false, List, [], ◌∷◌, ◌++◌, Option, Some, None, refl, sym, ap, subst, ◌∙◌, arith}
 use Rattle.group_types.specs.Dimensions.{Dimensions}
 use Rattle.group_types.specs.Lists.{at}
 use Rattle.group_types.specs.Names.{IsProcess, index_of}
@@ -7,17 +7,17 @@ use Rattle.group_types.specs.declared.process.ProcessId.{ProcessId}
 use Rattle.group_message.specs.declared.message.Message.{Message}
 use Rattle.group_message.specs.declared.message.Message.TheVariants as tells
 use Rattle.group_run.specs.Fitting.{Fits}
-use Rattle.group_run.specs.Meaning.{IsDown, Lives, is_dead, link, process_of}
+use Rattle.group_run.specs.Meaning.{is_dead, link, process_of}
 use Rattle.group_run.specs.Process.{Process}
-use Rattle.group_run.specs.World.{World, after, dead_nodes, node_in}
+use Rattle.group_run.specs.World.{dead_nodes, node_in}
 use Rattle.law_headline.proofs.Headlines.{fits_always, headline_always}
-use Rattle.group_wire.specs.Actions.{Action, Receive, Take}
-use Rattle.group_wire.specs.Composed.{AreActions, Composed, composed, composed_from, events_of, opening_composed}
+use Rattle.group_wire.specs.Actions.{Receive, Take}
+use Rattle.group_wire.specs.Composed.{Composed, composed, events_of, opening_composed}
 use Rattle.group_wire.specs.Composition.{Carried, HasNotFailed, IsComposed, IsPositioned, MisfitsNeverCome, NoticesFit, PositionsAlways, RunsCompose, machine}
 use Rattle.group_wire.specs.May.{MayAct}
 use Rattle.group_wire.specs.Sets.{one_or}
 use Rattle.group_wire.specs.State.{AskedOf, Answered, OpenCall, Stage, TracedAt, Unasked, Unknown, gateway_of}
-use Rattle.group_wire.proofs.Extending.{events_in, few-dead, shape-after}
+use Rattle.group_wire.proofs.Extending.{few-dead, shape-after}
 use Rattle.group_wire.proofs.Honest.{shape-from}
 use Rattle.group_wire.proofs.Mirrors.{link_in}
 use Rattle.group_wire.proofs.Positions.{CallFits, StageFits, asked_in}

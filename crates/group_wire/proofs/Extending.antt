@@ -1,14 +1,13 @@
 -- Runs of the machine that become longer by one event, beside the answers that members gave.
-use Rattle.std.proofs.Common.{ℕ, zero, suc, ◌≡◌, ◌≢◌, ◌<◌, ◌≤◌, ◌+◌, ◌==◌, ◌⊎◌, inl, inr, nat_lt, Bool, true, false, List, [], ◌∷◌, ◌++◌, Option, Some, None, length, map, refl, sym, ap, subst, ◌∙◌, if◌then◌else◌, arith}
+use Rattle.std.proofs.Common.{ℕ, zero, suc, ◌≡◌, ◌≢◌, ◌≤◌, ◌+◌, ◌==◌, ◌⊎◌, inl, inr, nat_lt, Bool, false, List, [], ◌∷◌, ◌++◌, length, map, refl, sym, ap, subst, ◌∙◌, if◌then◌else◌, arith}
 use Rattle.std.proofs.lemmas.Bool.{cases_eq, eq-eqb, ne_eqb}
 use Rattle.std.proofs.lemmas.Grind.{common_steps}
 use Rattle.std.specs.List.{range_with_len}
 use Rattle.group_types.specs.Dimensions.{Dimensions}
 use Rattle.group_types.specs.Lists.{at}
 use Rattle.group_types.specs.Names.{IsProcess, index_of, process_at}
-use Rattle.group_types.specs.Shape.{IsShape}
 use Rattle.group_types.specs.declared.process.ProcessId.{ProcessId}
-use Rattle.group_types.proofs.Lists.{at-put, at-put-other, at-replicate}
+use Rattle.group_types.proofs.Lists.{at-put, at-put-other}
 use Rattle.group_types.proofs.Names.{process_at-in}
 use Rattle.membership.specs.Members.{count_dead, knows_dead}
 use Rattle.group_message.specs.declared.update.Update.{Update}
@@ -18,16 +17,14 @@ use Rattle.group_calls.specs.declared.event.Event.{Event}
 use Rattle.group_calls.specs.declared.event.Event.TheVariants as event
 use Rattle.group_run.specs.Headline.{IsRun, IsRunFrom, MayCome}
 use Rattle.group_run.specs.History.{History, history_of, no_history}
-use Rattle.group_run.specs.Process.{Node}
-use Rattle.group_run.specs.Replica.{callers}
-use Rattle.group_run.specs.World.{World, after, dead_nodes, node_in, opening, step, turns_of, world_after}
-use Rattle.law_moves.specs.State.{State, lost_in, state_from, state_of}
-use Rattle.law_moves.proofs.Events.{Framed, FramedHistory, lost-nodes}
+use Rattle.group_run.specs.World.{World, after, dead_nodes, node_in, opening, step, turns_of}
+use Rattle.law_moves.specs.State.{lost_in, state_from}
+use Rattle.law_moves.proofs.Events.{Framed, lost-nodes}
 use Rattle.law_moves.proofs.Keeping.{living-unknown, members_always}
 use Rattle.law_moves.proofs.Members.{Members}
 use Rattle.law_moves.proofs.Runs.{framed-from, framed-opening, shape-from, world-from}
 use Rattle.law_answers.proofs.Entries.{after-more, run-more, turns-more}
-use Rattle.group_wire.specs.Composed.{Made, asks_among}
+use Rattle.group_wire.specs.Composed.{Made}
 use Rattle.group_wire.specs.Sets.{Processes, size_of}
 use Rattle.group_wire.proofs.Positions.{asked_by, asks-made}
 

@@ -1,5 +1,5 @@
 -- A permitted set fails, one process after the other.
-use Rattle.std.proofs.Common.{ℕ, zero, suc, ◌≡◌, ◌≢◌, ◌<◌, ◌≤◌, ◌+◌, ◌⊎◌, ◌&&◌, ◌||◌, inl, inr, nat_lt, not, Bool, true, false, List, [], ◌∷◌, ◌++◌, map, refl, sym, ap, subst, ◌∙◌, arith}
+use Rattle.std.proofs.Common.{ℕ, zero, suc, ◌≡◌, ◌≢◌, ◌<◌, ◌≤◌, ◌+◌, ◌⊎◌, ◌&&◌, ◌||◌, inl, inr, nat_lt, not, Bool, true, false, List, [], ◌∷◌, ◌++◌, refl, sym, ap, subst, ◌∙◌, arith}
 use Rattle.std.proofs.lemmas.Bool.{cases_lt}
 use Rattle.std.proofs.lemmas.Grind.{common_steps}
 use Rattle.std.proofs.lemmas.List.{append-nil, append_assoc}
@@ -11,13 +11,13 @@ use Rattle.group_types.proofs.Names.{index-below, index-process_at, process_at-i
 use Rattle.group_calls.specs.declared.event.Answer.TheVariants as says
 use Rattle.group_calls.specs.declared.event.Event.TheVariants as event
 use Rattle.group_run.specs.Process.{Node}
-use Rattle.group_run.specs.World.{World, after, all_change, front_if, node_failed, node_in, node_of, nodes_told, step, with_node}
+use Rattle.group_run.specs.World.{World, after, all_change, front_if, node_in, node_of}
 use Rattle.group_wire.specs.Composed.{Made, failures_at}
-use Rattle.group_wire.specs.Sets.{Processes, changed, either, with_one}
+use Rattle.group_wire.specs.Sets.{Processes, either, with_one}
 use Rattle.group_wire.specs.State.{Works}
 use Rattle.group_wire.proofs.Changes.{changed-here, changed-other}
 use Rattle.group_wire.proofs.Composing.{Composes}
-use Rattle.group_wire.proofs.Extending.{Makes, after-made, events_in, makes-more, nodes-many, shape-after}
+use Rattle.group_wire.proofs.Extending.{after-made, events_in, makes-more, nodes-many, shape-after}
 use Rattle.group_wire.proofs.Mirrors.{Mirrors, mirrors-as, mirrors-failed}
 use Rattle.group_wire.proofs.Requests.{Living}
 

@@ -1,19 +1,18 @@
 -- The barrier and the pings along every run, and what follows of an answer that is shown.
-use Rattle.std.proofs.Common.{ℕ, ◌≡◌, ◌≢◌, ◌<◌, ◌≤◌, ◌+◌, ◌⊎◌, ◌&&◌, ◌||◌, nat_lt, not, inl, inr, Bool, true, false, List, [], ◌∷◌, refl, sym, ap, subst, ◌∙◌, arith}
+use Rattle.std.proofs.Common.{ℕ, ◌≡◌, ◌≢◌, ◌<◌, ◌≤◌, ◌+◌, ◌⊎◌, ◌&&◌, not, inl, inr, Bool, true, false, List, [], ◌∷◌, refl, sym, ap, subst, ◌∙◌, arith}
 use Rattle.std.proofs.lemmas.Bool.{cases_lt}
-use Rattle.std.proofs.lemmas.Grind.{common_steps}
 use Rattle.std.specs.List.{list_any}
 use Rattle.group_types.specs.Dimensions.{Dimensions}
 use Rattle.group_types.specs.Names.{IsProcess}
 use Rattle.group_types.specs.declared.process.ProcessId.{ProcessId}
-use Rattle.group_wire.specs.Actions.{Action, Permit, Show}
+use Rattle.group_wire.specs.Actions.{Action, Show}
 use Rattle.group_wire.specs.Composed.{AreActions, AreActionsFrom, Composed, composed, composed_from, composed_with, opening_composed}
-use Rattle.group_wire.specs.Laws.{BarrierAlways, FewAreNamed, IsBarred, MoreDataThanParity, NoTwoHoldAll, PermitsExactly, SentAlive, ShownByLiving}
-use Rattle.group_wire.specs.May.{MayAct, MayShow, answerers}
-use Rattle.group_wire.specs.Sets.{IsWithin, Processes, either, one_or, size_of}
-use Rattle.group_wire.specs.State.{Group, gateway_of}
+use Rattle.group_wire.specs.Laws.{BarrierAlways, FewAreNamed, MoreDataThanParity, NoTwoHoldAll, PermitsExactly, SentAlive, ShownByLiving}
+use Rattle.group_wire.specs.May.{MayAct, answerers}
+use Rattle.group_wire.specs.Sets.{IsWithin, either, one_or, size_of}
+use Rattle.group_wire.specs.State.{gateway_of}
 use Rattle.group_wire.proofs.Barrier.{Barred, Deposed, barred-opening, barred-step, or-left, permitted-fails, told}
-use Rattle.group_wire.proofs.Changes.{either-left, either-not, either-right, either-which, size-within}
+use Rattle.group_wire.proofs.Changes.{either-not, either-right, either-which, size-within}
 use Rattle.group_wire.proofs.Counting.{lacks, size-apart, size-either}
 use Rattle.group_wire.proofs.Signs.{Signed, signed-opening, signed-step}
 

@@ -1,9 +1,9 @@
 -- The members that haven't failed, and the wires between them, beside the nodes of the machine.
-use Rattle.std.proofs.Common.{ℕ, zero, suc, ◌≡◌, ◌≢◌, ◌<◌, ◌≤◌, ◌+◌, ◌⊎◌, inl, inr, Bool, true, false, List, [], ◌∷◌, ◌++◌, length, take, map, refl, sym, ap, subst, ◌∙◌, arith}
-use Rattle.std.proofs.lemmas.List.{append-nil, append_assoc, length-map}
+use Rattle.std.proofs.Common.{◌≡◌, ◌≢◌, ◌+◌, ◌⊎◌, inl, inr, Bool, true, false, List, [], ◌∷◌, ◌++◌, length, refl, sym, ap, subst, ◌∙◌}
+use Rattle.std.proofs.lemmas.List.{append-nil, append_assoc}
 use Rattle.group_types.specs.Dimensions.{Dimensions}
 use Rattle.group_types.specs.Lists.{at}
-use Rattle.group_types.specs.Names.{IsProcess, index_of, same_process}
+use Rattle.group_types.specs.Names.{IsProcess, index_of}
 use Rattle.group_types.specs.declared.process.ProcessId.{ProcessId}
 use Rattle.group_types.proofs.Lists.{at-put, at-put-other}
 use Rattle.group_types.proofs.Names.{same-cases}
@@ -12,8 +12,8 @@ use Rattle.group_message.specs.declared.message.Message.{Message}
 use Rattle.group_message.specs.declared.message.Message.TheVariants as tells
 use Rattle.group_message.specs.declared.update.Update.{Update}
 use Rattle.group_run.specs.Applying.{ProcessStep}
-use Rattle.group_run.specs.Process.{Process, Node, opening_process}
-use Rattle.group_run.specs.World.{node_failed, node_in, nodes_told, opening_node, sent_to, with_link, with_node}
+use Rattle.group_run.specs.Process.{Node}
+use Rattle.group_run.specs.World.{node_failed, node_in, nodes_told, sent_to, with_link, with_node}
 use Rattle.law_moves.specs.State.{state_from}
 use Rattle.law_moves.proofs.Moves.{Died}
 use Rattle.law_moves.proofs.Reading.{index-apart, node-here, node-other}
@@ -21,7 +21,7 @@ use Rattle.law_moves.proofs.Steps.{NodeActs, died}
 use Rattle.group_wire.specs.Composition.{Carried}
 use Rattle.group_wire.specs.Sets.{Processes, changed, changed_from, one_or, with_one}
 use Rattle.group_wire.specs.State.{Works}
-use Rattle.group_wire.specs.Stepping.{sent_to_all, stepped}
+use Rattle.group_wire.specs.Sending.{stepped}
 use Rattle.group_wire.proofs.Changes.{changed-each, changed-here, changed-other}
 use Rattle.group_wire.proofs.Requests.{Living}
 

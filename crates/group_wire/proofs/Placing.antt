@@ -1,15 +1,14 @@
 -- Every action that may come keeps positions.
-use Rattle.std.proofs.Common.{ℕ, zero, suc, ◌≡◌, ◌≢◌, ◌<◌, ◌≤◌, ◌+◌, ◌%◌, ◌⊎◌, ◌&&◌, inl, inr, nat_le, not, Bool, true, false, List, [], ◌∷◌, ◌++◌, Option, Some, None, map, refl, sym, ap, subst, ◌∙◌, arith, All}
-use Rattle.std.proofs.lemmas.Bool.{cases_eq}
+use Rattle.std.proofs.Common.{ℕ, zero, suc, ◌≡◌, ◌<◌, ◌+◌, ◌%◌, ◌⊎◌, ◌&&◌, inl, inr, nat_le, not, Bool, true, false, List, [], ◌∷◌, ◌++◌, Option, Some, None, map, refl, sym, ap, subst, ◌∙◌, arith}
 use Rattle.std.proofs.lemmas.Grind.{common_steps}
 use Rattle.std.proofs.lemmas.List.{append-nil}
 use Rattle.std.specs.List.{range_with_len}
-use Rattle.group_types.specs.Dimensions.{Dimensions, callers}
+use Rattle.group_types.specs.Dimensions.{Dimensions}
 use Rattle.group_types.specs.Each.{Each}
 use Rattle.group_types.specs.Hash.{home_of}
 use Rattle.group_types.specs.Names.{IsProcess, process_at}
 use Rattle.group_types.specs.declared.process.ProcessId.{ProcessId}
-use Rattle.memc_table.specs.Act.{key_of, value_of}
+use Rattle.memc_table.specs.Act.{key_of}
 use Rattle.memc_table.specs.Asked.{Asked}
 use Rattle.memc_table.specs.declared.reply.Reply.{Reply}
 use Rattle.group_message.specs.declared.message.Message.{Message}
@@ -20,16 +19,17 @@ use Rattle.group_run.specs.Asking.{collect_from}
 use Rattle.group_run.specs.Heading.{partition}
 use Rattle.group_run.specs.World.{front_if}
 use Rattle.group_wire.specs.Actions.{Action, Begin, Send, Read, Treat, Collect, Flush, Learn, Receive, GiveUp, Cut, Say, Hear, Permit, Take, Ping, Pong, Count, Show, Stop}
-use Rattle.group_wire.specs.Composed.{Composed, Made, asks_among, call_given_up, composed_with, events_of, failed_after, failures_at, given_up, lost_ask, made_by, message_made, request_made, stands_if}
+use Rattle.group_wire.specs.Composed.{Composed, Made, asks_among, call_given_up, composed_with, events_of, failed_after, failures_at, given_up, lost_ask, message_made, request_made, stands_if}
 use Rattle.group_wire.specs.May.{CallIsTold, IsToldBefore, MayAct, WaitsForDead, call_waits_for, waits_for}
-use Rattle.group_wire.specs.Sets.{Processes, changed, changed_at, changed_from, either, entry_at, one_or, with_one, without}
+use Rattle.group_wire.specs.Sets.{Processes, changed, either, one_or, with_one, without}
 use Rattle.group_wire.specs.State.{Request, AskFor, TraceOf, Told, Stage, Unasked, AskedOf, Unknown, TracedAt, Answered, OpenCall, Gateways, Group, gateway_of, opening_group}
-use Rattle.group_wire.specs.Stepping.{again, gateways_after, handed_to, heard_first, if_open, learned_first, parked_at, read_first, request_treated, sends_by, sent_on, stage_given_up, staged, tell, told_of, treating, words_after}
+use Rattle.group_wire.specs.Sending.{heard_first, parked_at, sent_on, treating, words_after}
+use Rattle.group_wire.specs.Serving.{again, gateways_after, handed_to, if_open, learned_first, read_first, request_treated, sends_by, stage_given_up, staged, tell, told_of}
 use Rattle.group_wire.proofs.Barrier.{Barred}
 use Rattle.group_wire.proofs.Calling.{given-up-fits, positioned-asks, positioned-learns, positioned-traces}
 use Rattle.group_wire.proofs.Changes.{changed-each, changed_at-here, either-not, grown-set}
 use Rattle.group_wire.proofs.Positions.{CallFits, NoneWait, Positioned, StageFits, asked_by, asked_in, asks-once, asks-quiet, positioned-as, positioned-call, positioned-cut, positioned-fail, positioned-once, positioned-read, positioned-taken, positioned-told, positioned-treated}
-use Rattle.group_wire.proofs.Requests.{FitsAsked, Living, Placed, asked_once, each-entry, waits}
+use Rattle.group_wire.proofs.Requests.{FitsAsked, Living, asked_once, each-entry, waits}
 
 -- what a group's words, failures and gateways are
 abbrev pub PositionedAt : Group → Processes → (ℕ → ℕ) → Type 0

@@ -1,25 +1,23 @@
 -- Callers' positions along runs: a caller whose gateway hasn't failed has asked as often as its gateway says, but for an
 -- ask that is on its way, is kept, or is lost.
-use Rattle.std.proofs.Common.{ℕ, zero, suc, ◌≡◌, ◌≢◌, ◌<◌, ◌≤◌, ◌+◌, ◌==◌, ◌⊎◌, inl, inr, Bool, true, false, List, [], ◌∷◌, ◌++◌, Option, Some, None, map, refl, sym, ap, subst, ◌∙◌, if◌then◌else◌, arith, All}
+use Rattle.std.proofs.Common.{ℕ, suc, ◌≡◌, ◌≢◌, ◌<◌, ◌≤◌, ◌+◌, ◌==◌, ◌⊎◌, inl, inr, Bool, true, false, List, [], ◌∷◌, ◌++◌, Option, Some, None, map, refl, sym, ap, subst, if◌then◌else◌, arith, All}
 use Rattle.std.proofs.lemmas.Bool.{cases_eq, eq-eqb, ne_eqb}
-use Rattle.std.proofs.lemmas.List.{map-append}
-use Rattle.group_types.specs.Dimensions.{Dimensions, callers}
+use Rattle.group_types.specs.Dimensions.{Dimensions}
 use Rattle.group_types.specs.Each.{Each}
-use Rattle.group_types.specs.Names.{IsProcess, same_process}
+use Rattle.group_types.specs.Names.{IsProcess}
 use Rattle.group_types.specs.declared.process.ProcessId.{ProcessId}
 use Rattle.group_types.proofs.Eaches.{each-append, each-weaker}
-use Rattle.group_types.proofs.Names.{same-cases}
 use Rattle.memc_table.specs.Act.{value_of}
 use Rattle.memc_table.specs.Asked.{Asked}
 use Rattle.group_calls.specs.Turns.{asks_in}
 use Rattle.group_calls.specs.declared.event.Event.{Event}
 use Rattle.group_calls.specs.declared.event.Event.TheVariants as event
 use Rattle.group_wire.specs.Sets.{Processes, changed, changed_at, changed_from, entry_at, one_or, without}
-use Rattle.group_wire.specs.State.{Request, AskFor, TraceOf, Told, Stage, Unasked, AskedOf, Unknown, TracedAt, Answered, OpenCall, Gateways, Group, gateway_of}
-use Rattle.group_wire.specs.Stepping.{sent_on, tell}
-use Rattle.group_wire.specs.Composed.{Composed, Made, asks_among, events_of}
-use Rattle.group_wire.proofs.Changes.{changed-each, changed-here, changed-other, changed-pairs, changed_at-each, changed_at-here, one_or-is}
-use Rattle.group_wire.proofs.Requests.{FitsAsked, Living, Placed, asked_once, caller_in, cut-fewer, is_ask, none-left, one-waiting, placed-cut, placed-fail, placed-once, placed-read, placed-sent, placed-taken, read-fewer, sent-which, taken-fewer, waits, with_sent}
+use Rattle.group_wire.specs.State.{Request, AskFor, Told, Stage, Unasked, AskedOf, Unknown, TracedAt, Answered, OpenCall, Gateways, gateway_of}
+use Rattle.group_wire.specs.Sending.{sent_on}
+use Rattle.group_wire.specs.Composed.{Composed, Made, asks_among}
+use Rattle.group_wire.proofs.Changes.{changed-pairs, changed_at-each, changed_at-here, one_or-is}
+use Rattle.group_wire.proofs.Requests.{Living, Placed, asked_once, cut-fewer, none-left, one-waiting, placed-cut, placed-fail, placed-once, placed-read, placed-taken, read-fewer, taken-fewer, waits}
 
 -- no member that hasn't failed waits for it
 abbrev pub NoneWait : Dimensions → Processes → (ProcessId → ℕ) → Type 0

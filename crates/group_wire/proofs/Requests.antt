@@ -3,15 +3,15 @@ use Rattle.std.proofs.Common.{ℕ, zero, suc, ◌≡◌, ◌≢◌, ◌<◌, ◌
 use Rattle.std.proofs.lemmas.Bool.{cases_eq, eq-eqb, ne_eqb}
 use Rattle.group_types.specs.Dimensions.{Dimensions, callers}
 use Rattle.group_types.specs.Each.{Each}
-use Rattle.group_types.specs.Names.{IsProcess, same_process}
+use Rattle.group_types.specs.Names.{IsProcess}
 use Rattle.group_types.specs.declared.process.ProcessId.{ProcessId}
-use Rattle.group_types.proofs.Eaches.{each-append, each-weaker}
+use Rattle.group_types.proofs.Eaches.{each-append}
 use Rattle.group_types.proofs.Names.{same-cases}
 use Rattle.memc_table.specs.Act.{value_of}
 use Rattle.memc_table.specs.Asked.{Asked}
-use Rattle.group_wire.specs.Sets.{Processes, changed, changed_at, changed_from, either, entry_at, one_or, with_one, without}
+use Rattle.group_wire.specs.Sets.{Processes, changed, changed_at, changed_from, entry_at, one_or, without}
 use Rattle.group_wire.specs.State.{Request, AskFor, TraceOf, gateway_of}
-use Rattle.group_wire.proofs.Changes.{changed-each, changed-here, changed-other, changed-pairs, changed_at-each, changed_at-here, one_or-is}
+use Rattle.group_wire.proofs.Changes.{changed-each, changed-here, changed-other, changed-pairs, changed_at-each, one_or-is}
 
 abbrev pub caller_in : Request → ℕ
 caller_in (AskFor caller call op) = caller
@@ -408,7 +408,7 @@ module _ (s : Dimensions) (cut : ProcessId → Processes) (failed : Processes) (
     by (inl same) =
         let open_to : cut x (gateway_of s who) ≡ false = ap (cut x) same ∙ uncut in
         let all : one_or false 0 (count_asks who (requests (gateway_of s who) x)) + count_asks who (parked x) ≡ 0 =
-            ap (λ (c : Bool). one_or c 0 (count_asks who (requests (gateway_of s who) x)) + count_asks who (parked x)) (sym open_to) ∙ none x lives in
+        ap (λ (c : Bool). one_or c 0 (count_asks who (requests (gateway_of s who) x)) + count_asks who (parked x)) (sym open_to) ∙ none x lives in
         let here : count_asks who (requests g x) ≡ count_asks who (requests (gateway_of s who) x) = ap (λ (a : ProcessId). count_asks who (requests a x)) (sym same) in
         omega (arith, all, here)
 

@@ -1,40 +1,38 @@
 -- What is shown is the answer of a member's event, and a reply stands in the log since the call began.
-use Rattle.std.proofs.Common.{ℕ, zero, suc, ◌≡◌, ◌≢◌, ◌<◌, ◌≤◌, ◌+◌, ◌⊎◌, inl, inr, Bool, true, false, List, [], ◌∷◌, ◌++◌, Option, Some, None, length, take, drop, map, refl, sym, ap, subst, ◌∙◌, arith}
+use Rattle.std.proofs.Common.{ℕ, zero, suc, ◌≡◌, ◌<◌, ◌≤◌, ◌+◌, ◌⊎◌, inl, inr, false, List, [], ◌∷◌, ◌++◌, Option, Some, None, length, take, drop, map, refl, sym, ap, subst, ◌∙◌, arith}
 use Rattle.std.proofs.lemmas.Bool.{cases_lt}
-use Rattle.std.proofs.lemmas.List.{append-nil, append_assoc, length-append, take-append-drop}
-use Rattle.std.proofs.lemmas.Option.{slice_get_within}
-use Rattle.std.specs.Prelude.{Contains, slice_get}
+use Rattle.std.proofs.lemmas.List.{append_assoc, length-append, take-append-drop}
+use Rattle.std.specs.Prelude.{slice_get}
 use Rattle.group_types.specs.Dimensions.{Dimensions}
 use Rattle.group_types.specs.declared.process.ProcessId.{ProcessId}
 use Rattle.memc_table.specs.Asked.{Asked}
 use Rattle.memc_table.specs.declared.reply.Reply.{Reply}
 use Rattle.group_calls.specs.Turns.{CallName, Turn, asks_in, asks_of, entry_of, log_of}
-use Rattle.group_calls.specs.Within.{AnswersWithin, Fetches, IsAsk, IsLoggedSince}
+use Rattle.group_calls.specs.Within.{Fetches, IsAsk, IsLoggedSince}
 use Rattle.group_calls.specs.declared.entry.Entry.{Entry}
 use Rattle.group_calls.specs.declared.event.Answer.{Answer}
 use Rattle.group_calls.specs.declared.event.Answer.TheVariants as says
 use Rattle.group_calls.specs.declared.event.Event.{Event}
 use Rattle.group_calls.specs.declared.event.Event.TheVariants as event
 use Rattle.group_run.specs.Headline.{OneLog}
-use Rattle.group_run.specs.World.{World, after, opening, step, turns_from, turns_of}
+use Rattle.group_run.specs.World.{World, opening, step, turns_from, turns_of}
 use Rattle.law_log.proofs.Turnings.{asks-self, contained-get, get-left}
 use Rattle.law_headline.proofs.Headlines.{headline_always}
 use Rattle.group_wire.specs.Actions.{Action, Show}
-use Rattle.group_wire.specs.Composed.{AreActions, Composed, Made, asks_among, composed, events_of, opening_composed}
-use Rattle.group_wire.specs.Composition.{machine}
+use Rattle.group_wire.specs.Composed.{AreActions, Composed, Made, asks_among, composed, events_of}
 use Rattle.group_wire.specs.Laws.{NoTwoHoldAll, SentAlive}
 use Rattle.group_wire.specs.May.{CallIsTold, IsToldBefore, MayAct}
-use Rattle.group_wire.specs.Shown.{IsLoggedSinceBegun, IsOfCall, ShownIsLogged, ShownIsMade, Shows, WasMade, events_before}
+use Rattle.group_wire.specs.Shown.{IsLoggedSinceBegun, IsOfCall, ShownIsLogged, ShownIsMade, Shows, events_before}
 use Rattle.group_wire.specs.State.{Answered, OpenCall, Stage, Told, gateway_of}
 use Rattle.group_wire.proofs.Answering.{Solid, SolidCall, SolidStage}
 use Rattle.group_wire.proofs.Extending.{events_in}
-use Rattle.group_wire.proofs.Honest.{honest, shape-from, shown-alive}
+use Rattle.group_wire.proofs.Honest.{honest, shown-alive}
 use Rattle.group_wire.proofs.Positions.{asked_by}
 use Rattle.group_wire.proofs.Clients.{wanted}
 use Rattle.group_wire.proofs.Telling.{LearnedAt, learned}
 use Rattle.group_wire.proofs.Wanting.{AskIs}
 use Rattle.group_wire.proofs.Wants.{FirmCall, FirmStage}
-use Rattle.group_wire.proofs.Whole.{Whole, asks-past, turn-events, whole}
+use Rattle.group_wire.proofs.Whole.{Whole, whole}
 
 -- a list of turns, and what was made beside it
 made-turn : (w : World) (made : List Made) (place : ℕ) (x : Made) → slice_get made place ≡ Some x → map (λ (t : Turn). t.answer) (turns_from w (events_in made)) ≡ map (λ x. x.answer) made
@@ -128,7 +126,6 @@ told-alive c caller ping o t alive may shows = by alive where
   by (inr low) = inr (let first = before in omega (arith, first, low))
 
 module _ (c : Composed) (h : Whole c) (b : LearnedAt c) where
-
   -- what is shown by a living gateway, or one that lived when it sent the ping, is solid
   pub shown-solid : (caller ping : ℕ) (o : OpenCall) (t : Told) → SentAlive c (gateway_of c.group.shape caller) ping → MayAct c.group (Show caller ping) → Shows c caller o t → Solid c.made c.begun caller o.position t
   shown-solid caller ping o t alive may shows = sol.1 (told-alive c caller ping o t alive may shows) where

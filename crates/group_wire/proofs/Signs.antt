@@ -1,16 +1,15 @@
 -- Pings and pongs along runs: who answers a ping that was sent by a member after it failed has failed too.
-use Rattle.std.proofs.Common.{ℕ, suc, ◌≡◌, ◌≢◌, ◌<◌, ◌≤◌, ◌+◌, ◌⊎◌, inl, inr, Bool, true, false, List, [], ◌∷◌, ◌++◌, refl, sym, ap, subst, ◌∙◌, arith}
+use Rattle.std.proofs.Common.{ℕ, suc, ◌≡◌, ◌≢◌, ◌<◌, ◌≤◌, Bool, true, false, List, [], ◌∷◌, ◌++◌, refl, ap, subst, arith}
 use Rattle.group_types.specs.Dimensions.{Dimensions}
 use Rattle.group_types.specs.Each.{Each}
-use Rattle.group_types.specs.Names.{IsProcess, same_process}
 use Rattle.group_types.specs.declared.process.ProcessId.{ProcessId}
 use Rattle.group_types.proofs.Eaches.{each-append, each-weaker}
 use Rattle.group_wire.specs.Actions.{Action, Begin, Send, Read, Treat, Collect, Flush, Learn, Receive, GiveUp, Cut, Say, Hear, Permit, Take, Ping, Pong, Count, Show, Stop}
 use Rattle.group_wire.specs.Composed.{Composed, failed_after, lived_after}
 use Rattle.group_wire.specs.May.{MayAct}
-use Rattle.group_wire.specs.Sets.{Processes, changed, changed_at, changed_from, either, nobody, one_or, with_one}
-use Rattle.group_wire.specs.State.{Group, Signs, opening_group}
-use Rattle.group_wire.specs.Stepping.{answered_first, counted_first, sent_on, sent_to_all, signs_after}
+use Rattle.group_wire.specs.Sets.{Processes, changed_at, either, nobody, one_or, with_one}
+use Rattle.group_wire.specs.State.{Signs, opening_group}
+use Rattle.group_wire.specs.Stepping.{answered_first, counted_first, signs_after}
 use Rattle.group_wire.proofs.Barrier.{Barred}
 use Rattle.group_wire.proofs.Changes.{changed-each, changed-here, changed-pairs, changed_at-each, either-left, one_or-is}
 

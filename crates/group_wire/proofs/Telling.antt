@@ -1,6 +1,6 @@
 -- Every action that may come keeps what gateways are told.
-use Rattle.std.proofs.Common.{ℕ, zero, suc, ◌≡◌, ◌≢◌, ◌<◌, ◌≤◌, ◌+◌, ◌==◌, ◌⊎◌, inl, inr, Bool, true, false, List, [], ◌∷◌, ◌++◌, Option, Some, None, length, take, map, refl, sym, ap, subst, ◌∙◌, arith, All}
-use Rattle.std.proofs.lemmas.Bool.{cases_eq, ne_eqb}
+use Rattle.std.proofs.Common.{ℕ, suc, ◌≡◌, ◌<◌, ◌≤◌, ◌+◌, ◌⊎◌, inl, inr, Bool, true, false, List, [], ◌∷◌, ◌++◌, Option, Some, None, refl, sym, ap, subst, arith}
+use Rattle.std.proofs.lemmas.Bool.{ne_eqb}
 use Rattle.std.specs.List.{range_with_len}
 use Rattle.group_types.specs.Dimensions.{Dimensions}
 use Rattle.group_types.specs.Each.{Each}
@@ -11,19 +11,19 @@ use Rattle.memc_table.specs.Act.{key_of}
 use Rattle.memc_table.specs.Asked.{Asked}
 use Rattle.memc_table.specs.declared.act.Act.{Act}
 use Rattle.memc_table.specs.declared.act.Act.TheVariants as act
-use Rattle.memc_table.specs.declared.reply.Reply.{Reply}
 use Rattle.group_calls.specs.declared.event.Answer.{Answer}
 use Rattle.group_calls.specs.declared.event.Answer.TheVariants as says
 use Rattle.group_calls.specs.declared.event.Event.TheVariants as event
 use Rattle.group_run.specs.Asking.{collect_from}
-use Rattle.group_run.specs.Heading.{partition}
 use Rattle.group_wire.specs.Actions.{Action, Begin, Send, Read, Treat, Collect, Flush, Learn, Receive, GiveUp, Cut, Say, Hear, Permit, Take, Ping, Pong, Count, Show, Stop}
-use Rattle.group_wire.specs.Composed.{AreActions, AreActionsFrom, Composed, Made, composed, composed_from, composed_with, failed_after, failures_at, made_by, opening_composed, request_event, request_made, stands_if}
+use Rattle.group_wire.specs.Composed.{AreActions, AreActionsFrom, Composed, Made, composed, composed_from, composed_with, failures_at, made_by, opening_composed, request_event, request_made, stands_if}
 use Rattle.group_wire.specs.May.{MayAct}
-use Rattle.group_wire.specs.Sets.{Processes, changed, changed_at, changed_from, either, entry_at, one_or, without}
+use Rattle.group_wire.specs.Sets.{Processes, changed, changed_at, changed_from, either, one_or, without}
 use Rattle.group_wire.specs.Shown.{IsOfCall, WasMade}
-use Rattle.group_wire.specs.State.{Request, AskFor, TraceOf, Told, Stage, Unasked, AskedOf, Unknown, TracedAt, Answered, OpenCall, Gateways, Group, Signs, gateway_of}
-use Rattle.group_wire.specs.Stepping.{again, answered_first, counted_first, handed_to, if_open, learned_first, parked_at, read_first, request_treated, sends_by, sent_on, stage_given_up, staged, tell, told_of, treating}
+use Rattle.group_wire.specs.State.{Request, AskFor, TraceOf, Told, Stage, Unasked, AskedOf, Unknown, TracedAt, Answered, OpenCall, Gateways, Group, gateway_of}
+use Rattle.group_wire.specs.Sending.{parked_at, sent_on, treating}
+use Rattle.group_wire.specs.Serving.{again, handed_to, if_open, learned_first, read_first, request_treated, sends_by, stage_given_up, staged, tell, told_of}
+use Rattle.group_wire.specs.Stepping.{answered_first, counted_first}
 use Rattle.group_wire.proofs.Answering.{BegunCall, BegunStage, Learned, SolidCall, SolidStage, asked_before, learned-begins, learned-call, learned-learns, learned-made, learned-more, learned-requests, learned-told, made-last}
 use Rattle.group_wire.proofs.Changes.{changed-each, changed_at-each, changed_at-here, either-not}
 use Rattle.group_wire.proofs.Positions.{CallFits, asked_by, asked_in}

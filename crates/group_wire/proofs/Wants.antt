@@ -1,26 +1,19 @@
 -- Every action that may come keeps what clients asked.
-use Rattle.std.proofs.Common.{ℕ, zero, suc, ◌≡◌, ◌≢◌, ◌<◌, ◌≤◌, ◌+◌, ◌==◌, ◌⊎◌, inl, inr, nat_le, Bool, true, false, List, [], ◌∷◌, ◌++◌, Option, Some, None, IfSome, length, take, map, refl, sym, ap, subst, ◌∙◌, arith, All}
-use Rattle.std.proofs.lemmas.Bool.{cases_eq, cases_lt, eq-eqb, ne_eqb}
-use Rattle.std.proofs.lemmas.List.{append-nil}
-use Rattle.std.specs.List.{range_with_len}
+use Rattle.std.proofs.Common.{ℕ, ◌≡◌, ◌≢◌, ◌<◌, ◌==◌, ◌⊎◌, inl, inr, Bool, true, false, List, ◌++◌, Option, Some, None, refl, sym, ap, subst, arith}
+use Rattle.std.proofs.lemmas.Bool.{cases_eq, eq-eqb, ne_eqb}
 use Rattle.group_types.specs.Dimensions.{Dimensions}
-use Rattle.group_types.specs.Each.{Each}
 use Rattle.group_types.specs.declared.process.ProcessId.{ProcessId}
 use Rattle.memc_table.specs.Asked.{Asked}
 use Rattle.memc_table.specs.declared.act.Act.{Act}
 use Rattle.memc_table.specs.declared.act.Act.TheVariants as act
 use Rattle.group_calls.specs.declared.event.Answer.{Answer}
-use Rattle.group_calls.specs.declared.event.Event.{Event}
-use Rattle.group_calls.specs.declared.event.Event.TheVariants as event
-use Rattle.group_wire.specs.Actions.{Action, Begin, Send, Read, Treat, Collect, Flush, Learn, Receive, GiveUp, Cut, Say, Hear, Permit, Take, Ping, Pong, Count, Show, Stop}
-use Rattle.group_wire.specs.Composed.{Composed, Made}
-use Rattle.group_wire.specs.Sets.{Processes, changed, changed_at, changed_from, one_or}
-use Rattle.group_wire.specs.State.{Request, AskFor, TraceOf, Told, Stage, Unasked, AskedOf, Unknown, TracedAt, Answered, OpenCall, Gateways, gateway_of}
-use Rattle.group_wire.specs.Stepping.{again, call_learned, stage_given_up, stage_learned, stage_told}
+use Rattle.group_wire.specs.Composed.{Made}
+use Rattle.group_wire.specs.Sets.{Processes, one_or}
+use Rattle.group_wire.specs.State.{Told, Stage, Unasked, AskedOf, Unknown, TracedAt, Answered, OpenCall}
+use Rattle.group_wire.specs.Serving.{again, call_learned, stage_given_up, stage_learned, stage_told}
 use Rattle.group_wire.proofs.Answering.{told-which}
-use Rattle.group_wire.proofs.Changes.{changed_at-each, changed_at-here}
 use Rattle.group_wire.proofs.Positions.{CallFits, NoneWait, StageFits, asked_by, asks-made}
-use Rattle.group_wire.proofs.Wanting.{AskIs, Right, Rights, ask-none, ask-one, ask-past, op_of, wants}
+use Rattle.group_wire.proofs.Wanting.{AskIs, ask-none, ask-past, op_of}
 
 -- the asks of a call at a stage are for its op
 abbrev pub AskStage : List Made → ℕ → ℕ → Asked → Stage → Type 0

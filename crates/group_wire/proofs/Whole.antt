@@ -1,5 +1,5 @@
 -- All that holds along runs of a group on its machines, at once: each action keeps it.
-use Rattle.std.proofs.Common.{ℕ, zero, suc, ◌≡◌, ◌≢◌, ◌<◌, ◌≤◌, ◌+◌, ◌==◌, ◌⊎◌, inl, inr, nat_le, Bool, true, false, List, [], ◌∷◌, ◌++◌, Option, Some, None, length, take, map, refl, sym, ap, subst, ◌∙◌, if◌then◌else◌, arith}
+use Rattle.std.proofs.Common.{ℕ, zero, suc, ◌≡◌, ◌<◌, ◌≤◌, ◌+◌, nat_le, Bool, true, false, List, [], ◌∷◌, ◌++◌, Option, Some, None, length, take, map, refl, sym, ap, subst, ◌∙◌, arith}
 use Rattle.std.proofs.lemmas.List.{append-nil}
 use Rattle.std.specs.Prelude.{slice_get}
 use Rattle.std.specs.List.{range_with_len}
@@ -7,7 +7,6 @@ use Rattle.group_types.specs.Dimensions.{Dimensions}
 use Rattle.group_types.specs.Names.{IsProcess}
 use Rattle.group_types.specs.Shape.{IsShape}
 use Rattle.group_types.specs.declared.process.ProcessId.{ProcessId}
-use Rattle.group_types.proofs.Names.{same-cases}
 use Rattle.memc_table.specs.Asked.{Asked}
 use Rattle.memc_table.specs.declared.reply.Reply.{Reply}
 use Rattle.group_message.specs.declared.message.Message.{Message}
@@ -20,8 +19,6 @@ use Rattle.group_calls.specs.declared.event.Event.{Event}
 use Rattle.group_calls.specs.declared.event.Event.TheVariants as event
 use Rattle.group_run.specs.Applying.{ProcessStep}
 use Rattle.group_run.specs.Asking.{collect_from}
-use Rattle.group_run.specs.Headline.{Headline, IsRun}
-use Rattle.group_run.specs.Process.{Node, Process}
 use Rattle.group_run.specs.Receiving.{receive}
 use Rattle.group_run.specs.World.{World, after, flush_process, opening, step, turns_from, turns_of}
 use Rattle.group_run.specs.History.{no_history}
@@ -34,20 +31,19 @@ use Rattle.law_log.proofs.Turnings.{asks-self, get-last}
 use Rattle.law_headline.proofs.Headlines.{headline_always}
 use Rattle.law_answers.proofs.Entries.{turns-more}
 use Rattle.group_wire.specs.Actions.{Action, Begin, Send, Read, Treat, Collect, Flush, Learn, Receive, GiveUp, Cut, Say, Hear, Permit, Take, Ping, Pong, Count, Show, Stop}
-use Rattle.group_wire.specs.Composed.{AreActions, AreActionsFrom, Composed, Made, asks_among, call_given_up, composed, composed_from, composed_with, events_of, failed_after, failures_at, given_up, lost_ask, made_by, message_made, opening_composed, request_made, stands_if}
-use Rattle.group_wire.specs.May.{MayAct, WaitsForDead, call_waits_for, waits_for}
-use Rattle.group_wire.specs.Sets.{Processes, changed, changed_from, either, entry_at, one_or, size_of, with_one}
-use Rattle.group_wire.specs.State.{Request, AskFor, TraceOf, Stage, Unasked, AskedOf, Unknown, TracedAt, Answered, OpenCall, Group, Works, gateway_of, opening_group}
-use Rattle.group_wire.specs.Stepping.{group_after, gateways_after, heard_first, parked_at, stepped, treating, words_after, works_after, works_received, works_treated}
+use Rattle.group_wire.specs.Composed.{AreActions, AreActionsFrom, Composed, Made, asks_among, call_given_up, composed, composed_from, composed_with, events_of, failures_at, given_up, lost_ask, message_made, opening_composed, request_made, stands_if}
+use Rattle.group_wire.specs.May.{MayAct, call_waits_for, waits_for}
+use Rattle.group_wire.specs.Sets.{Processes, changed, changed_from, either, one_or, with_one}
+use Rattle.group_wire.specs.State.{Request, AskFor, TraceOf, Stage, Unasked, AskedOf, Unknown, TracedAt, Answered, OpenCall, Works, gateway_of}
+use Rattle.group_wire.specs.Sending.{heard_first, parked_at, stepped, treating, words_after, works_received, works_treated}
 use Rattle.group_wire.proofs.Barrier.{Barred, barred-opening, barred-step}
 use Rattle.group_wire.proofs.Changes.{changed-each, grown-set}
 use Rattle.group_wire.proofs.Composing.{Composes, composes-ask, composes-collect, composes-flush, composes-lost, composes-receive, composes-take, composes-trace}
 use Rattle.group_wire.proofs.Extending.{Makes, events-more, events_in, nodes-many}
 use Rattle.group_wire.proofs.Failing.{composes-permit}
-use Rattle.group_wire.proofs.Honest.{Honest}
 use Rattle.group_wire.proofs.Mirrors.{Mirrors, mirrors-cut, mirrors-ghost, mirrors-ghost-read, mirrors-others}
 use Rattle.group_wire.proofs.Placing.{PositionedAt, positioned-opening, positioned-step}
-use Rattle.group_wire.proofs.Positions.{CallFits, Positioned, StageFits, asked_by, asked_in, asks-made}
+use Rattle.group_wire.proofs.Positions.{CallFits, StageFits, asked_by, asked_in, asks-made}
 use Rattle.group_wire.proofs.Requests.{FitsAsked, Living, each-entry, waits}
 use Rattle.group_wire.proofs.Signs.{Signed, signed-opening, signed-step}
 

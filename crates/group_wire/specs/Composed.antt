@@ -15,11 +15,12 @@ use Rattle.group_calls.specs.declared.event.Event.TheVariants as event
 use Rattle.group_run.specs.Asking.{collect_from}
 use Rattle.group_run.specs.Heading.{partition}
 use Rattle.group_run.specs.World.{front_if}
-use Rattle.group_wire.specs.Actions.{Action, Begin, Send, Read, Treat, Collect, Flush, Learn, Receive, GiveUp, Cut, Say, Hear, Permit, Take, Ping, Pong, Count, Show, Stop}
+use Rattle.group_wire.specs.Actions.{Action, Begin, Treat, Collect, Flush, Receive, GiveUp, Permit, Take}
 use Rattle.group_wire.specs.May.{MayAct}
 use Rattle.group_wire.specs.Sets.{Processes, changed_at, either, nobody, one_or}
-use Rattle.group_wire.specs.State.{Request, AskFor, TraceOf, Stage, Unasked, AskedOf, Unknown, TracedAt, Answered, OpenCall, Group, gateway_of, opening_group}
-use Rattle.group_wire.specs.Stepping.{group_after, parked_at, treating}
+use Rattle.group_wire.specs.State.{Request, AskFor, TraceOf, Stage, AskedOf, OpenCall, Group, gateway_of, opening_group}
+use Rattle.group_wire.specs.Sending.{parked_at, treating}
+use Rattle.group_wire.specs.Stepping.{group_after}
 
 -- an event that a member made, with the answer that it gave there
 pub record Made : Type 0 where
@@ -66,7 +67,8 @@ message_made x p (m ∷ rest) = record { event = event.Deliver x p; answer = say
 -- a member that permits itself a set, and hasn't failed, makes all of the set fail, in the order of processes
 abbrev pub failures_at : Dimensions → Processes → Processes → List ℕ → List Made
 failures_at s failed set [] = []
-failures_at s failed set (x ∷ xs) = front_if (set (process_at s x) && not (failed (process_at s x))) (record { event = event.Fail (process_at s x) 0; answer = says.Done }) (failures_at s failed set xs)
+failures_at s failed set (x ∷ xs) = front_if (set (process_at s x) && not (failed (process_at s x)))
+    (record { event = event.Fail (process_at s x) 0; answer = says.Done }) (failures_at s failed set xs)
 
 -- an ask that is given up and was never treated is asked of the dead
 abbrev pub lost_ask : Bool → ℕ → Asked → ProcessId → List Made

@@ -1,5 +1,5 @@
 -- What a run of a group on its machines is to the machine: a run, in which those who haven't failed are what they are here.
-use Rattle.std.specs.Prelude.{ℕ, ◌≡◌, ◌≢◌, ◌<◌, ◌≤◌, ◌⊎◌, Bool, true, false, List, [], ◌∷◌, ◌++◌, map, Some, None}
+use Rattle.std.specs.Prelude.{ℕ, ◌≡◌, ◌≢◌, ◌≤◌, ◌⊎◌, Bool, true, false, List, [], ◌∷◌, ◌++◌, map, Some}
 use Rattle.group_types.specs.Dimensions.{Dimensions}
 use Rattle.group_types.specs.Names.{IsProcess}
 use Rattle.group_types.specs.declared.process.ProcessId.{ProcessId}
@@ -13,7 +13,7 @@ use Rattle.group_wire.specs.Actions.{Action, Receive, Take}
 use Rattle.group_wire.specs.Composed.{AreActions, Composed, asks_among, composed, events_of}
 use Rattle.group_wire.specs.May.{MayAct}
 use Rattle.group_wire.specs.Sets.{one_or, size_of}
-use Rattle.group_wire.specs.State.{OpenCall, Stage, AskedOf, Group, gateway_of}
+use Rattle.group_wire.specs.State.{OpenCall, AskedOf, gateway_of}
 
 -- a member that hasn't failed
 pub record HasNotFailed (c : Composed) (p : ProcessId) : Type 0 where
@@ -42,8 +42,10 @@ pub record IsComposed (c : Composed) : Type 0 where
   -- in which a member that hasn't failed is the process that it has
   pub processes : (p : ProcessId) → HasNotFailed c p → process_of (machine c) p ≡ c.group.works.process p
   -- the links between such members are the wires', and one from a member that has failed holds its notice until it is taken
-  pub links : (p q : ProcessId) → HasNotFailed c p → HasNotFailed c q → p ≢ q → Carried (c.group.words.cut p q) (link (machine c) p q) (c.group.works.messages p q)
-  pub notices : (x p : ProcessId) → IsProcess c.group.shape x → c.failed x ≡ true → HasNotFailed c p → link (machine c) x p ≡ one_or (c.group.words.taken p x) [] (tells.Notice x ∷ [])
+  pub links : (p q : ProcessId) → HasNotFailed c p → HasNotFailed c q → p ≢ q
+      → Carried (c.group.words.cut p q) (link (machine c) p q) (c.group.works.messages p q)
+  pub notices : (x p : ProcessId) → IsProcess c.group.shape x → c.failed x ≡ true → HasNotFailed c p
+      → link (machine c) x p ≡ one_or (c.group.words.taken p x) [] (tells.Notice x ∷ [])
   -- so that all is promised of it that is promised of runs
   pub headline : Headline c.group.shape (events_of c)
 
@@ -58,13 +60,16 @@ IsPositioned c caller = (asks_among caller (events_of c) ≡ c.group.gateways.ne
     ⊎ ((o : OpenCall) × (x : ProcessId) × (c.group.gateways.call caller ≡ Some o) × (o.stage ≡ AskedOf x) × (asks_among caller (events_of c) ≡ o.position))
 
 abbrev pub PositionsAlways : Type 0
-PositionsAlways = (s : Dimensions) (actions : List Action) (caller : ℕ) → AreActions s actions → (composed s actions).failed (gateway_of s caller) ≡ false → IsPositioned (composed s actions) caller
+PositionsAlways = (s : Dimensions) (actions : List Action) (caller : ℕ) → AreActions s actions
+    → (composed s actions).failed (gateway_of s caller) ≡ false → IsPositioned (composed s actions) caller
 
 -- a message that may be received by a member that hasn't failed fits what its process holds, and so does the notice of a
 -- death that it may take: no such member stops for a misfit
 abbrev pub MisfitsNeverCome : Type 0
-MisfitsNeverCome = (s : Dimensions) (actions : List Action) (x p : ProcessId) (m : Message) (rest : List Message) → AreActions s actions → HasNotFailed (composed s actions) p
-    → MayAct (composed s actions).group (Receive x p) → (composed s actions).group.works.messages x p ≡ m ∷ rest → Fits s x m ((composed s actions).group.works.process p)
+MisfitsNeverCome = (s : Dimensions) (actions : List Action) (x p : ProcessId) (m : Message) (rest : List Message) → AreActions s actions
+    → HasNotFailed (composed s actions) p
+    → MayAct (composed s actions).group (Receive x p) → (composed s actions).group.works.messages x p ≡ m ∷ rest
+    → Fits s x m ((composed s actions).group.works.process p)
 
 abbrev pub NoticesFit : Type 0
 NoticesFit = (s : Dimensions) (actions : List Action) (x p : ProcessId) → AreActions s actions → HasNotFailed (composed s actions) p

@@ -1,8 +1,7 @@
 -- What holds of every run of a group on its machines.
-use Rattle.std.specs.Prelude.{ℕ, ◌≡◌, ◌≢◌, ◌<◌, ◌≤◌, ◌+◌, ◌⊎◌, true, false, List, [], ◌∷◌}
+use Rattle.std.specs.Prelude.{ℕ, ◌≡◌, ◌<◌, ◌≤◌, ◌⊎◌, false, List}
 use Rattle.group_types.specs.Dimensions.{Dimensions}
 use Rattle.group_types.specs.Names.{IsProcess}
-use Rattle.group_types.specs.Shape.{IsShape}
 use Rattle.group_types.specs.declared.process.ProcessId.{ProcessId}
 use Rattle.group_wire.specs.Actions.{Action, Permit, Show}
 use Rattle.group_wire.specs.Composed.{AreActions, Composed, composed, composed_with}
@@ -20,7 +19,8 @@ BarrierAlways = (s : Dimensions) (actions : List Action) → AreActions s action
 
 -- right after a member that hasn't failed permitted itself a set, those who have failed are exactly that set
 abbrev pub PermitsExactly : Type 0
-PermitsExactly = (s : Dimensions) (actions : List Action) (p : ProcessId) → AreActions s actions → MayAct (composed s actions).group (Permit p) → (composed s actions).failed p ≡ false
+PermitsExactly = (s : Dimensions) (actions : List Action) (p : ProcessId) → AreActions s actions → MayAct (composed s actions).group (Permit p)
+    → (composed s actions).failed p ≡ false
     → (x : ProcessId) → (composed_with (composed s actions) (Permit p)).failed x ≡ (composed s actions).group.words.cut p x
 
 -- no two permitted sets together hold all members: there is one in neither

@@ -1,6 +1,8 @@
 pub mod Sets
 pub mod State
 pub mod Actions
+pub mod Sending
+pub mod Serving
 pub mod Stepping
 pub mod May
 pub mod Composed

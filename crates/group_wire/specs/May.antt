@@ -1,15 +1,12 @@
 -- When each action may come, and runs of the group.
-use Rattle.std.specs.Prelude.{ℕ, ◌≡◌, ◌≢◌, ◌<◌, ◌≤◌, ◌+◌, ◌&&◌, false, not, true, List, [], ◌∷◌, Option, Some, None, All}
-use Rattle.group_types.specs.Dimensions.{Dimensions, callers}
+use Rattle.std.specs.Prelude.{ℕ, ◌≡◌, ◌≢◌, ◌<◌, ◌≤◌, ◌+◌, ◌&&◌, false, not, true, Option, Some, None, All}
+use Rattle.group_types.specs.Dimensions.{callers}
 use Rattle.group_types.specs.Names.{IsProcess}
-use Rattle.group_types.specs.Shape.{IsShape}
 use Rattle.group_types.specs.declared.process.ProcessId.{ProcessId}
 use Rattle.memc_table.specs.Act.{value_of}
-use Rattle.memc_table.specs.Asked.{Asked}
 use Rattle.group_wire.specs.Actions.{Action, Begin, Send, Read, Treat, Collect, Flush, Learn, Receive, GiveUp, Cut, Say, Hear, Permit, Take, Ping, Pong, Count, Show, Stop}
 use Rattle.group_wire.specs.Sets.{IsWithin, Processes, size_of, with_one}
-use Rattle.group_wire.specs.State.{Stage, Unasked, AskedOf, Unknown, TracedAt, Answered, OpenCall, Group, gateway_of}
-use Rattle.group_wire.specs.Stepping.{group_after}
+use Rattle.group_wire.specs.State.{Stage, AskedOf, TracedAt, Answered, OpenCall, Group, gateway_of}
 
 -- a member of the group whose program runs
 pub record IsHere (g : Group) (p : ProcessId) : Type 0 where

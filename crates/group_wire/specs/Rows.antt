@@ -1,5 +1,5 @@
 -- What rows say: schedules of actions, and what comes of them by computation.
-use Rattle.std.specs.Prelude.{ℕ, ◌≡◌, ◌+◌, Bool, true, false, List, [], ◌∷◌, ◌++◌, map, filter, Option, Some, None}
+use Rattle.std.specs.Prelude.{ℕ, ◌≡◌, ◌+◌, List, [], ◌∷◌, ◌++◌, map, filter, Option, Some, None}
 use Rattle.std.specs.List.{range_with_len}
 use Rattle.group_types.specs.Dimensions.{Dimensions}
 use Rattle.group_types.specs.Names.{process_at}
@@ -12,8 +12,8 @@ use Rattle.group_message.specs.declared.message.Message.TheVariants as tells
 use Rattle.group_calls.specs.declared.event.Answer.{Answer}
 use Rattle.group_run.specs.Meaning.{link}
 use Rattle.group_run.specs.World.{turns_of}
-use Rattle.group_wire.specs.Actions.{Action, Show}
-use Rattle.group_wire.specs.Composed.{Composed, composed, composed_with, events_of, opening_composed}
+use Rattle.group_wire.specs.Actions.{Action, Cut, Permit, Show, Take}
+use Rattle.group_wire.specs.Composed.{AreActions, Composed, composed, composed_with, events_of, opening_composed}
 use Rattle.group_wire.specs.Composition.{machine}
 use Rattle.group_wire.specs.State.{Stage, Answered, OpenCall}
 
@@ -94,3 +94,7 @@ pub record BreaksShown (s : Dimensions) (actions : List Action) (shown : List (�
 pub record BreaksLink (s : Dimensions) (actions : List Action) (x p : ProcessId) (wire linked : List ℕ) : Type 0 where
   pub here : map kind_of ((composed s actions).group.works.messages x p) ≡ wire
   pub there : map kind_of (link (machine (composed s actions)) x p) ≡ linked
+
+-- a run in which a data process is cut and fails, and its death is taken
+abbrev pub AFailureMayCome : Type 0
+AFailureMayCome = AreActions (small 1 1) (Cut d0 p0 ∷ Permit p0 ∷ Take d0 p0 ∷ [])

@@ -1,14 +1,11 @@
 -- Schedules in which calls are given up, traced and asked again. Their answers are the model's.
-use Rattle.std.specs.Prelude.{ℕ, ◌≡◌, List, [], ◌∷◌, pos}
-use Rattle.group_types.specs.declared.process.ProcessId.{ProcessId}
+use Rattle.std.specs.Prelude.{List, [], ◌∷◌, pos}
 use Rattle.memc_table.specs.declared.act.Act.TheVariants as act
 use Rattle.memc_table.specs.declared.reply.Reply.TheVariants as reply
-use Rattle.group_calls.specs.declared.event.Answer.{Answer}
 use Rattle.group_calls.specs.declared.event.Answer.TheVariants as says
 use Rattle.group_calls.specs.declared.event.Cause.TheVariants as cause
-use Rattle.group_run.specs.Heading.{partition}
-use Rattle.group_wire.specs.Actions.{Action, Begin, Send, Read, Treat, Collect, Flush, Learn, Receive, GiveUp, Cut, Say, Hear, Permit, Take, Ping, Pong, Count, Show, Stop}
-use Rattle.group_wire.specs.Rows.{BreaksAnswers, BreaksLink, BreaksShown, Row, d0, d1, d2, op, p0, p1, small}
+use Rattle.group_wire.specs.Actions.{Action, Begin, Send, Read, Treat, Collect, Flush, Learn, Receive, GiveUp, Cut, Say, Hear, Permit, Take, Ping, Pong, Count, Show}
+use Rattle.group_wire.specs.Rows.{Row, d0, d1, op, p0, small}
 
 -- A change that the next head has nothing of is asked again under the next position.
 abbrev pub gone_and_asked_again_actions : List Action

@@ -1,14 +1,12 @@
 -- Schedules with one action that may not come, as the model makes them with one rule off, and what breaks.
-use Rattle.std.specs.Prelude.{ℕ, ◌≡◌, List, [], ◌∷◌, pos}
-use Rattle.group_types.specs.declared.process.ProcessId.{ProcessId}
+use Rattle.std.specs.Prelude.{List, [], ◌∷◌, pos}
 use Rattle.memc_table.specs.declared.act.Act.TheVariants as act
 use Rattle.memc_table.specs.declared.reply.Reply.TheVariants as reply
-use Rattle.group_calls.specs.declared.event.Answer.{Answer}
 use Rattle.group_calls.specs.declared.event.Answer.TheVariants as says
 use Rattle.group_calls.specs.declared.event.Cause.TheVariants as cause
 use Rattle.group_run.specs.Heading.{partition}
-use Rattle.group_wire.specs.Actions.{Action, Begin, Send, Read, Treat, Collect, Flush, Learn, Receive, GiveUp, Cut, Say, Hear, Permit, Take, Ping, Pong, Count, Show, Stop}
-use Rattle.group_wire.specs.Rows.{BreaksAnswers, BreaksLink, BreaksShown, Row, d0, d1, d2, op, p0, p1, small}
+use Rattle.group_wire.specs.Actions.{Action, Begin, Send, Read, Treat, Collect, Flush, Learn, Receive, GiveUp, Cut, Say, Hear, Permit, Take, Ping, Pong, Count, Show}
+use Rattle.group_wire.specs.Rows.{BreaksAnswers, BreaksLink, BreaksShown, d0, d1, op, p0, p1, small}
 
 -- A member permits itself a set before the others have said it: it receives what the machine has not.
 abbrev pub permitted_too_early_actions : List Action

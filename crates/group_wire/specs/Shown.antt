@@ -1,9 +1,8 @@
 -- What clients are shown: replies that stand in the log of the members' events.
-use Rattle.std.specs.Prelude.{ℕ, ◌≡◌, ◌≤◌, List, length, map, take, slice_get, Option, Some, None}
+use Rattle.std.specs.Prelude.{ℕ, ◌≡◌, ◌≤◌, List, length, map, take, slice_get, Some}
 use Rattle.group_types.specs.Dimensions.{Dimensions}
 use Rattle.memc_table.specs.declared.reply.Reply.{Reply}
-use Rattle.group_calls.specs.Turns.{CallName, entry_of, log_of}
-use Rattle.group_calls.specs.declared.entry.Entry.{Entry}
+use Rattle.group_calls.specs.Turns.{entry_of, log_of}
 use Rattle.group_calls.specs.declared.event.Answer.TheVariants as says
 use Rattle.group_calls.specs.declared.event.Event.{Event}
 use Rattle.group_calls.specs.declared.event.Event.TheVariants as event
@@ -13,7 +12,7 @@ use Rattle.group_wire.specs.Composed.{AreActions, Composed, Made, asks_among, co
 use Rattle.group_wire.specs.Composition.{machine}
 use Rattle.group_wire.specs.Laws.{NoTwoHoldAll}
 use Rattle.group_wire.specs.May.{MayAct}
-use Rattle.group_wire.specs.State.{Told, Stage, Answered, OpenCall}
+use Rattle.group_wire.specs.State.{Told, Answered, OpenCall}
 
 -- the events before a place
 abbrev pub events_before : List Made → ℕ → List Event
@@ -51,9 +50,13 @@ pub record Shows (c : Composed) (caller : ℕ) (o : OpenCall) (t : Told) : Type 
 -- where no two permitted sets together hold all members, all that is shown is the answer of a member's event of that call,
 -- and a reply stands in the log, since the call began
 abbrev pub ShownIsMade : Type 0
-ShownIsMade = (s : Dimensions) (actions : List Action) (caller ping : ℕ) (o : OpenCall) (t : Told) → AreActions s actions → NoTwoHoldAll (composed s actions).group
-    → MayAct (composed s actions).group (Show caller ping) → Shows (composed s actions) caller o t → WasMade (composed s actions).made t × (t.caller ≡ caller) × (t.call ≡ o.position)
+ShownIsMade = (s : Dimensions) (actions : List Action) (caller ping : ℕ) (o : OpenCall) (t : Told) → AreActions s actions
+    → NoTwoHoldAll (composed s actions).group
+    → MayAct (composed s actions).group (Show caller ping) → Shows (composed s actions) caller o t → WasMade (composed s actions).made t
+    × (t.caller ≡ caller) × (t.call ≡ o.position)
 
 abbrev pub ShownIsLogged : Type 0
-ShownIsLogged = (s : Dimensions) (actions : List Action) (caller ping : ℕ) (o : OpenCall) (t : Told) (reply : Reply) → AreActions s actions → NoTwoHoldAll (composed s actions).group
-    → MayAct (composed s actions).group (Show caller ping) → Shows (composed s actions) caller o t → t.answer ≡ says.Reply reply → IsLoggedSinceBegun (composed s actions) caller o reply
+ShownIsLogged = (s : Dimensions) (actions : List Action) (caller ping : ℕ) (o : OpenCall) (t : Told) (reply : Reply) → AreActions s actions
+    → NoTwoHoldAll (composed s actions).group
+    → MayAct (composed s actions).group (Show caller ping) → Shows (composed s actions) caller o t → t.answer ≡ says.Reply reply
+    → IsLoggedSinceBegun (composed s actions) caller o reply

@@ -1,7 +1,7 @@
 -- A group whose processes stand on machines of their own: what each member has, and what is on the wires between them.
 -- A member is one program with one process of the group, and is the gateway of some callers. Frames of one kind stand on
 -- a wire in the order in which they were sent; those of different kinds may overtake one another, which TCP never does.
-use Rattle.std.specs.Prelude.{ℕ, ◌+◌, ◌/◌, Bool, List, [], Option, Some, None}
+use Rattle.std.specs.Prelude.{ℕ, ◌+◌, ◌/◌, Bool, List, [], Option, None}
 use Rattle.group_types.specs.Dimensions.{Dimensions, callers}
 use Rattle.group_types.specs.Names.{process_at}
 use Rattle.group_types.specs.declared.process.ProcessId.{ProcessId}

@@ -1,3 +1,4 @@
+ghost use Rattle.group_wire.specs.Rows.{AFailureMayCome};
 ghost use Rattle.group_wire.specs.RowsOfCalls.{AHeadFails, AParityFails, NobodyFails, TracedAtTheNextHead, TwoParitiesNobodyFails};
 ghost use Rattle.group_wire.specs.RowsOfFates.{ALostAsk, GoneAndAskedAgain, ShownByAFailedOne};
 ghost use Rattle.group_wire.specs.RowsOfFailures.{BothHeadsFail, HeadsAreCondemned, NobodyIsDead, TwoFailAtOnce};
@@ -118,4 +119,9 @@ pub fn row_given_up_at_the_cut()
 /// A word for more than m is taken: the machine is down.
 pub fn row_more_than_m()
     ensures { MoreThanM }
+{}
+
+/// A run in which a data process is cut and fails, and its death is taken.
+pub fn row_a_failure_may_come()
+    ensures { AFailureMayCome }
 {}
