@@ -1,5 +1,5 @@
 -- Texts of lines that a script goes on from.
-use Rattle.std.proofs.Common.{ℕ, ◌≡◌, ◌+◌, ◌==◌, Bool, true, false, not, ◌&&◌, List, [], ◌∷◌, ◌++◌, length, flat_map, All, Some, None, refl, sym, ap, subst, ◌∙◌, arith}
+use Rattle.std.proofs.Common.{ℕ, ◌≡◌, ◌+◌, ◌==◌, Bool, true, false, not, ◌&&◌, List, [], ◌∷◌, ◌++◌, length, flat_map, All, Option, Some, None, refl, sym, ap, subst, ◌∙◌, arith}
 use Rattle.std.proofs.lemmas.List.{append_assoc}
 use Rattle.std.proofs.lemmas.List.Elements.{All-cons, All-nil}
 use Rattle.std.proofs.lemmas.List.Splits.{slice_split_at, length-slice_split}
@@ -15,8 +15,14 @@ use Rattle.scenario_text.specs.declared.line.Line.{Line}
 use Rattle.scenario_text.specs.declared.line.Line.TheVariants.{Skipped, Group, Ask, Collect, Deliver, Fail, Flush, Trace, Drain, Show, Time, Stop}
 use Rattle.scenario_text.specs.declared.line.LineFault.{LineFault}
 use Rattle.scenario_run.specs.Lines.{lines_of, without_empty_last}
-use Rattle.scenario_run.specs.Playing.{Play, Goes, Ends, Refused, draining, next_by}
-use Rattle.scenario_run.specs.Script.{fault_in}
+use Rattle.scenario_text.specs.declared.line.LineFault.TheVariants.{BadLine}
+use Rattle.scenario_run.specs.Course as course
+use Rattle.scenario_run.specs.Course.{Goes, Ends, Refused, Fault}
+use Rattle.scenario_run.specs.Playing.{Play, draining, next_by, next_of}
+
+-- the first line that is refused, where the next line has the number n
+abbrev pub fault_in : ℕ → Option Play → List (List ℕ) → Option (Fault LineFault)
+fault_in n p lines = course.fault_in next_of BadLine n p lines
 
 -- lines that go on, whatever group of their shape they come to
 abbrev pub is_plain : Result Line LineFault → Bool

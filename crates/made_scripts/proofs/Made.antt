@@ -1,19 +1,20 @@
 -- Each made script is clean.
-use Rattle.std.proofs.Common.{ℕ, zero, suc, ◌≡◌, ◌≤◌, ◌+◌, ◌*◌, ◌==◌, Bool, true, false, List, [], ◌∷◌, ◌++◌, length, flat_map, Some, None, refl, sym, ap, subst, ◌∙◌, arith, if◌then◌else◌}
+use Rattle.std.proofs.Common.{ℕ, zero, suc, ◌≡◌, ◌≤◌, ◌+◌, ◌*◌, ◌==◌, Bool, true, false, List, [], ◌∷◌, ◌++◌, length, flat_map, Option, Some, None, refl, sym, ap, subst, ◌∙◌, arith, if◌then◌else◌}
 use Rattle.std.proofs.lemmas.List.{append_assoc, length-append}
 use Rattle.std.specs.Prelude.{codes}
 use Rattle.std.specs.List.{range_with_len}
+use Rattle.group_types.specs.Dimensions.{Dimensions}
 use Rattle.group_run.specs.World.{opening}
 use Rattle.scenario_make.specs.Rounds.{first_loss, line, lines_before, round_from, second_loss, words_of}
 use Rattle.scenario_make.specs.Script.{after_rounds, round_text, rounds_text, script_text}
 use Rattle.scenario_run.specs.Lines.{lines_of}
-use Rattle.scenario_run.specs.Playing.{Play}
-use Rattle.scenario_run.specs.Script.{fault_in, shape_from}
+use Rattle.scenario_run.specs.Course.{named_in}
+use Rattle.scenario_run.specs.Playing.{Play, next_of, shape_in}
 use Rattle.scenario_text.specs.Meaning.{group_within, keyword_of, line_by}
 use Rattle.scenario_text.specs.Words.{number_below, process_of_word}
 use Rattle.memc_proto.specs.Words.{keep_word, number_word}
 use Rattle.made_scripts.specs.Clean.{MadeAreClean, made_shape}
-use Rattle.made_scripts.proofs.Lines.{NoneRefused, Passes, both-pass, each-passes, line-passes, lines-more, none-passes}
+use Rattle.made_scripts.proofs.Lines.{NoneRefused, Passes, fault_in, both-pass, each-passes, line-passes, lines-more, none-passes}
 use Rattle.made_scripts.proofs.Rounds.{body, drawn-fine, line-body}
 
 -- a drain, and a loss before it
@@ -85,6 +86,10 @@ stops n p shape = refl
 
 end-none : NoneRefused made_shape (codes "drain\nstop\n")
 end-none = drain-passes (codes "stop\n") stops
+
+-- the shape of the group that the lines are about
+abbrev shape_from : Option Play → List (List ℕ) → Option Dimensions
+shape_from p lines = shape_in (named_in next_of p lines)
 
 -- the beginning
 start : Play
