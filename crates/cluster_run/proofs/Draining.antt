@@ -1,25 +1,21 @@
 -- A drain of a cluster: its deliveries may happen, and each lightens its group.
-use Rattle.std.proofs.Common.{ℕ, zero, suc, ◌≡◌, ◌<◌, ◌≤◌, ◌+◌, Bool, true, false, List, [], ◌∷◌, ◌++◌, length, map, inl, inr, Option, Some, None, if◌then◌else◌, refl, sym, ap, subst, ◌∙◌, arith}
+use Rattle.std.proofs.Common.{ℕ, zero, suc, ◌≡◌, ◌<◌, ◌≤◌, ◌+◌, Bool, true, false, List, [], ◌∷◌, length, map, inl, inr, Option, Some, None, if◌then◌else◌, refl, sym, ap, subst, ◌∙◌, arith}
 use Rattle.std.specs.List.{range_with_len}
-use Rattle.group_types.specs.Dimensions.{Dimensions}
 use Rattle.group_calls.specs.declared.event.Event.{Event}
 use Rattle.group_calls.specs.declared.event.Event.TheVariants.{Ask, Collect, Deliver, Fail, Flush, Trace}
 use Rattle.group_run.specs.Draining.{drain_events, next_delivery}
-use Rattle.group_run.specs.Headline.{MayCome}
 use Rattle.group_run.specs.Meaning.{IsDown}
 use Rattle.group_run.specs.Progress.{load_of}
 use Rattle.group_run.specs.Shown.{is_down}
 use Rattle.group_run.specs.World.{World, step}
-use Rattle.group_layout.specs.Cluster.{Cluster, Groups, MayAllHappen, MayHappen, Move, cluster_after, cluster_step, moved, world_in}
+use Rattle.group_layout.specs.Cluster.{Cluster, MayAllHappen, MayHappen, Move, cluster_after, cluster_step, moved, world_in}
 use Rattle.group_layout.specs.declared.event.ClusterEvent.{ClusterEvent}
 use Rattle.group_layout.specs.declared.event.ClusterEvent.TheVariants.{InGroup}
 use Rattle.group_layout.proofs.Moves.{IsOrNot, is-or-not, other-world, own-world}
 use Rattle.group_cluster.specs.Plan.{Plan}
 use Rattle.law_progress.specs.Ends.{IsDelivery}
 use Rattle.scenario_run.proofs.Draining.{Lightens, burden, lightens, next-delivers}
-use Rattle.scenario_run.proofs.Leading as group
 use Rattle.scenario_run.proofs.Truth.{up}
-use Rattle.scenario_run.specs.Playing.{draining}
 use Rattle.cluster_run.specs.Led.{IsLedTo}
 use Rattle.cluster_run.specs.Playing.{all_deliveries, deliveries, deliveries_in}
 use Rattle.cluster_run.proofs.Leading.{Leads, after-append, led-even, led-group, led-on, may-append, one-leads}

@@ -1,10 +1,7 @@
 -- Events of a cluster, one after the other.
-use Rattle.std.proofs.Common.{ℕ, zero, suc, ◌≡◌, ◌<◌, List, [], ◌∷◌, ◌++◌, length, map, replicate, true, Bool, false, refl, sym, ap, subst, ◌∙◌}
-use Rattle.group_types.specs.Dimensions.{Dimensions}
-use Rattle.group_types.specs.Lists.{put}
+use Rattle.std.proofs.Common.{ℕ, zero, suc, ◌≡◌, ◌<◌, List, [], ◌∷◌, ◌++◌, length, replicate, true, false, refl, sym, ap, subst, ◌∙◌}
 use Rattle.group_types.proofs.Lists.{length-put}
-use Rattle.group_run.specs.World.{World}
-use Rattle.group_layout.specs.Cluster.{Cluster, GroupTurn, Groups, IsLayout, MayAllHappen, MayHappen, cluster_after, cluster_step, cluster_turns, failed_after, world_in}
+use Rattle.group_layout.specs.Cluster.{Cluster, IsLayout, MayAllHappen, MayHappen, cluster_after, cluster_step, cluster_turns, world_in}
 use Rattle.group_layout.specs.declared.event.ClusterEvent.{ClusterEvent}
 use Rattle.group_layout.specs.declared.event.ClusterEvent.TheVariants.{FailNode, InGroup}
 use Rattle.group_layout.specs.Promise.{AreRuns}

@@ -1,12 +1,12 @@
 -- How much the events of a cluster add to each of its groups.
-use Rattle.std.proofs.Common.{ℕ, zero, suc, ◌≡◌, ◌<◌, ◌≤◌, ◌+◌, ◌*◌, ◌^◌, ◌==◌, Bool, true, false, List, [], ◌∷◌, ◌++◌, length, Option, Some, None, if◌then◌else◌, refl, sym, ap, subst, ◌∙◌, length-append, arith}
+use Rattle.std.proofs.Common.{ℕ, zero, suc, ◌≡◌, ◌≤◌, ◌+◌, ◌*◌, ◌^◌, ◌==◌, Bool, true, false, List, [], ◌∷◌, length, Option, Some, None, if◌then◌else◌, refl, ap, length-append, arith}
 use Rattle.std.specs.List.{range_with_len}
 use Rattle.group_types.specs.Dimensions.{Dimensions}
 use Rattle.group_types.specs.Lists.{at}
 use Rattle.group_calls.specs.declared.event.Event.{Event}
 use Rattle.group_run.specs.Headline.{IsRunFrom}
 use Rattle.group_run.specs.World.{World, front_if, step, world_after}
-use Rattle.group_layout.specs.Cluster.{Cluster, Groups, MayAllMove, MayHappen, Move, all_moved, cluster_step, failure_of, failures, move_unless, moves_of, node_failure, other_group, world_in}
+use Rattle.group_layout.specs.Cluster.{Cluster, MayHappen, Move, cluster_step, failure_of, failures, move_unless, moves_of, node_failure, other_group, world_in}
 use Rattle.group_layout.specs.Layout.{process_on}
 use Rattle.group_layout.specs.Promise.{events_in}
 use Rattle.group_layout.specs.declared.event.ClusterEvent.{ClusterEvent}

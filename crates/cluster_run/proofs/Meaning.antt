@@ -1,29 +1,22 @@
 -- What is read of a line is within the limits of the groups.
-use Rattle.std.proofs.Common.{ℕ, ◌≡◌, ◌<◌, ◌≤◌, ◌+◌, ◌*◌, ◌==◌, ◌&&◌, Bool, true, false, nat_le, nat_lt, List, [], ◌∷◌, codes, length, Option, Some, None, option_map, Result, Ok, Err, inl, inr, if◌then◌else◌, refl, sym, ap, subst, ◌∙◌, arith}
+use Rattle.std.proofs.Common.{ℕ, ◌≡◌, ◌<◌, ◌+◌, ◌==◌, ◌&&◌, Bool, true, false, nat_le, nat_lt, List, [], ◌∷◌, codes, length, Option, Some, None, Ok, Err, if◌then◌else◌, refl, sym, subst, ◌∙◌, arith}
 use Rattle.std.proofs.lemmas.Bool.Decides.{nat_tests}
 use Rattle.std.specs.Str.{bytes_eq}
-use Rattle.group_types.specs.Dimensions.{Dimensions}
-use Rattle.group_types.specs.Shape.{IsFirstOutOfRange, IsShape}
 use Rattle.group_types.specs.declared.shape.Field.{Field}
 use Rattle.group_types.specs.declared.shape.Field.TheVariants.{Blocks}
 use Rattle.group_layout.specs.Cluster.{Cluster, MayHappen}
 use Rattle.group_layout.specs.declared.event.ClusterEvent.{ClusterEvent}
 use Rattle.group_layout.specs.declared.event.ClusterEvent.TheVariants.{FailNode}
-use Rattle.group_cluster.specs.Plan.{AreGroups, AreNodes, IsFirstBad, IsPlan, Plan, bytes_of, most_bytes}
+use Rattle.group_cluster.specs.Plan.{IsPlan, Plan, bytes_of, most_bytes}
 use Rattle.group_cluster.specs.declared.layout.LayoutField.{LayoutField}
 use Rattle.group_cluster.specs.declared.layout.LayoutField.TheVariants.{Groups, Nodes, Shape}
 use Rattle.memc_proto.specs.Words.{if_below}
 use Rattle.memc_table.specs.Numeral.{number_of}
-use Rattle.scenario_text.specs.Meaning.{first_out_of_range, group_unless, group_within}
+use Rattle.scenario_text.specs.Meaning.{first_out_of_range}
 use Rattle.scenario_text.specs.Words.{keep_of_word, number_below}
-use Rattle.scenario_text.specs.declared.line.Line.{Line}
-use Rattle.scenario_text.specs.declared.line.Line.TheVariants.{Group}
-use Rattle.scenario_text.specs.declared.line.LineFault.{LineFault}
-use Rattle.scenario_text.specs.declared.line.LineFault.TheVariants as line
-use Rattle.scenario_text.proofs.Limits.{group_within-fault, group_within-shape, shape-of}
+use Rattle.scenario_text.proofs.Limits.{shape-of}
 use Rattle.scenario_text.proofs.Read.{bound, mapped, passed}
 use Rattle.cluster_run.specs.Meaning.{cut_at_space, failure_line, field_of_shape, first_bad, group_of_word, groups_line, in_group, named_by, plan_of, plan_unless, plan_within, within_or_bad}
-use Rattle.cluster_run.specs.declared.fault.ClusterFault.{ClusterFault}
 use Rattle.cluster_run.specs.declared.fault.ClusterFault.TheVariants.{BadLine}
 
 -- a number below a limit

@@ -1,25 +1,23 @@
 -- Every script's cluster keeps the promises of the headline.
-use Rattle.std.proofs.Common.{ℕ, ◌≡◌, ◌<◌, ◌≤◌, ◌+◌, ◌⊎◌, inl, inr, List, [], ◌∷◌, ◌++◌, length, map, All, Option, Some, None, Result, refl, sym, ap, subst, ◌∙◌, append_assoc}
+use Rattle.std.proofs.Common.{ℕ, ◌≡◌, ◌+◌, ◌⊎◌, inl, inr, List, [], ◌∷◌, ◌++◌, length, map, All, Option, Some, None, refl, sym, ap, subst, ◌∙◌, append_assoc}
 use Rattle.group_types.specs.Shape.{IsShape}
-use Rattle.group_run.specs.Meaning.{IsDown}
-use Rattle.membership.specs.Members.{count_dead}
-use Rattle.group_layout.specs.Cluster.{Cluster, ClusterEntry, GroupTurn, IsLayout, MayAllHappen, cluster_after, cluster_step, cluster_turns, logged_in, tagged, world_in}
+use Rattle.group_layout.specs.Cluster.{Cluster, ClusterEntry, GroupTurn, IsLayout, MayAllHappen, cluster_step, cluster_turns, logged_in, tagged}
 use Rattle.group_layout.specs.Legal.{IsClusterLegal}
-use Rattle.group_layout.specs.Promise.{AreRuns, IsOwn}
+use Rattle.group_layout.specs.Promise.{IsOwn}
 use Rattle.group_layout.specs.declared.event.ClusterEvent.{ClusterEvent}
 use Rattle.group_layout.proofs.Answers.{answers_are_within}
 use Rattle.group_layout.proofs.Failing.{few_failures_are_borne}
-use Rattle.group_layout.proofs.Happening.{Even, clusters_are_runs}
+use Rattle.group_layout.proofs.Happening.{clusters_are_runs}
 use Rattle.group_layout.proofs.Owning.{entries_are_own}
 use Rattle.group_layout.proofs.Tables.{logs_are_legal}
 use Rattle.group_cluster.specs.Plan.{IsPlan, Plan}
 use Rattle.scenario_run.specs.Course.{Ends, Goes, Refused, fault_in, named_in, turns_in}
 use Rattle.scenario_run.specs.Lines.{lines_of}
-use Rattle.scenario_run.proofs.Following.{fault_after, named-line, turns_after, turns-line}
+use Rattle.scenario_run.proofs.Following.{fault_after, named-line, turns_after}
 use Rattle.cluster_run.specs.Led.{IsLedTo}
-use Rattle.cluster_run.specs.Playing.{ClusterNext, ClusterPlay, ClusterTurn, log_of, next_of, opening_of, turn_of, turns_from}
-use Rattle.cluster_run.specs.Promises.{KeepsPromises, ScriptsKeepPromises, end_of}
-use Rattle.cluster_run.specs.Script.{events_of, first_fault, plan_in, turns_of}
+use Rattle.cluster_run.specs.Playing.{ClusterNext, ClusterPlay, ClusterTurn, log_of, next_of, opening_of, turns_from}
+use Rattle.cluster_run.specs.Promises.{ScriptsKeepPromises, end_of}
+use Rattle.cluster_run.specs.Script.{events_of, plan_in, turns_of}
 use Rattle.cluster_run.specs.declared.fault.ClusterFault.TheVariants.{BadLine}
 use Rattle.cluster_run.proofs.Leading.{Leads, laid, leads-then, led-even, led-nodes, led-on, none-leads, opened}
 use Rattle.cluster_run.proofs.Running.{GoesOn, Opens, line-leads, line-opens, never-ends}

@@ -6,10 +6,9 @@ use Rattle.group_types.specs.Lists.{at}
 use Rattle.group_calls.specs.declared.event.Event.{Event}
 use Rattle.group_calls.specs.declared.event.Event.TheVariants as happens
 use Rattle.group_run.specs.Headline.{MayCome}
-use Rattle.group_run.specs.World.{World}
 use Rattle.group_layout.specs.Cluster.{Cluster, IsFailure, MayHappen, cluster_after, cluster_step, world_in}
 use Rattle.group_layout.specs.declared.event.ClusterEvent.{ClusterEvent}
-use Rattle.group_layout.specs.declared.event.ClusterEvent.TheVariants.{FailNode, InGroup}
+use Rattle.group_layout.specs.declared.event.ClusterEvent.TheVariants.{InGroup}
 use Rattle.group_cluster.specs.Plan.{IsPlan, Plan}
 use Rattle.scenario_text.specs.Meaning.{IsLineOf, is_skipped, line_of}
 use Rattle.scenario_text.specs.Words.{words_of}
@@ -17,16 +16,16 @@ use Rattle.scenario_text.specs.declared.line.Line.{Line}
 use Rattle.scenario_text.specs.declared.line.Line.TheVariants.{Skipped, Group, Ask, Collect, Deliver, Fail, Flush, Trace, Drain, Show, Time, Stop}
 use Rattle.scenario_text.specs.declared.line.LineFault.{LineFault}
 use Rattle.scenario_text.proofs.Lines.{line_of-within}
-use Rattle.scenario_run.specs.Course.{Ends, Goes, Next, Refused}
+use Rattle.scenario_run.specs.Course.{Ends, Goes, Refused}
 use Rattle.scenario_run.proofs.Draining.{burden}
 use Rattle.scenario_run.proofs.Running.{parts}
 use Rattle.cluster_run.specs.Meaning.{failure_line, groups_line, in_group}
 use Rattle.cluster_run.specs.Led.{IsLedTo}
-use Rattle.cluster_run.specs.Playing.{ClusterNext, ClusterPlay, ClusterTurn, all_deliveries, by_drain, by_event, by_line, by_plan, by_trace, by_words, drained_text, group_in, next_of, opening_of, quietly, then_by, then_in, turn_of, turn_text, turns_from}
+use Rattle.cluster_run.specs.Playing.{ClusterPlay, ClusterTurn, all_deliveries, by_event, by_line, by_plan, by_trace, by_words, drained_text, group_in, next_of, opening_of, quietly, then_by, then_in, turn_of, turn_text, turns_from}
 use Rattle.cluster_run.specs.declared.fault.ClusterFault.{ClusterFault}
 use Rattle.cluster_run.specs.declared.fault.ClusterFault.TheVariants.{BadLine}
 use Rattle.cluster_run.proofs.Draining.{all-drained}
-use Rattle.cluster_run.proofs.Leading.{Leads, led-even, led-group, led-nodes, none-leads, one-leads}
+use Rattle.cluster_run.proofs.Leading.{Leads, led-even, led-group, none-leads, one-leads}
 use Rattle.cluster_run.proofs.Lightening.{event-adds, most_added}
 use Rattle.cluster_run.proofs.Meaning.{failure-below, groups-within, in_group-below}
 

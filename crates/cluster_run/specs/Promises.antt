@@ -1,5 +1,5 @@
 -- What holds of every script's cluster: its events may happen, so the laws of clusters are about it.
-use Rattle.std.specs.Prelude.{ℕ, ◌≡◌, ◌<◌, ◌≤◌, List, All, Option, Some, None}
+use Rattle.std.specs.Prelude.{ℕ, ◌≡◌, ◌<◌, ◌≤◌, List, All, Some, None}
 use Rattle.group_run.specs.Meaning.{IsDown}
 use Rattle.membership.specs.Members.{count_dead}
 use Rattle.group_layout.specs.Cluster.{Cluster, MayAllHappen, cluster_after, cluster_turns, world_in}
