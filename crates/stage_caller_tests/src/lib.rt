@@ -10,3 +10,7 @@ mod alone;
 mod dying;
 #[cfg(test)]
 mod losing;
+#[cfg(test)]
+mod own_keys;
+#[cfg(test)]
+mod place;

@@ -1,134 +1,167 @@
-// Four callers on threads of their own set and get while a data process fails, and what was acknowledged is read back.
-ghost use Rattle.group_stage.specs.Seated.{IsOf};
+// Four threads set and get while a data process and a parity process fail: each thread's replies are those of a table,
+// the tickets of a partition differ, and each key reads afterwards as its thread left it.
+ghost use Rattle.group_stage.specs.Seated.{AreOf};
 
-use crate::acts::{reads, stores};
-use front_end::Caller;
-use group_stage::{Seat, Stage};
+use crate::own_keys::{CALLS, PARTITIONS, call, is_kept};
+use crate::place::Place;
+use group_stage::{Seats, Stage};
 use group_types::{ProcessId, Shape};
-use memc_proto::FailEnd;
+use memc_table::Table;
 use stage_caller::StageCaller;
 use std::alloc::Global;
 use std::test::Fail;
 use std::thread;
 use std::thread::Threads;
 
-const KEYS: u8 = 48;
+// The callers of these letters let a process fail before their calls of these numbers.
+const LOSES_DATA: (u8, u32) = (b'a', 15);
 
-// The caller of these keys lets a data process fail before its key of this number.
-const FAILING: u8 = b'a';
+const LOSES_PARITY: (u8, u32) = (b'c', 29);
 
-const LOST_AT: u8 = 12;
+// Whether each reply was the table's, and the tickets.
+#[derive(Clone, Copy)]
+struct Worked {
+    good: bool,
+    tickets: [u64; CALLS as usize],
+}
 
 #[test]
-fn no_acknowledged_set_is_lost(rt: HostRuntime) -> Result<(), Fail> {
+fn each_thread_is_answered_as_by_a_table(rt: HostRuntime) -> Result<(), Fail> {
     assert!(rt; nothing_is_lost(&rt, rt.alloc())?);
     Ok(())
 }
 
 fn nothing_is_lost<R: Threads + Sync>(rt: &R, alloc: Global) -> Result<bool, Fail> {
-    let (stage, mut seats) = Stage::new(alloc, Shape::new(4, 2, 64, 1024)?, 5)?;
-    let Some(reader) = seats.take() else {
+    let shape = Shape::new(PARTITIONS, 2, 64, 64)?;
+    let (stage, mut seats) = Stage::new(alloc, shape, 5)?;
+    let Some(front) = two_of(&stage, &mut seats) else {
         return Ok(false);
     };
-    let Some(one) = seats.take() else {
+    let Some(back) = two_of(&stage, &mut seats) else {
         return Ok(false);
     };
-    let Some(two) = seats.take() else {
-        return Ok(false);
-    };
-    let Some(three) = seats.take() else {
-        return Ok(false);
-    };
-    let Some(four) = seats.take() else {
-        return Ok(false);
-    };
-    let (first, second) = in_four(rt, alloc, &stage, (one, two), (three, four));
-    let mut reader = StageCaller::new(&stage, reader, false);
-    Ok(
-        first.0
-            && first.1
-            && second.0
-            && second.1
-            && is_kept(alloc, &mut reader, b'a')
-            && is_kept(alloc, &mut reader, b'b')
-            && is_kept(alloc, &mut reader, b'c')
-            && is_kept(alloc, &mut reader, b'd'),
-    )
+    let workers = in_four(rt, alloc, front, back);
+    Ok(are_good(&workers) && differ(alloc, &workers) && all_kept(alloc, &stage, seats))
+}
+
+fn two_of<'a>(stage: &'a Stage, seats: &mut Seats) -> Option<(Place<'a>, Place<'a>)>
+    requires { AreOf stage.now seats.old.seats }
+    ensures { AreOf stage.now seats.new.seats }
+{
+    let one = seats.take()?;
+    let other = seats.take()?;
+    Some((Place::new(stage, one), Place::new(stage, other)))
 }
 
 fn in_four<R: Threads + Sync>(
     rt: &R,
     alloc: Global,
-    stage: &Stage,
-    left: (Seat, Seat),
-    right: (Seat, Seat),
-) -> ((bool, bool), (bool, bool))
-    requires first { IsOf stage.now left.0 }
-    requires second { IsOf stage.now left.1 }
-    requires third { IsOf stage.now right.0 }
-    requires fourth { IsOf stage.now right.1 }
-{
-    thread::join(
+    front: (Place<'_>, Place<'_>),
+    back: (Place<'_>, Place<'_>),
+) -> [Worked; 4] {
+    let ((a, b), (c, d)) = thread::join(
         rt,
-        move || -> (bool, bool)
-            requires { IsOf stage.now left.0 × IsOf stage.now left.1 }
-        { in_two(rt, alloc, stage, left, (b'a', b'b')) },
-        move || -> (bool, bool)
-            requires { IsOf stage.now right.0 × IsOf stage.now right.1 }
-        { in_two(rt, alloc, stage, right, (b'c', b'd')) },
-    )
+        move || -> (Worked, Worked) { in_two(rt, alloc, front, (b'a', b'b')) },
+        move || -> (Worked, Worked) { in_two(rt, alloc, back, (b'c', b'd')) },
+    );
+    [a, b, c, d]
 }
 
 fn in_two<R: Threads + Sync>(
     rt: &R,
     alloc: Global,
-    stage: &Stage,
-    seats: (Seat, Seat),
+    places: (Place<'_>, Place<'_>),
     letters: (u8, u8),
-) -> (bool, bool)
-    requires first { IsOf stage.now seats.0 }
-    requires second { IsOf stage.now seats.1 }
-{
-    let (one, other) = seats;
-    let (a, b) = letters;
+) -> (Worked, Worked) {
+    let (one, other) = places;
     thread::join(
         rt,
-        move || -> bool
-            requires { IsOf stage.now one }
-        { work(alloc, stage, one, a) },
-        move || -> bool
-            requires { IsOf stage.now other }
-        { work(alloc, stage, other, b) },
+        move || -> Worked { work(alloc, one, letters.0) },
+        move || -> Worked { work(alloc, other, letters.1) },
     )
 }
 
-// Whether each set of a key of the letter to its name was acknowledged, and read at once.
-fn work(alloc: Global, stage: &Stage, seat: Seat, letter: u8) -> bool
-    requires { IsOf stage.now seat }
-{
-    let mut caller = StageCaller::new(stage, seat, true);
+fn work(alloc: Global, start: Place<'_>, letter: u8) -> Worked {
+    let mut worked = Worked {
+        good: true,
+        tickets: [0; CALLS as usize],
+    };
+    let Ok(mut table) = Table::new(alloc, PARTITIONS) else {
+        return Worked {
+            good: false,
+            ..worked
+        };
+    };
+    let mut place = start;
+    'calls: for i in 0..CALLS {
+        worked.good &= loses(&mut place, letter, i);
+        let (next, same, ticket) = call(alloc, place, &mut table, letter, i);
+        place = next;
+        worked.good &= same;
+        worked.tickets[i as usize] = ticket;
+    }
+    worked
+}
+
+// Whether a process failed, where that is due.
+fn loses(place: &mut Place<'_>, letter: u8, i: u32) -> bool {
+    if (letter, i) == LOSES_DATA {
+        return place.fail(ProcessId::DataNode(0));
+    }
+    if (letter, i) == LOSES_PARITY {
+        return place.fail(ProcessId::ParityNode(0));
+    }
+    true
+}
+
+fn are_good(workers: &[Worked; 4]) -> bool {
+    workers[0].good && workers[1].good && workers[2].good && workers[3].good
+}
+
+// Whether no two tickets are one.
+fn differ(alloc: Global, workers: &[Worked; 4]) -> bool {
+    let Ok(mut seen) = vec![in alloc; false; 2_048] else {
+        return false;
+    };
     let mut good = true;
-    'keys: for i in 0..KEYS {
-        if letter == FAILING && i == LOST_AT {
-            good &= loses(&mut caller);
-        }
-        let key = [letter, i.wrapping_add(b'0')];
-        good &= stores(alloc, &mut caller, key.as_slice(), key.as_slice());
-        good &= reads(alloc, &mut caller, key.as_slice(), key.as_slice());
+    'workers: for worked in workers {
+        good &= are_new(&mut seen, &worked.tickets);
     }
     good
 }
 
-fn loses(caller: &mut StageCaller<'_>) -> bool {
-    matches!(caller.fail(ProcessId::DataNode(0), 0), Ok(FailEnd::Made))
+// Whether none of the tickets was seen before; now they are.
+fn are_new(seen: &mut [bool], tickets: &[u64]) -> bool {
+    let mut good = true;
+    'tickets: for ticket in tickets {
+        if *ticket != 0 {
+            good &= is_new(seen, *ticket as usize);
+        }
+    }
+    good
 }
 
-// Whether each key of a letter has its own name.
-fn is_kept(alloc: Global, reader: &mut StageCaller<'_>, letter: u8) -> bool {
-    let mut kept = true;
-    'keys: for i in 0..KEYS {
-        let key = [letter, i.wrapping_add(b'0')];
-        kept &= reads(alloc, reader, key.as_slice(), key.as_slice());
+fn is_new(seen: &mut [bool], ticket: usize) -> bool {
+    match seen.get_mut(ticket) {
+        Some(flag) => {
+            let before = *flag;
+            *flag = true;
+            !before
+        }
+        None => false,
     }
-    kept
+}
+
+fn all_kept(alloc: Global, stage: &Stage, seats: Seats) -> bool
+    requires { AreOf stage.now seats.seats }
+{
+    let mut seats = seats;
+    let Some(seat) = seats.take() else {
+        return false;
+    };
+    let mut reader = StageCaller::new(stage, seat, false);
+    is_kept(alloc, &mut reader, b'a')
+        && is_kept(alloc, &mut reader, b'b')
+        && is_kept(alloc, &mut reader, b'c')
+        && is_kept(alloc, &mut reader, b'd')
 }
