@@ -1,10 +1,10 @@
 // Four threads set and get while a data process and a parity process fail: each thread's replies are those of a table,
 // the tickets of a partition differ, and each key reads afterwards as its thread left it.
-ghost use Rattle.group_stage.specs.Seated.{AreOf};
+ghost use Rattle.group_stage.specs.Seated.{AreOf, IsOf};
 
 use crate::own_keys::{CALLS, PARTITIONS, call, is_kept};
 use crate::place::Place;
-use group_stage::{Seats, Stage};
+use group_stage::{Seat, Seats, Stage};
 use group_types::{ProcessId, Shape};
 use memc_table::Table;
 use stage_caller::StageCaller;
@@ -27,21 +27,41 @@ struct Worked {
 
 #[test]
 fn each_thread_is_answered_as_by_a_table(rt: HostRuntime) -> Result<(), Fail> {
-    assert!(rt; nothing_is_lost(&rt, rt.alloc())?);
+    let shape = Shape::new(PARTITIONS, 2, 64, 64)?;
+    assert!(rt; nothing_is_lost(&rt, rt.alloc(), shape));
     Ok(())
 }
 
-fn nothing_is_lost<R: Threads + Sync>(rt: &R, alloc: Global) -> Result<bool, Fail> {
-    let shape = Shape::new(PARTITIONS, 2, 64, 64)?;
-    let (stage, mut seats) = Stage::new(alloc, shape, 5)?;
-    let Some(front) = two_of(&stage, &mut seats) else {
-        return Ok(false);
+fn nothing_is_lost<R: Threads + Sync>(rt: &R, alloc: Global, shape: Shape) -> bool {
+    match Stage::new(alloc, shape, 5) {
+        Ok((stage, seats)) => all_is_told(rt, alloc, &stage, seats),
+        Err(_) => false,
+    }
+}
+
+// Whether four threads are answered as they should be, and their keys are read from the last seat as they left them.
+fn all_is_told<R: Threads + Sync>(rt: &R, alloc: Global, stage: &Stage, seats: Seats) -> bool
+    requires { AreOf stage.now seats.seats }
+{
+    let mut seats = seats;
+    let good = four_work(rt, alloc, stage, &mut seats);
+    match seats.take() {
+        Some(seat) => good && all_kept(alloc, stage, seat),
+        None => false,
+    }
+}
+
+fn four_work<R: Threads + Sync>(rt: &R, alloc: Global, stage: &Stage, seats: &mut Seats) -> bool
+    requires { AreOf stage.now seats.old.seats }
+    ensures { AreOf stage.now seats.new.seats }
+{
+    let Some(front) = two_of(stage, seats) else {
+        return false;
     };
-    let Some(back) = two_of(&stage, &mut seats) else {
-        return Ok(false);
+    let Some(back) = two_of(stage, seats) else {
+        return false;
     };
-    let workers = in_four(rt, alloc, front, back);
-    Ok(are_good(&workers) && differ(alloc, &workers) && all_kept(alloc, &stage, seats))
+    are_answered(rt, alloc, front, back)
 }
 
 fn two_of<'a>(stage: &'a Stage, seats: &mut Seats) -> Option<(Place<'a>, Place<'a>)>
@@ -51,6 +71,17 @@ fn two_of<'a>(stage: &'a Stage, seats: &mut Seats) -> Option<(Place<'a>, Place<'
     let one = seats.take()?;
     let other = seats.take()?;
     Some((Place::new(stage, one), Place::new(stage, other)))
+}
+
+// Whether each reply is the table's, and no two tickets are one.
+fn are_answered<R: Threads + Sync>(
+    rt: &R,
+    alloc: Global,
+    front: (Place<'_>, Place<'_>),
+    back: (Place<'_>, Place<'_>),
+) -> bool {
+    let workers = in_four(rt, alloc, front, back);
+    are_good(&workers) && differ(alloc, &workers)
 }
 
 fn in_four<R: Threads + Sync>(
@@ -152,13 +183,9 @@ fn is_new(seen: &mut [bool], ticket: usize) -> bool {
     }
 }
 
-fn all_kept(alloc: Global, stage: &Stage, seats: Seats) -> bool
-    requires { AreOf stage.now seats.seats }
+fn all_kept(alloc: Global, stage: &Stage, seat: Seat) -> bool
+    requires { IsOf stage.now seat }
 {
-    let mut seats = seats;
-    let Some(seat) = seats.take() else {
-        return false;
-    };
     let mut reader = StageCaller::new(stage, seat, false);
     is_kept(alloc, &mut reader, b'a')
         && is_kept(alloc, &mut reader, b'b')
