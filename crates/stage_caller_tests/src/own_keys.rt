@@ -14,7 +14,7 @@ const KEYS: u32 = 4;
 /// The partitions of the group.
 pub(crate) const PARTITIONS: u32 = 2;
 
-// The call of this number on the keys of a letter: each key is set, appended to, added to, deleted, and read between.
+// The call of this number on the keys of a letter: each key is set, appended to, added once it is there, and read.
 fn op_of(alloc: Global, letter: u8, i: u32) -> Option<Op> {
     let key = Key::read(
         alloc,
