@@ -6,6 +6,7 @@ pub mod Clients
 pub mod Composing
 pub mod Compositions
 pub mod Counting
+pub mod Emptied
 pub mod Example
 pub mod Extending
 pub mod Failing
