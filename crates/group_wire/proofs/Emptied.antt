@@ -8,24 +8,21 @@ use Rattle.group_types.proofs.Names.{process_at-index, same-cases, same-refl}
 use Rattle.membership.specs.Members.{knows_dead}
 use Rattle.group_message.specs.declared.message.Message.{Message}
 use Rattle.group_message.specs.declared.message.Message.TheVariants as tells
-use Rattle.group_message.specs.declared.update.Update.{Update}
 use Rattle.group_calls.specs.declared.event.Event.{Event}
 use Rattle.group_calls.specs.declared.event.Event.TheVariants as event
-use Rattle.group_run.specs.Applying.{ProcessStep, Sent, head_at}
+use Rattle.group_run.specs.Applying.{ProcessStep, head_at}
 use Rattle.group_run.specs.Asking.{CallStep, ask_process, collect_from, fate_of}
 use Rattle.group_run.specs.Headline.{IsRun, IsRunFrom, MayCome}
-use Rattle.group_run.specs.History.{no_history}
 use Rattle.group_run.specs.Process.{Node}
 use Rattle.group_run.specs.Receiving.{receive}
 use Rattle.group_run.specs.World.{NodeStep, DeliveryStep, World, after, all_change, delivered, flush_process, if_up, link_after, link_emptied, links_after, links_without, next_name, node_after, node_failed, node_in, node_of, nodes_told, opening, sent_to, step, treated, unchanged, with_link, with_node, world_after}
-use Rattle.law_moves.specs.State.{state_from, state_of}
+use Rattle.law_moves.specs.State.{state_from}
 use Rattle.law_moves.proofs.Events.{emptied-dead}
-use Rattle.law_moves.proofs.Members.{EndsInNotice, Stands, is_notice}
+use Rattle.law_moves.proofs.Members.{Stands, is_notice}
 use Rattle.law_moves.proofs.Moves.{Died, Popped}
 use Rattle.law_moves.proofs.Reading.{at-indices, link-others, link-sent, node-back, node-here, node-other, size-with_node}
 use Rattle.law_moves.proofs.Runs.{runs_move}
 use Rattle.law_moves.proofs.Standing.{stands-notice, stands-popped}
-use Rattle.law_moves.proofs.State.{Opens}
 use Rattle.law_moves.proofs.Steps.{died, popped}
 use Rattle.law_answers.proofs.Entries.{after-more, run-more}
 use Rattle.std.specs.List.{range_with_len}

@@ -22,6 +22,7 @@ pub mod Wanting
 pub mod Wants
 pub mod Whole
 pub mod RowsOfCalls
+pub mod RowsOfEnds
 pub mod RowsOfFailures
 pub mod RowsOfFates
 pub mod RowsOfGateways
