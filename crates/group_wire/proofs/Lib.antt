@@ -2,6 +2,7 @@ pub mod Answering
 pub mod Barrier
 pub mod Calling
 pub mod Changes
+pub mod Checks
 pub mod Clients
 pub mod Composing
 pub mod Compositions

@@ -60,8 +60,9 @@ shown_from c (a ∷ rest) = shown_by c a ++ shown_from (composed_with c a) rest
 abbrev pub lost_at : Composed → List ProcessId
 lost_at c = filter c.failed (map (process_at c.group.shape) (range_with_len 0 (c.group.shape.k + c.group.shape.m)))
 
--- a schedule: the answers of the events that it makes, what it shows, and who has failed in the end
+-- a schedule, of actions that may come: the answers of the events that it makes, what it shows, and who has failed in the end
 pub record Row (s : Dimensions) (actions : List Action) (answers : List Answer) (shown : List (ℕ × Answer)) (lost : List ProcessId) : Type 0 where
+  pub may : AreActions s actions
   pub answered : map (λ x. x.answer) (composed s actions).made ≡ answers
   pub same : map (λ t. t.answer) (turns_of s (events_of (composed s actions))) ≡ answers
   pub shows : shown_from (opening_composed s) actions ≡ shown

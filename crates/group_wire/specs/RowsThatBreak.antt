@@ -1,4 +1,4 @@
--- Schedules with one action that may not come, as the model makes them with one rule off, and what breaks.
+-- Schedules that the model makes with one rule off, so that an action comes that may not come, and what breaks.
 use Rattle.std.specs.Prelude.{List, [], ◌∷◌, pos}
 use Rattle.memc_table.specs.declared.act.Act.TheVariants as act
 use Rattle.memc_table.specs.declared.reply.Reply.TheVariants as reply
@@ -51,7 +51,7 @@ OnePongTooFew = BreaksShown (small 1 1) one_pong_too_few_actions
 -- An ask is given up at the cut, and not at the notice: it isn't lost.
 abbrev pub given_up_at_the_cut_actions : List Action
 given_up_at_the_cut_actions =
-    Begin 128 (op (act.Incr (113 ∷ 48 ∷ []) 7)) ∷ Send 128 d0 ∷ GiveUp 128 ∷ []
+    Begin 128 (op (act.Incr (113 ∷ 48 ∷ []) 7)) ∷ Send 128 d0 ∷ Cut d0 p0 ∷ GiveUp 128 ∷ []
 
 abbrev pub GivenUpAtTheCut : Type 0
 GivenUpAtTheCut = BreaksAnswers (small 1 1) given_up_at_the_cut_actions
