@@ -4,6 +4,7 @@ use Rattle.group_types.specs.Dimensions.{Dimensions}
 use Rattle.group_types.specs.Lists.{at}
 use Rattle.group_types.specs.Names.{IsProcess, index_of}
 use Rattle.group_types.specs.declared.process.ProcessId.{ProcessId}
+use Rattle.membership.specs.Members.{knows_dead}
 use Rattle.group_message.specs.declared.message.Message.{Message}
 use Rattle.group_message.specs.declared.message.Message.TheVariants as tells
 use Rattle.group_run.specs.Fitting.{Fits}
@@ -17,7 +18,8 @@ use Rattle.group_wire.specs.Composition.{Carried, HasNotFailed, IsComposed, IsPo
 use Rattle.group_wire.specs.May.{MayAct}
 use Rattle.group_wire.specs.Sets.{one_or}
 use Rattle.group_wire.specs.State.{AskedOf, Answered, OpenCall, Stage, TracedAt, Unasked, Unknown, gateway_of}
-use Rattle.group_wire.proofs.Extending.{few-dead, shape-after}
+use Rattle.group_wire.proofs.Emptied.{emptied-after, nothing-known}
+use Rattle.group_wire.proofs.Extending.{few-dead, shape-after, stands-after}
 use Rattle.group_wire.proofs.Honest.{shape-from}
 use Rattle.group_wire.proofs.Mirrors.{link_in}
 use Rattle.group_wire.proofs.Positions.{CallFits, StageFits, asked_in}
@@ -51,6 +53,13 @@ module _ (c : Composed) (h : Whole c) where
     processes = λ p pl. process-same p ∙ h.composes.mirrors.process p (pl.member, pl.lives);
     links = λ p q pl ql other. subst (λ (l : List Message). Carried (c.group.words.cut p q) l (c.group.works.messages p q)) (sym (link-same p q)) (h.composes.mirrors.links p q (pl.member, pl.lives) (ql.member, ql.lives) other);
     notices = λ x p xin fails pl. link-same x p ∙ h.composes.mirrors.notices x p xin fails (pl.member, pl.lives);
+    gone = λ p x pl xin fails takes.
+        let other : x ≢ p = λ same. cc (fails, pl.lives, ap c.failed same) in
+        let lives : (node_in c.group.shape (machine c).nodes p).dead ≡ false = h.composes.mirrors.dead p pl.member ∙ pl.lives in
+        let none : link_in c.group.shape (machine c).nodes x p ≡ [] = h.composes.mirrors.notices x p xin fails (pl.member, pl.lives) ∙ ap (λ (b : Bool). one_or b [] (tells.Notice x ∷ [])) takes in
+        let knows : knows_dead (node_in c.group.shape (machine c).nodes p).process.known x ≡ true = nothing-known x (node_in c.group.shape (machine c).nodes x).dead (knows_dead (node_in c.group.shape (machine c).nodes p).process.known x)
+        (link_in c.group.shape (machine c).nodes x p) (stands-after c.group.shape (events_of c) h.composes.makes.run x p xin pl.member other lives) (h.composes.mirrors.dead x xin ∙ fails) none in
+        link-same p x ∙ emptied-after c.group.shape (events_of c) h.composes.makes.run p x pl.member xin other lives knows;
     headline = headline_always c.group.shape (events_of c) h.composes.makes.run;
   }
 

@@ -21,7 +21,7 @@ use Rattle.group_run.specs.World.{World, after, dead_nodes, node_in, opening, st
 use Rattle.law_moves.specs.State.{lost_in, state_from}
 use Rattle.law_moves.proofs.Events.{Framed, lost-nodes}
 use Rattle.law_moves.proofs.Keeping.{living-unknown, members_always}
-use Rattle.law_moves.proofs.Members.{Members}
+use Rattle.law_moves.proofs.Members.{Members, Stands}
 use Rattle.law_moves.proofs.Runs.{framed-from, framed-opening, shape-from, world-from}
 use Rattle.law_answers.proofs.Entries.{after-more, run-more, turns-more}
 use Rattle.group_wire.specs.Composed.{Made}
@@ -114,6 +114,11 @@ module _ (s : Dimensions) (es : List Event) (run : IsRun s es) where
 
   pub settled_then : List (List Update)
   settled_then = (history_of s es).settled
+
+  -- what stands in links by who is dead and known to be
+  pub stands-after : (x q : ProcessId) → IsProcess s x → IsProcess s q → x ≢ q → (node_in s (after s es).nodes q).dead ≡ false
+      → Stands x (node_in s (after s es).nodes x).dead (knows_dead (node_in s (after s es).nodes q).process.known x) (at [] (node_in s (after s es).nodes x).links (index_of s q))
+  stands-after = members.stands
 
   -- a process that lives knows of no other that lives that it is dead
   pub unknown-after : (p q : ProcessId) → IsProcess s p → IsProcess s q → q ≢ p → (node_in s (after s es).nodes p).dead ≡ false → (node_in s (after s es).nodes q).dead ≡ false

@@ -2,10 +2,12 @@ pub mod Answering
 pub mod Barrier
 pub mod Calling
 pub mod Changes
+pub mod Checks
 pub mod Clients
 pub mod Composing
 pub mod Compositions
 pub mod Counting
+pub mod Emptied
 pub mod Example
 pub mod Extending
 pub mod Failing
@@ -21,6 +23,7 @@ pub mod Wanting
 pub mod Wants
 pub mod Whole
 pub mod RowsOfCalls
+pub mod RowsOfEnds
 pub mod RowsOfFailures
 pub mod RowsOfFates
 pub mod RowsOfGateways

@@ -11,6 +11,7 @@ pub mod Laws
 pub mod Shown
 pub mod Rows
 pub mod RowsOfCalls
+pub mod RowsOfEnds
 pub mod RowsOfFailures
 pub mod RowsOfFates
 pub mod RowsOfGateways

@@ -1,5 +1,5 @@
 -- What rows say: schedules of actions, and what comes of them by computation.
-use Rattle.std.specs.Prelude.{ℕ, ◌≡◌, ◌+◌, List, [], ◌∷◌, ◌++◌, map, filter, Option, Some, None}
+use Rattle.std.specs.Prelude.{ℕ, ◌≡◌, ◌+◌, List, [], ◌∷◌, ◌++◌, map, filter, Option, Some, None, slice_get, take}
 use Rattle.std.specs.List.{range_with_len}
 use Rattle.group_types.specs.Dimensions.{Dimensions}
 use Rattle.group_types.specs.Names.{process_at}
@@ -15,6 +15,7 @@ use Rattle.group_run.specs.World.{turns_of}
 use Rattle.group_wire.specs.Actions.{Action, Cut, Permit, Show, Take}
 use Rattle.group_wire.specs.Composed.{AreActions, Composed, composed, composed_with, events_of, opening_composed}
 use Rattle.group_wire.specs.Composition.{machine}
+use Rattle.group_wire.specs.May.{MayAct}
 use Rattle.group_wire.specs.State.{Stage, Answered, OpenCall}
 
 abbrev pub d0 : ProcessId
@@ -60,8 +61,9 @@ shown_from c (a ∷ rest) = shown_by c a ++ shown_from (composed_with c a) rest
 abbrev pub lost_at : Composed → List ProcessId
 lost_at c = filter c.failed (map (process_at c.group.shape) (range_with_len 0 (c.group.shape.k + c.group.shape.m)))
 
--- a schedule: the answers of the events that it makes, what it shows, and who has failed in the end
+-- a schedule, of actions that may come: the answers of the events that it makes, what it shows, and who has failed in the end
 pub record Row (s : Dimensions) (actions : List Action) (answers : List Answer) (shown : List (ℕ × Answer)) (lost : List ProcessId) : Type 0 where
+  pub may : AreActions s actions
   pub answered : map (λ x. x.answer) (composed s actions).made ≡ answers
   pub same : map (λ t. t.answer) (turns_of s (events_of (composed s actions))) ≡ answers
   pub shows : shown_from (opening_composed s) actions ≡ shown
@@ -80,18 +82,27 @@ kind_of (tells.Row _ _ _) = 8
 kind_of (tells.Cease _) = 9
 kind_of (tells.Notice _) = 10
 
+-- the action at a place of a schedule may not come, while all those before it may
+pub record Refuses (s : Dimensions) (actions : List Action) (place : ℕ) (wrong : Action) : Type 0 where
+  pub there : slice_get actions place ≡ Some wrong
+  pub before : AreActions s (take place actions)
+  pub refused : ¬ (MayAct (composed s (take place actions)).group wrong)
+
 -- a schedule that doesn't compose: the machine answers other than the members
-pub record BreaksAnswers (s : Dimensions) (actions : List Action) (members machine : List Answer) : Type 0 where
+pub record BreaksAnswers (s : Dimensions) (actions : List Action) (place : ℕ) (wrong : Action) (members machine : List Answer) : Type 0 where
+  pub refuses : Refuses s actions place wrong
   pub here : map (λ x. x.answer) (composed s actions).made ≡ members
   pub there : map (λ t. t.answer) (turns_of s (events_of (composed s actions))) ≡ machine
 
 -- one that shows what isn't in the log: the callers whose answers were shown, and those of the entries
-pub record BreaksShown (s : Dimensions) (actions : List Action) (shown : List (ℕ × Answer)) (logged : List ℕ) : Type 0 where
+pub record BreaksShown (s : Dimensions) (actions : List Action) (place : ℕ) (wrong : Action) (shown : List (ℕ × Answer)) (logged : List ℕ) : Type 0 where
+  pub refuses : Refuses s actions place wrong
   pub shows : shown_from (opening_composed s) actions ≡ shown
   pub log : map (λ e. e.caller) (machine (composed s actions)).log ≡ logged
 
 -- one in which a wire has other messages than the machine's link
-pub record BreaksLink (s : Dimensions) (actions : List Action) (x p : ProcessId) (wire linked : List ℕ) : Type 0 where
+pub record BreaksLink (s : Dimensions) (actions : List Action) (place : ℕ) (wrong : Action) (x p : ProcessId) (wire linked : List ℕ) : Type 0 where
+  pub refuses : Refuses s actions place wrong
   pub here : map kind_of ((composed s actions).group.works.messages x p) ≡ wire
   pub there : map kind_of (link (machine (composed s actions)) x p) ≡ linked
 

@@ -1,4 +1,4 @@
--- Schedules with one action that may not come, as the model makes them with one rule off, and what breaks.
+-- Schedules that the model makes with one rule off, so that an action comes that may not come, and what breaks.
 use Rattle.std.specs.Prelude.{List, [], ◌∷◌, pos}
 use Rattle.memc_table.specs.declared.act.Act.TheVariants as act
 use Rattle.memc_table.specs.declared.reply.Reply.TheVariants as reply
@@ -18,7 +18,7 @@ permitted_too_early_actions =
     Cut d0 p0 ∷ Say p0 ∷ Permit p0 ∷ Take d0 p0 ∷ GiveUp 85 ∷ GiveUp 86 ∷ Send 85 p0 ∷ Read p0 p0 ∷ Treat p0 0 ∷ Learn p0 p0 ∷ Flush d0 ∷ []
 
 abbrev pub PermittedTooEarly : Type 0
-PermittedTooEarly = BreaksLink (small 1 2) permitted_too_early_actions d0 p1 (3 ∷ []) (10 ∷ [])
+PermittedTooEarly = BreaksLink (small 1 2) permitted_too_early_actions 29 (Permit p0) d0 p1 (3 ∷ []) (10 ∷ [])
 
 -- A member reads on behind its cut: the machine has the notice alone.
 abbrev pub read_behind_the_cut_actions : List Action
@@ -31,7 +31,7 @@ read_behind_the_cut_actions =
     Cut d0 p0 ∷ Cut d0 p1 ∷ Read p1 d0 ∷ Treat d0 0 ∷ Receive d0 p0 ∷ Cut p0 p1 ∷ Receive d0 p1 ∷ Say p0 ∷ Hear p0 p1 ∷ Say p1 ∷ Pong d0 p1 ∷ Permit p1 ∷ []
 
 abbrev pub ReadBehindTheCut : Type 0
-ReadBehindTheCut = BreaksLink (small 1 2) read_behind_the_cut_actions d0 p1 (1 ∷ 1 ∷ []) (10 ∷ [])
+ReadBehindTheCut = BreaksLink (small 1 2) read_behind_the_cut_actions 31 (Receive d0 p0) d0 p1 (1 ∷ 1 ∷ []) (10 ∷ [])
 
 -- An answer is shown by one pong too few: it is a ghost's, and no entry of the log.
 abbrev pub one_pong_too_few_actions : List Action
@@ -44,17 +44,17 @@ one_pong_too_few_actions =
     Read d0 d0 ∷ Treat d0 0 ∷ Learn d0 d0 ∷ Ping d0 ∷ Show 0 3 ∷ []
 
 abbrev pub OnePongTooFew : Type 0
-OnePongTooFew = BreaksShown (small 1 1) one_pong_too_few_actions
+OnePongTooFew = BreaksShown (small 1 1) one_pong_too_few_actions 15 (Show 1 0)
     ((1, says.Reply reply.Miss) ∷ (1, says.Reply reply.Miss) ∷ (0, says.Reply reply.Stored) ∷ (0, says.Reply reply.NotFound) ∷ [])
     (1 ∷ 1 ∷ 0 ∷ [])
 
 -- An ask is given up at the cut, and not at the notice: it isn't lost.
 abbrev pub given_up_at_the_cut_actions : List Action
 given_up_at_the_cut_actions =
-    Begin 128 (op (act.Incr (113 ∷ 48 ∷ []) 7)) ∷ Send 128 d0 ∷ GiveUp 128 ∷ []
+    Begin 128 (op (act.Incr (113 ∷ 48 ∷ []) 7)) ∷ Send 128 d0 ∷ Cut d0 p0 ∷ GiveUp 128 ∷ []
 
 abbrev pub GivenUpAtTheCut : Type 0
-GivenUpAtTheCut = BreaksAnswers (small 1 1) given_up_at_the_cut_actions
+GivenUpAtTheCut = BreaksAnswers (small 1 1) given_up_at_the_cut_actions 3 (GiveUp 128)
     (says.Lost ∷ [])
     (says.Reply reply.NotFound ∷ [])
 
@@ -70,7 +70,7 @@ more_than_m_actions =
     Begin 86 (op (act.Incr (113 ∷ 50 ∷ []) 1)) ∷ Send 86 d0 ∷ Say d1 ∷ Permit p0 ∷ Take d0 p0 ∷ []
 
 abbrev pub MoreThanM : Type 0
-MoreThanM = BreaksAnswers (small 2 1) more_than_m_actions
+MoreThanM = BreaksAnswers (small 2 1) more_than_m_actions 38 (Cut d1 p0)
     (says.Reply reply.NotStored ∷ says.Ticket 1 ∷ says.Done ∷ says.Reply reply.NotFound ∷ says.Retry (cause.Pending (partition 1) 1) ∷ says.Done ∷
     says.Reply reply.Stored ∷ says.Reply reply.NotFound ∷ says.Done ∷ says.Done ∷ says.Done ∷ [])
     (says.Reply reply.NotStored ∷ says.Ticket 1 ∷ says.Done ∷ says.Reply reply.NotFound ∷ says.Retry (cause.Pending (partition 1) 1) ∷ says.Done ∷

@@ -1,5 +1,6 @@
 ghost use Rattle.group_wire.specs.Rows.{AFailureMayCome};
 ghost use Rattle.group_wire.specs.RowsOfCalls.{AHeadFails, AParityFails, NobodyFails, TracedAtTheNextHead, TwoParitiesNobodyFails};
+ghost use Rattle.group_wire.specs.RowsOfEnds.{KeptOfAFailedGateway, ProgramsEnd, TwoFailOneByOne};
 ghost use Rattle.group_wire.specs.RowsOfFates.{ALostAsk, GoneAndAskedAgain, ShownByAFailedOne};
 ghost use Rattle.group_wire.specs.RowsOfFailures.{BothHeadsFail, HeadsAreCondemned, NobodyIsDead, TwoFailAtOnce};
 ghost use Rattle.group_wire.specs.RowsOfLosses.{ABlockIsRebuilt, APendingUpdate};
@@ -94,6 +95,21 @@ pub fn row_three_gateways()
 /// A failed member that lives goes on, and shows nothing of it.
 pub fn row_ghosts()
     ensures { Ghosts }
+{}
+
+/// Two fail, one after the other.
+pub fn row_two_fail_one_by_one()
+    ensures { TwoFailOneByOne }
+{}
+
+/// A program ends, and its member is failed later.
+pub fn row_programs_end()
+    ensures { ProgramsEnd }
+{}
+
+/// A request is treated whose gateway has failed.
+pub fn row_kept_of_a_failed_gateway()
+    ensures { KeptOfAFailedGateway }
 {}
 
 /// A member permits itself a set before the others have said it: it receives what the machine has not.
