@@ -53,7 +53,8 @@ module _ (c : Composed) (h : Whole c) where
     processes = λ p pl. process-same p ∙ h.composes.mirrors.process p (pl.member, pl.lives);
     links = λ p q pl ql other. subst (λ (l : List Message). Carried (c.group.words.cut p q) l (c.group.works.messages p q)) (sym (link-same p q)) (h.composes.mirrors.links p q (pl.member, pl.lives) (ql.member, ql.lives) other);
     notices = λ x p xin fails pl. link-same x p ∙ h.composes.mirrors.notices x p xin fails (pl.member, pl.lives);
-    gone = λ p x pl xin fails takes.
+    gone = λ p x pl xin takes.
+        let fails : c.failed x ≡ true = h.barred.permits p pl.member pl.lives x (h.barred.taken p x takes) in
         let other : x ≢ p = λ same. cc (fails, pl.lives, ap c.failed same) in
         let lives : (node_in c.group.shape (machine c).nodes p).dead ≡ false = h.composes.mirrors.dead p pl.member ∙ pl.lives in
         let none : link_in c.group.shape (machine c).nodes x p ≡ [] = h.composes.mirrors.notices x p xin fails (pl.member, pl.lives) ∙ ap (λ (b : Bool). one_or b [] (tells.Notice x ∷ [])) takes in

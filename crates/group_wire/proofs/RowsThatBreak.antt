@@ -4,7 +4,7 @@ use Rattle.std.specs.Fmt.{digits}
 use Rattle.field_byte.specs.Field.{product_of_bits, product, inverse_below, inverse}
 use Rattle.field_byte.specs.Vectors.{add_bytes, scale}
 use Rattle.group_wire.specs.Rows.{d0, p1}
-use Rattle.group_wire.specs.RowsThatBreak.{GivenUpAtTheCut, MoreThanM, OnePongTooFew, PermittedTooEarly, ReadBehindTheCut, given_up_at_the_cut_actions, more_than_m_actions, one_pong_too_few_actions, permitted_too_early_actions, read_behind_the_cut_actions}
+use Rattle.group_wire.specs.RowsThatBreak.{AnsweredBehindTheCut, answered_behind_the_cut_actions, GivenUpAtTheCut, MoreThanM, OnePongTooFew, PermittedTooEarly, ReadBehindTheCut, given_up_at_the_cut_actions, more_than_m_actions, one_pong_too_few_actions, permitted_too_early_actions, read_behind_the_cut_actions}
 use Rattle.group_wire.proofs.Checks.{may-come}
 
 pub row_permitted_too_early : PermittedTooEarly
@@ -26,3 +26,7 @@ row_given_up_at_the_cut = record { refuses = record { there = refl; before = may
 pub row_more_than_m : MoreThanM
 unfolding digits product_of_bits product inverse_below inverse add_bytes scale
 row_more_than_m = record { refuses = record { there = refl; before = may-come 2 1 (take 38 more_than_m_actions) refl refl; refused = λ may. let few = may.3 in omega (arith, few) }; here = refl; there = refl }
+
+pub row_answered_behind_the_cut : AnsweredBehindTheCut
+unfolding digits product_of_bits product inverse_below inverse add_bytes scale
+row_answered_behind_the_cut = record { refuses = record { there = refl; before = may-come 2 1 (take 63 answered_behind_the_cut_actions) refl refl; refused = λ may. cc may.uncut }; shows = refl; log = refl }

@@ -47,7 +47,8 @@ pub record IsComposed (c : Composed) : Type 0 where
   pub notices : (x p : ProcessId) → IsProcess c.group.shape x → c.failed x ≡ true → HasNotFailed c p
       → link (machine c) x p ≡ one_or (c.group.words.taken p x) [] (tells.Notice x ∷ [])
   -- from when on the link to the one that has failed is empty
-  pub gone : (p x : ProcessId) → HasNotFailed c p → IsProcess c.group.shape x → c.failed x ≡ true → c.group.words.taken p x ≡ true → link (machine c) p x ≡ []
+  pub gone : (p x : ProcessId) → HasNotFailed c p → IsProcess c.group.shape x → c.group.words.taken p x ≡ true
+      → link (machine c) p x ≡ []
   -- so that all is promised of it that is promised of runs
   pub headline : Headline c.group.shape (events_of c)
 

@@ -75,3 +75,23 @@ MoreThanM = BreaksAnswers (small 2 1) more_than_m_actions 38 (Cut d1 p0)
     says.Reply reply.Stored ∷ says.Reply reply.NotFound ∷ says.Done ∷ says.Done ∷ says.Done ∷ [])
     (says.Reply reply.NotStored ∷ says.Ticket 1 ∷ says.Done ∷ says.Reply reply.NotFound ∷ says.Retry (cause.Pending (partition 1) 1) ∷ says.Done ∷
     says.Reply reply.Stored ∷ says.Reply reply.NotFound ∷ says.Done ∷ says.Done ∷ says.Down ∷ [])
+
+-- An answer is read behind the cut: it is a ghost's, and is shown.
+abbrev pub answered_behind_the_cut_actions : List Action
+answered_behind_the_cut_actions =
+    Begin 0 (op (act.Set (113 ∷ 48 ∷ []) 0 (pos 0) (48 ∷ 50 ∷ 51 ∷ []))) ∷ Send 0 d0 ∷ Read d0 d0 ∷ Treat d0 0 ∷
+    Begin 171 (op (act.Append (113 ∷ 51 ∷ []) (49 ∷ []))) ∷ Send 171 d1 ∷ Read p0 d1 ∷ Treat d1 0 ∷ Learn d1 p0 ∷ Ping p0 ∷
+    Begin 1 (op (act.Set (113 ∷ 51 ∷ []) 5 (pos 0) (51 ∷ 50 ∷ []))) ∷ Send 1 d1 ∷ Pong p0 d1 ∷ Begin 86 (op (act.Incr (113 ∷ 51 ∷ []) 7)) ∷ Send 86 d1 ∷
+    Read d1 d1 ∷ Treat d1 0 ∷ Learn d1 d1 ∷ Ping d1 ∷ Pong d1 d0 ∷ Begin 85 (op (act.Incr (113 ∷ 51 ∷ []) 1)) ∷ Send 85 d1 ∷ Read d1 d1 ∷ Treat d1 0 ∷
+    Learn d1 d1 ∷ Ping d1 ∷ Receive d0 p0 ∷ Begin 170 (op (act.Set (113 ∷ 51 ∷ []) 5 (pos 0) (51 ∷ []))) ∷ Send 170 d1 ∷ Count d1 p0 ∷ Show 171 0 ∷
+    Pong d1 p0 ∷ Pong d1 p0 ∷ Pong d1 d0 ∷ Begin 171 (op (act.Get (113 ∷ 50 ∷ []))) ∷ Send 171 d0 ∷ Flush d1 ∷ Read d0 d1 ∷ Treat d1 0 ∷ Read p0 d1 ∷
+    Treat d1 0 ∷ Cut d0 p0 ∷ Count d0 d1 ∷ Show 86 0 ∷ Count d0 d1 ∷ Show 85 1 ∷ Count p0 d1 ∷ Cut d0 d1 ∷ Say p0 ∷ Count p0 d1 ∷ Say d1 ∷ Pong p0 d0 ∷
+    Receive d1 p0 ∷ Receive p0 d0 ∷ Collect 0 0 d0 ∷ Learn d0 d0 ∷ Ping d0 ∷ Hear p0 d1 ∷ Permit d1 ∷ Take d0 d1 ∷ Receive d1 p0 ∷ Read p0 d0 ∷
+    Treat d0 0 ∷ Learn d0 p0 ∷ Ping p0 ∷ Receive p0 d1 ∷ Collect 1 0 d1 ∷ Begin 85 (op (act.Get (113 ∷ 51 ∷ []))) ∷ Send 85 d1 ∷ Read d1 d1 ∷
+    Treat d1 0 ∷ Learn d1 d1 ∷ Ping d1 ∷ Show 85 2 ∷ Pong p0 d1 ∷ Learn d1 p0 ∷ Hear d1 p0 ∷ Permit p0 ∷ Take d0 p0 ∷ Show 171 1 ∷ []
+
+abbrev pub AnsweredBehindTheCut : Type 0
+AnsweredBehindTheCut = BreaksShown (small 2 1) answered_behind_the_cut_actions 63 (Learn d0 p0)
+    ((171, says.Reply reply.NotStored) ∷ (86, says.Reply reply.NotFound) ∷ (85, says.Reply reply.NotFound) ∷
+    (85, says.Reply (reply.Value (record { flags = 5; cas = 1; value = (51 ∷ 50 ∷ []) }))) ∷ (171, says.Reply reply.Miss) ∷ [])
+    (171 ∷ 86 ∷ 85 ∷ 0 ∷ 1 ∷ 85 ∷ [])

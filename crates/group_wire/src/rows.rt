@@ -5,7 +5,7 @@ ghost use Rattle.group_wire.specs.RowsOfFates.{ALostAsk, GoneAndAskedAgain, Show
 ghost use Rattle.group_wire.specs.RowsOfFailures.{BothHeadsFail, HeadsAreCondemned, NobodyIsDead, TwoFailAtOnce};
 ghost use Rattle.group_wire.specs.RowsOfLosses.{ABlockIsRebuilt, APendingUpdate};
 ghost use Rattle.group_wire.specs.RowsOfGateways.{AReadIsAskedAgain, Ghosts, KeptBehindACut, ThreeGateways};
-ghost use Rattle.group_wire.specs.RowsThatBreak.{GivenUpAtTheCut, MoreThanM, OnePongTooFew, PermittedTooEarly, ReadBehindTheCut};
+ghost use Rattle.group_wire.specs.RowsThatBreak.{AnsweredBehindTheCut, GivenUpAtTheCut, MoreThanM, OnePongTooFew, PermittedTooEarly, ReadBehindTheCut};
 
 /// Nobody fails: calls at each gateway, each shown after its pongs.
 pub fn row_nobody_fails()
@@ -120,6 +120,11 @@ pub fn row_permitted_too_early()
 /// A member reads on behind its cut: the machine has the notice alone.
 pub fn row_read_behind_the_cut()
     ensures { ReadBehindTheCut }
+{}
+
+/// An answer is read behind the cut: it is a ghost's, and is shown.
+pub fn row_answered_behind_the_cut()
+    ensures { AnsweredBehindTheCut }
 {}
 
 /// An answer is shown by one pong too few: it is a ghost's, and no entry of the log.
