@@ -18,20 +18,20 @@ const P0: ProcessId = ProcessId::ParityNode(0);
 // An ask of a key of another group names that group, and counts nothing.
 #[test]
 fn names_the_group_of_a_key(rt: HostRuntime) -> Result<(), Fail> {
-    let mut cluster = cluster(&rt, rt.alloc())?;
-    let wrong = asked(&rt, rt.alloc(), &mut cluster, 1, "a")?;
+    let mut cluster = cluster(&rt, rt.alloc());
+    let wrong = asked(&rt, rt.alloc(), &mut cluster, 1, "a");
     assert!(rt; wrong == Some(0));
-    assert_eq!(rt; asks(&rt, &cluster, 0), 0);
-    assert_eq!(rt; asks(&rt, &cluster, 1), 0);
+    assert!(rt; asks(&rt, &cluster, 0) == 0);
+    assert!(rt; asks(&rt, &cluster, 1) == 0);
     Ok(())
 }
 
 // Calls are counted in each group, and the log has them in the order in which they were logged.
 #[test]
 fn counts_positions_by_group(rt: HostRuntime) -> Result<(), Fail> {
-    let mut cluster = cluster(&rt, rt.alloc())?;
+    let mut cluster = cluster(&rt, rt.alloc());
     for (group, key) in [(1, "c"), (0, "a"), (1, "c")] {
-        assert!(rt; asked(&rt, rt.alloc(), &mut cluster, group, key)?.is_none());
+        assert!(rt; asked(&rt, rt.alloc(), &mut cluster, group, key).is_none());
     }
     assert!(rt; is_logged(&cluster, 0, 1, 0));
     assert!(rt; is_logged(&cluster, 1, 0, 0));
@@ -43,19 +43,19 @@ fn counts_positions_by_group(rt: HostRuntime) -> Result<(), Fail> {
 // Node 2 has process 2 of group 0, which is its parity process, and process 1 of group 1.
 #[test]
 fn fails_one_process_of_each_group(rt: HostRuntime) -> Result<(), Fail> {
-    let mut cluster = cluster(&rt, rt.alloc())?;
-    assert!(rt; fails(&rt, &mut cluster, 2)?);
+    let mut cluster = cluster(&rt, rt.alloc());
+    assert!(rt; fails(&rt, &mut cluster, 2));
     assert!(rt; is_dead(&rt, &cluster, 0, P0));
     assert!(rt; !is_dead(&rt, &cluster, 0, D1));
     assert!(rt; is_dead(&rt, &cluster, 1, D1));
     assert!(rt; !is_dead(&rt, &cluster, 1, P0));
-    assert!(rt; !fails(&rt, &mut cluster, 2)?);
+    assert!(rt; !fails(&rt, &mut cluster, 2));
     Ok(())
 }
 
-fn cluster(rt: &impl Abort, alloc: Global) -> Result<Cluster, Fail> {
+fn cluster(rt: &impl Abort, alloc: Global) -> Cluster {
     let layout = Layout::new(2, 4, 2, 1, 4, 16).expect(rt, "the layout is in range");
-    Ok(Cluster::new(alloc, layout)?)
+    Cluster::new(alloc, layout).expect(rt, "there is memory")
 }
 
 // Caller 7 gets a key at d0 of a group: the group that the key is of, where it is another.
@@ -65,32 +65,36 @@ fn asked(
     cluster: &mut Cluster,
     group: u32,
     key: &str,
-) -> Result<Option<u32>, Fail> {
-    let key = Key::read(alloc, key.as_bytes())?;
+) -> Option<u32> {
+    let key = Key::read(alloc, key.as_bytes()).expect(rt, "it is a key");
     let event = Event::Ask {
         caller: 7,
         op: Op::new(0, Act::Get { key }),
         at: D0,
     };
-    match made(rt, cluster, &ClusterEvent::InGroup { group, event })? {
-        ClusterAnswer::WrongGroup(own) => Ok(Some(own)),
-        _ => Ok(None),
+    other_group(&made(rt, cluster, &ClusterEvent::InGroup { group, event }))
+}
+
+fn other_group(answer: &ClusterAnswer) -> Option<u32> {
+    match answer {
+        ClusterAnswer::WrongGroup(own) => Some(*own),
+        _ => None,
     }
 }
 
 // Whether the failure of a node is its first.
-fn fails(rt: &impl Abort, cluster: &mut Cluster, node: u32) -> Result<bool, Fail> {
-    Ok(made(rt, cluster, &ClusterEvent::FailNode { node, keep: 0 })? == ClusterAnswer::Done)
+fn fails(rt: &impl Abort, cluster: &mut Cluster, node: u32) -> bool {
+    is_done(&made(rt, cluster, &ClusterEvent::FailNode { node, keep: 0 }))
 }
 
-fn made(
-    rt: &impl Abort,
-    cluster: &mut Cluster,
-    event: &ClusterEvent,
-) -> Result<ClusterAnswer, Fail> {
+fn is_done(answer: &ClusterAnswer) -> bool {
+    matches!(answer, ClusterAnswer::Done)
+}
+
+fn made(rt: &impl Abort, cluster: &mut Cluster, event: &ClusterEvent) -> ClusterAnswer {
     assert!(rt; cluster.may_happen(event));
     assert!(rt; cluster.has_few_events(event));
-    Ok(cluster.step(event)?.answer)
+    cluster.step(event).expect(rt, "there is memory").answer
 }
 
 // Whether this entry of the log is of the group, and of the call of this number there.
