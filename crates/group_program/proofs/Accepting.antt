@@ -9,7 +9,7 @@ use Rattle.scenario_run.specs.Script.{first_fault}
 use Rattle.scenario_play.specs.Language.{Language, group_scripts, told_in}
 use Rattle.scenario_play.specs.Outside.{Outside}
 use Rattle.scenario_play.specs.Played.{IsPlayed, IsWritten}
-use Rattle.scenario_play.specs.Status.{IsTold, longest_script, told, told_at, told_of}
+use Rattle.scenario_play.specs.Status.{IsTold, longest_script, status_for, told_at, told_of}
 use Rattle.scenario_play.specs.declared.status.Status.{Status}
 use Rattle.scenario_play.specs.declared.status.Status.TheVariants.{AcceptFault, TooLong, Want, WriteFault}
 use Rattle.scenario_session.specs.declared.end.SessionEnd.{SessionEnd}
@@ -19,7 +19,7 @@ use Rattle.wire_frames.specs.declared.status.FramesStatus.TheVariants as frames
 use Rattle.group_program.specs.Frames as listing
 use Rattle.group_program.specs.Session as session
 use Rattle.group_program.specs.Frames.{IsListed}
-use Rattle.group_program.specs.Session.{HasTold, IsSession}
+use Rattle.group_program.specs.Session.{HasToldLast, IsSession}
 
 told_at-not : (n : ℕ) (cause : LineFault) → told_at n cause ≢ AcceptFault
 told_at-not n line.BadLine is = cc is
@@ -27,7 +27,7 @@ told_at-not n (line.BadShape field) is = cc is
 told_at-not n line.Want is = cc is
 
 -- what is told of a script
-pub told-not : (text : List ℕ) → told text ≢ AcceptFault
+pub told-not : (text : List ℕ) → status_for text ≢ AcceptFault
 told-not text is = by (nat_lt longest_script (length text)) (first_fault text) is where
   by : (b : Bool) (fault : Option (Fault LineFault)) → (if b then TooLong else told_of told_at fault) ≢ AcceptFault
   by true fault is = cc is
@@ -51,7 +51,7 @@ written-not wanted text before now faults_before faults_now status written not i
   by (inr (inl want)) = cc (sym want ∙ is)
   by (inr (inr wrote)) = cc (sym wrote.0 ∙ is)
 
-ended-not : (wanted : Status) (before now : Outside) (status : Status) → HasTold wanted before now status → wanted ≢ AcceptFault → status ≢ AcceptFault
+ended-not : (wanted : Status) (before now : Outside) (status : Status) → HasToldLast wanted before now status → wanted ≢ AcceptFault → status ≢ AcceptFault
 ended-not wanted before now status told not is = by told.is where
   by : (status ≡ wanted) ⊎ (status ≡ Want) → ⊥
   by (inl same) = not (sym same ∙ is)

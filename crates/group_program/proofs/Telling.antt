@@ -16,11 +16,11 @@ use Rattle.group_server.specs.declared.fault.ServiceFault.TheVariants as fault
 use Rattle.group_program.specs.Program.{HasStopped}
 use Rattle.group_program.specs.Serving.{HasServedWhole, IsServed}
 use Rattle.group_program.specs.Serving as serving
-use Rattle.group_program.specs.Session.{HasTold, status_of}
+use Rattle.group_program.specs.Session.{HasToldLast, status_of}
 
 -- what is told by the call that writes the last line
 pub has_told : (wanted asked : Status) (before now : Outside) (status : Status) → asked ≡ wanted → (status ≡ asked) ⊎ (status ≡ Want)
-    → (status ≡ asked → (status ≡ Want) ⊎ EndsWith before.held now.held before.writes now.writes [] (last_line asked)) → TellsFront before.held now.held status → HasTold wanted before now status
+    → (status ≡ asked → (status ≡ Want) ⊎ EndsWith before.held now.held before.writes now.writes [] (last_line asked)) → TellsFront before.held now.held status → HasToldLast wanted before now status
 has_told wanted asked before now status same (inr want) line front = record { is = inr want; line = inl want; front = front }
 has_told wanted asked before now status same (inl is) line front = record {
   is = inl (is ∙ same);
@@ -96,7 +96,7 @@ module _ {L : Type 0} (listened : L → List ℕ → L → Type 0) (tells : L �
 
   pub served_whole : IsServed listened tells l l_now before now status → HasServedWhole listened tells l l_now before now
   served_whole served = by served.end served.served served.told where
-    by : (end : Result ℕ ServiceFault) → Serves served.middle.input served.middle.held end → HasTold (serving.status_of end) served.middle now status → HasServedWhole listened tells l l_now before now
+    by : (end : Result ℕ ServiceFault) → Serves served.middle.input served.middle.held end → HasToldLast (serving.status_of end) served.middle now status → HasServedWhole listened tells l l_now before now
     by (Ok n) serves told = (n, subst (λ (i : Input). Serves i now.held (Ok n)) (sym served.kept) (subst (λ (h : List ℕ). Serves served.middle.input h (Ok n)) (nothing_behind served.middle told.line) serves))
     by (Err fault.TooLong) serves told = absurd (not_done _ told.is (λ is. cc is))
     by (Err (fault.BadConfig key)) serves told = absurd (not_done _ told.is (λ is. cc is))

@@ -6,7 +6,7 @@ use Rattle.scenario_play.specs.declared.status.Status.TheVariants.{Done, ReadFau
 use Rattle.wire_frames.specs.Framed.{HasFramed}
 use Rattle.wire_frames.specs.declared.status.FramesStatus.{FramesStatus}
 use Rattle.wire_frames.specs.declared.status.FramesStatus.TheVariants as end
-use Rattle.group_program.specs.Session.{HasTold}
+use Rattle.group_program.specs.Session.{HasToldLast}
 
 -- the status of a stream of frames that ended so
 abbrev pub status_of : FramesStatus → Status
@@ -25,4 +25,4 @@ pub record IsListed (before now : Outside) (status : Status) : Type 0 where
   pub framed : HasFramed before.input middle.input before.held middle.held end
   pub kept : now.input ≡ middle.input
   pub later : before.writes ≤ middle.writes
-  pub told : HasTold (status_of end) middle now status
+  pub told : HasToldLast (status_of end) middle now status

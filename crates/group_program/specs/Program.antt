@@ -7,24 +7,24 @@ use Rattle.scenario_make.specs.Script.{script_text}
 use Rattle.scenario_play.specs.Language.{group_scripts}
 use Rattle.scenario_play.specs.Outside.{Outside, TellsFront}
 use Rattle.scenario_play.specs.Played.{IsPlayed, IsWritten}
-use Rattle.scenario_play.specs.Status.{told}
+use Rattle.scenario_play.specs.Status.{status_for}
 use Rattle.scenario_play.specs.Trial.{trial_text}
 use Rattle.scenario_play.specs.declared.status.Status.{Status}
 use Rattle.scenario_play.specs.declared.status.Status.TheVariants.{BadWords, Done, Want}
 use Rattle.group_program.specs.Frames.{IsListed}
 use Rattle.group_program.specs.Serving.{IsServed}
-use Rattle.group_program.specs.Session.{HasTold, IsSession}
+use Rattle.group_program.specs.Session.{HasToldLast, IsSession}
 
 -- what comes of a command, which is none where the words say none, over a listener that listens and tells so
 module _ {L : Type 0} (listened : L → List ℕ → L → Type 0) (tells : L → Tally) (l l_now : L) where
-  abbrev pub HasRun : Option Command → Option ℕ → Outside → Outside → Status → Type 0
-  HasRun None moment before now status = HasTold BadWords before now status
-  HasRun (Some Play) moment before now status = IsPlayed group_scripts before now status
-  HasRun (Some (Make n)) moment before now status = IsWritten Done (script_text n) before.held now.held before.writes now.writes status
-  HasRun (Some (Trial n)) moment before now status = IsWritten (told (script_text n)) (trial_text n) before.held now.held before.writes now.writes status
-  HasRun (Some (Session k m blocks block)) moment before now status = IsSession (record { k = k; m = m; blocks = blocks; block = block }) moment before now status
-  HasRun (Some Serve) moment before now status = IsServed listened tells l l_now before now status
-  HasRun (Some Frames) moment before now status = IsListed before now status
+  abbrev pub HasCarriedOut : Option Command → Option ℕ → Outside → Outside → Status → Type 0
+  HasCarriedOut None moment before now status = HasToldLast BadWords before now status
+  HasCarriedOut (Some Play) moment before now status = IsPlayed group_scripts before now status
+  HasCarriedOut (Some (Make n)) moment before now status = IsWritten Done (script_text n) before.held now.held before.writes now.writes status
+  HasCarriedOut (Some (Trial n)) moment before now status = IsWritten (status_for (script_text n)) (trial_text n) before.held now.held before.writes now.writes status
+  HasCarriedOut (Some (Session k m blocks block)) moment before now status = IsSession (record { k = k; m = m; blocks = blocks; block = block }) moment before now status
+  HasCarriedOut (Some Serve) moment before now status = IsServed listened tells l l_now before now status
+  HasCarriedOut (Some Frames) moment before now status = IsListed before now status
 
 -- there was no memory to read the words
 pub record HasStopped (before now : List ℕ) (status : Status) : Type 0 where

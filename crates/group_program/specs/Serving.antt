@@ -6,7 +6,7 @@ use Rattle.group_server.specs.declared.fault.ServiceFault.TheVariants as fault
 use Rattle.scenario_play.specs.Outside.{Outside}
 use Rattle.scenario_play.specs.declared.status.Status.{Status}
 use Rattle.scenario_play.specs.declared.status.Status.TheVariants.{Done, TooLong, BadConfig, ReadFault, WriteFault, AcceptFault, Want}
-use Rattle.group_program.specs.Session.{HasTold}
+use Rattle.group_program.specs.Session.{HasToldLast}
 
 -- the status of a group that was served so
 abbrev pub status_of : Result ℕ ServiceFault → Status
@@ -25,7 +25,7 @@ pub record IsServed {L : Type 0} (listened : L → List ℕ → L → Type 0) (t
   pub served : HasServedGroup listened tells before.input middle.input before.held middle.held l l_now end
   pub kept : now.input ≡ middle.input
   pub later : before.writes ≤ middle.writes
-  pub told : HasTold (status_of end) middle now status
+  pub told : HasToldLast (status_of end) middle now status
 
 -- a group was served to its end
 abbrev pub HasServedWhole : {L : Type 0} → (L → List ℕ → L → Type 0) → (L → Tally) → L → L → Outside → Outside → Type 0

@@ -8,7 +8,7 @@ ghost use Rattle.group_types.specs.Shape.{IsShape};
 ghost use Rattle.scenario_play.specs.Language.{group_scripts};
 ghost use Rattle.scenario_play.specs.Outside.{outside};
 ghost use Rattle.scenario_play.specs.Played.{HasPlayedWhole};
-ghost use Rattle.group_program.specs.Program.{HasRun, HasStopped};
+ghost use Rattle.group_program.specs.Program.{HasCarriedOut, HasStopped};
 ghost use Rattle.group_program.specs.Serving.{HasServedWhole};
 ghost use Rattle.group_program.specs.Words.{ReadsNothing};
 
@@ -42,7 +42,7 @@ pub fn run_program<R: Threads + Wait + Sync, S: Source, K: Sink, L: Listener, N:
 where
     L::Incoming: Drop,
     L::Outgoing: Drop,
-    ensures ran { HasRun L.listened (λ l. tally (L.accepted l) (L.over l)) listener.old listener.new
+    ensures ran { HasCarriedOut L.listened (λ l. tally (L.accepted l) (L.over l)) listener.old listener.new
         (command_of (map string_bytes words.now)) (T.moment clock.now)
         (outside (S.input source.old) (S.faults source.old) (K.held sink.old) (K.faults sink.old))
         (outside (S.input source.new) (S.faults source.new) (K.held sink.new) (K.faults sink.new)) result
@@ -82,7 +82,7 @@ fn run_command<R: Threads + Wait + Sync, S: Source, K: Sink, L: Listener, N: Not
 where
     L::Incoming: Drop,
     L::Outgoing: Drop,
-    ensures ran { HasRun L.listened (λ l. tally (L.accepted l) (L.over l)) listener.old listener.new
+    ensures ran { HasCarriedOut L.listened (λ l. tally (L.accepted l) (L.over l)) listener.old listener.new
         (Some command) (T.moment clock.now)
         (outside (S.input source.old) (S.faults source.old) (K.held sink.old) (K.faults sink.old))
         (outside (S.input source.new) (S.faults source.new) (K.held sink.new) (K.faults sink.new)) result }

@@ -3,7 +3,7 @@ ghost use Rattle.edge_io.specs.Faults.{Rose};
 ghost use Rattle.group_types.specs.Dimensions.{Dimensions};
 ghost use Rattle.group_types.specs.Shape.{IsShape};
 ghost use Rattle.scenario_play.specs.Outside.{outside};
-ghost use Rattle.group_program.specs.Session.{HasServed, IsSession, status_of};
+ghost use Rattle.group_program.specs.Session.{HasServedFresh, IsSession, status_of};
 
 use edge_io::{Clock, Sink, Source};
 use group_types::Shape;
@@ -46,7 +46,7 @@ fn serve_shape<S: Source, K: Sink, T: Clock>(
     sink: &mut K,
     clock: &T,
 ) -> Status
-    ensures served { HasServed shape (T.moment clock.now)
+    ensures served { HasServedFresh shape (T.moment clock.now)
         (outside (S.input source.old) (S.faults source.old) (K.held sink.old) (K.faults sink.old))
         (outside (S.input source.new) (S.faults source.new) (K.held sink.new) (K.faults sink.new)) result }
     ensures named { result ≢ Status.BadWords }

@@ -14,7 +14,7 @@ use Rattle.group_run.specs.Applying.{ProcessStep, Sent, quiet, sending, when, an
 use Rattle.erasure_code.specs.Code.{Column, decoded}
 use Rattle.group_run.specs.Heading.{rank, partition, to_others}
 use Rattle.group_run.specs.Process.{Process, Copy, Gathering, LeaderState}
-use Rattle.group_run.specs.Rows.{parity_number, copy_in, without_copy, with_copy, with_copies, begin_copy, marked, is_marked, stamp_of, accepts_mark, copies_ceased}
+use Rattle.group_run.specs.Rows.{parity_number, copy_in, without_copy, with_copy, with_copies, begin_copy, marked, is_marked, marks_of, accepts_mark, copies_ceased}
 
 -- the name of a session
 abbrev pub session_of : ℕ → ℕ → Session
@@ -94,7 +94,7 @@ row_comes s number i bytes p = with_leader (row_gathered s i bytes (open_session
 -- a copy whose marks are all there goes to the leader; the leader's own is handed over at once
 abbrev pub row_finished : Bool → Dimensions → Copy → Process → ProcessStep
 row_finished true s copy p = quiet (row_comes s copy.number copy.leader copy.bytes p)
-row_finished false s copy p = sending (record { to = ParityNode copy.leader; message = tells.Row (session_of copy.leader copy.number) copy.bytes (stamp_of s copy) } ∷ []) p
+row_finished false s copy p = sending (record { to = ParityNode copy.leader; message = tells.Row (session_of copy.leader copy.number) copy.bytes (marks_of s copy) } ∷ []) p
 
 -- a copy that was marked is finished, or waits for its other marks
 abbrev pub copy_kept : Bool → Dimensions → Copy → Process → ProcessStep

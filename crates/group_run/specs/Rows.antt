@@ -60,8 +60,8 @@ abbrev pub is_marked : Dimensions → Copy → Bool
 is_marked s copy = list_all (λ d. is_some (at None copy.marks d)) (range_with_len 0 s.k)
 
 -- the numbers of the marks
-abbrev pub stamp_of : Dimensions → Copy → List ℕ
-stamp_of s copy = map (λ d. unwrap_or (at None copy.marks d) 0) (range_with_len 0 s.k)
+abbrev pub marks_of : Dimensions → Copy → List ℕ
+marks_of s copy = map (λ d. unwrap_or (at None copy.marks d) 0) (range_with_len 0 s.k)
 
 -- a row takes a mark of its current rank, of a leader that isn't known dead and didn't cease the session
 abbrev pub accepts_mark : Process → ℕ → ℕ → ℕ → ℕ → Bool

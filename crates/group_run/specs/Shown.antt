@@ -31,8 +31,8 @@ told_space w (DataNode d) = values_after w d (replica_of (process_of w (DataNode
 told_space w (ParityNode i) = coded w.shape.m i (space_of w.shape) (spaces_at w 0 (stamp_of w (ParityNode i)))
 
 -- the bytes of a run that it has by the log
-abbrev pub told : World → ProcessId → Run → List ℕ
-told w p run = bytes_at run.at run.len (told_space w p)
+abbrev pub told_bytes : World → ProcessId → Run → List ℕ
+told_bytes w p run = bytes_at run.at run.len (told_space w p)
 
 -- whether more than m processes are dead
 abbrev pub is_down : World → Bool
@@ -40,4 +40,4 @@ is_down w = nat_lt w.shape.m (dead_nodes w.nodes)
 
 -- while the group isn't down, a living process holds what the log tells
 abbrev pub HoldsTruth : World → Type 0
-HoldsTruth w = ¬ (IsDown w) → (p : ProcessId) (run : Run) → Lives w p → held w p run ≡ told w p run
+HoldsTruth w = ¬ (IsDown w) → (p : ProcessId) (run : Run) → Lives w p → held w p run ≡ told_bytes w p run

@@ -17,7 +17,7 @@ use Rattle.group_run.specs.Heading.{acknowledge, acknowledged, judge, judge_head
 use Rattle.group_run.specs.Leaders.{close_sessions, copy_kept, copy_marked, mark_comes, mark_taken, row_finished, session_of}
 use Rattle.group_run.specs.Process.{Copy, Gathering, Head, Process}
 use Rattle.group_run.specs.Receiving.{ack_to, data_marks, death_known, enthroned, log_adopted, notice_comes, read_comes, receive, take_over_if, taken_over, takes_over, update_taken}
-use Rattle.group_run.specs.Rows.{accepts_mark, begin_copy, block_in, copy_in, is_marked, marked, parity_number, stamp_of, with_copies, without_copy}
+use Rattle.group_run.specs.Rows.{accepts_mark, begin_copy, block_in, copy_in, is_marked, marked, parity_number, marks_of, with_copies, without_copy}
 use Rattle.group_run.specs.Locality.{times}
 use Rattle.law_answers.proofs.Counts.{count-append, count-flat, count-one, count-parities, count_to, once-differing, once-range, times-filtered}
 
@@ -63,7 +63,7 @@ module _ (s : Dimensions) (q : ProcessId) where
   -- a mark makes a row send its block of code at most
   row-sends : (own : Bool) (c : Copy) (p : Process) → count_to q (row_finished own s c p).sent ≤ 1
   row-sends true c p = omega arith
-  row-sends false c p = count-one q (ParityNode c.leader) (tells.Row (session_of c.leader c.number) c.bytes (stamp_of s c))
+  row-sends false c p = count-one q (ParityNode c.leader) (tells.Row (session_of c.leader c.number) c.bytes (marks_of s c))
 
   kept-sends : (all : Bool) (c : Copy) (p : Process) → count_to q (copy_kept all s c p).sent ≤ 1
   kept-sends true c p = row-sends (same_process p.name (ParityNode c.leader)) c (with_copies (without_copy c.leader c.number p.as_row.copies) p)

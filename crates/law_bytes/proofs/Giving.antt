@@ -19,7 +19,7 @@ use Rattle.group_run.specs.Leaders.{block_comes, close_sessions, copy_kept, copy
 use Rattle.group_run.specs.Process.{Copy, Gathering, Head, LeaderState, Process}
 use Rattle.group_run.specs.Receiving.{death_known, notice_comes, take_over_if, taken_over, takes_over}
 use Rattle.group_run.specs.Replica.{Replica, empty_replica, up_to}
-use Rattle.group_run.specs.Rows.{begin_copy, copy_begun, copy_in, is_copy, is_marked, marked, stamp_of, with_copies, without_copy}
+use Rattle.group_run.specs.Rows.{begin_copy, copy_begun, copy_in, is_copy, is_marked, marked, marks_of, with_copies, without_copy}
 use Rattle.law_moves.proofs.Chains.{goes-each, goes-when}
 use Rattle.law_bytes.specs.Areas.{IsBlock, code, value, SettledWrite}
 use Rattle.law_bytes.proofs.Applying.{at-rebuilt}
@@ -214,7 +214,7 @@ module _ (s : Dimensions) where
           leads : leader ≡ l
           leads = let names : ParityNode c.leader ≡ ParityNode l = sym named ∙ begun-all.1 ∙ name in let leaders : c.leader ≡ l = cc names in sym parts.0 ∙ leaders
 
-          row : RowFollows s settled plan (ParityNode c.leader) c.bytes (stamp_of s (marked d k c))
+          row : RowFollows s settled plan (ParityNode c.leader) c.bytes (marks_of s (marked d k c))
           row = (mine_there s settled l n plan p leader n block d k below fits is holds c first leads refl c.leader named).row whole
 
       kept : (whole : Bool) → is_marked s (marked d k c) ≡ whole → New (copy_kept whole s (marked d k c) marking).process

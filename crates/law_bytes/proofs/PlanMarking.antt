@@ -15,7 +15,7 @@ use Rattle.group_run.specs.Applying.{apply_to, block_after, copy_after, replica_
 use Rattle.group_run.specs.Leaders.{copy_kept, copy_marked, mark_taken, open_session, row_finished, session_of}
 use Rattle.group_run.specs.Process.{Copy, Process}
 use Rattle.group_run.specs.Replica.{up_to}
-use Rattle.group_run.specs.Rows.{begin_copy, copy_begun, copy_in, is_copy, is_marked, marked, new_copy, stamp_of, with_copies, with_copy, without_copy}
+use Rattle.group_run.specs.Rows.{begin_copy, copy_begun, copy_in, is_copy, is_marked, marked, new_copy, marks_of, with_copies, with_copy, without_copy}
 use Rattle.law_bytes.specs.Areas.{IsBlock, block_size, code, held}
 use Rattle.law_bytes.specs.Held.{CopyHolds, marked_stand}
 use Rattle.law_bytes.proofs.Finding as finding
@@ -60,7 +60,7 @@ module _ (s : Dimensions) (settled : ℕ → List Update) (l n : ℕ) (plan : Pl
     by e j low is (inr other) = half.marks e j low (sym (at-put-other None c.marks d e (Some k) other) ∙ is)
 
   -- a finished copy is the code at the plan's numbers
-  row-follows : (q : Process) (c : Copy) (i : ℕ) → q.name ≡ ParityNode i → is_marked s c ≡ true → CopyAt i c → CopyHolds s settled q c → RowFollows s settled plan (ParityNode i) c.bytes (stamp_of s c)
+  row-follows : (q : Process) (c : Copy) (i : ℕ) → q.name ≡ ParityNode i → is_marked s c ≡ true → CopyAt i c → CopyHolds s settled q c → RowFollows s settled plan (ParityNode i) c.bytes (marks_of s c)
   row-follows q c i name whole follows holds = (follows.0, exact, stamp) where
     number : (d : ℕ) (o : Option ℕ) (b : ℕ) → d < s.k → at None c.marks d ≡ o → is_some o ≡ true → unwrap_or o b ≡ plan.numbers d
     number d (Some k) b below is some = follows.1.marks d k below is
@@ -71,7 +71,7 @@ module _ (s : Dimensions) (settled : ℕ → List Update) (l n : ℕ) (plan : Pl
         number d (at None c.marks d) b below refl
         (all-among (λ e. is_some (at None c.marks e)) (range_with_len 0 s.k) d whole (among-range d 0 s.k (omega arith) (omega (arith, below))))
 
-    stamp : (d : ℕ) → d < s.k → at 0 (stamp_of s c) d ≡ plan.numbers d
+    stamp : (d : ℕ) → d < s.k → at 0 (marks_of s c) d ≡ plan.numbers d
     stamp d below =
         at-map-range 0 (λ e. unwrap_or (at None c.marks e) 0) s.k 0 d below
         ∙ (let same : 0 + d ≡ d = omega arith in ap (λ (e : ℕ). unwrap_or (at None c.marks e) 0) same) ∙ numbers d 0 below
@@ -86,7 +86,7 @@ module _ (s : Dimensions) (settled : ℕ → List Update) (l n : ℕ) (plan : Pl
   -- what is said of a copy that is marked, if it is of the session, at a process of some name
   pub record MineAt (c : Copy) (r : ℕ) : Type 0 where
     pub copy : CopyAt r c
-    pub row : is_marked s c ≡ true → RowFollows s settled plan (ParityNode r) c.bytes (stamp_of s c)
+    pub row : is_marked s c ≡ true → RowFollows s settled plan (ParityNode r) c.bytes (marks_of s c)
 
   abbrev pub Mine : Copy → ProcessId → Type 0
   Mine c x = c.leader ≡ l → c.number ≡ n → (r : ℕ) → x ≡ ParityNode r → MineAt c r
@@ -128,7 +128,7 @@ module _ (s : Dimensions) (settled : ℕ → List Update) (l n : ℕ) (plan : Pl
     ended_follows = record { copy = ended_copy; session = session }
 
     -- the row that goes, by the name of its process
-    gives : (x : ProcessId) → q.name ≡ x → is_marked s c ≡ true → OfSession l n (session_of c.leader c.number) → RowFollows s settled plan x c.bytes (stamp_of s c)
+    gives : (x : ProcessId) → q.name ≡ x → is_marked s c ≡ true → OfSession l n (session_of c.leader c.number) → RowFollows s settled plan x c.bytes (marks_of s c)
     gives (DataNode e) named whole of_it = tt
     gives (ParityNode r) named whole of_it = let leaders : c.leader ≡ l = cc of_it.0 in (mine leaders of_it.1 r named).row whole
 

@@ -30,7 +30,7 @@ use Rattle.group_run.specs.Leaders.{close_sessions, copy_kept, copy_marked, lead
 use Rattle.group_run.specs.Process.{Copy, Gathering, Head, Held, Process}
 use Rattle.group_run.specs.Receiving.{ack_to, death_known, enthroned, log_adopted, notice_comes, read_comes, receive, take_over_if, taken_over, takes_over, update_taken}
 use Rattle.group_run.specs.Replica.{Replica, empty_replica}
-use Rattle.group_run.specs.Rows.{accepts_mark, begin_copy, copy_in, is_copy, is_marked, marked, parity_number, stamp_of, with_copies, without_copy}
+use Rattle.group_run.specs.Rows.{accepts_mark, begin_copy, copy_in, is_copy, is_marked, marked, parity_number, marks_of, with_copies, without_copy}
 use Rattle.law_moves.proofs.Moves.{Treats, Asks, Collects, Flushes}
 use Rattle.law_moves.proofs.Calls.{each-below}
 use Rattle.law_bytes.specs.Areas.{IsArea, IsBlock, block_size, code, held, value, SettledWrite}
@@ -106,12 +106,12 @@ module _ (s : Dimensions) (settled : ℕ → List Update) where
       (each-sends x (range_with_len 0 s.k) (take_over_if s) _ (λ d y. takes-sends x d y))
 
   -- a finished copy is the code at its stamp
-  row-exact : (q : Process) (c : Copy) (i : ℕ) → q.name ≡ ParityNode i → is_marked s c ≡ true → CopyHolds s settled q c → RowIs s settled (ParityNode i) c.bytes (stamp_of s c)
+  row-exact : (q : Process) (c : Copy) (i : ℕ) → q.name ≡ ParityNode i → is_marked s c ≡ true → CopyHolds s settled q c → RowIs s settled (ParityNode i) c.bytes (marks_of s c)
   row-exact q c i name whole holds = (within, (c.block, exact)) where
     mark : (d : ℕ) → d < s.k → is_some (at None c.marks d) ≡ true
     mark d below = all-among (λ e. is_some (at None c.marks e)) (range_with_len 0 s.k) d whole (among-range d 0 s.k (omega arith) (omega (arith, below)))
 
-    stamp : (d : ℕ) → d < s.k → at 0 (stamp_of s c) d ≡ unwrap_or (at None c.marks d) 0
+    stamp : (d : ℕ) → d < s.k → at 0 (marks_of s c) d ≡ unwrap_or (at None c.marks d) 0
     stamp d below = at-map-range 0 (λ e. unwrap_or (at None c.marks e) 0) s.k 0 d below ∙ (let same : 0 + d ≡ d = omega arith in ap (λ (e : ℕ). unwrap_or (at None c.marks e) 0) same)
 
     number : (o : Option ℕ) (a b : ℕ) → is_some o ≡ true → unwrap_or o a ≡ unwrap_or o b
@@ -122,13 +122,13 @@ module _ (s : Dimensions) (settled : ℕ → List Update) where
     bound d (Some n) below is some = holds.marks d n below is
     bound d None below is some = absurd (cc some)
 
-    within : (d : ℕ) → d < s.k → at 0 (stamp_of s c) d ≤ length (settled d)
+    within : (d : ℕ) → d < s.k → at 0 (marks_of s c) d ≤ length (settled d)
     within d below = subst (λ (n : ℕ). n ≤ length (settled d)) (sym (stamp d below)) (bound d (at None c.marks d) below refl (mark d below))
 
-    exact : IsBlock s c.block (code s i (stamp_stand settled (stamp_of s c))) c.bytes
-    exact = area-same (c.block * s.block) (block_size s c.block) (held s (ParityNode i) (marked_stand settled c.marks q)) (code s i (stamp_stand settled (stamp_of s c))) c.bytes
+    exact : IsBlock s c.block (code s i (stamp_stand settled (marks_of s c))) c.bytes
+    exact = area-same (c.block * s.block) (block_size s c.block) (held s (ParityNode i) (marked_stand settled c.marks q)) (code s i (stamp_stand settled (marks_of s c))) c.bytes
         (subst (λ (x : ProcessId). IsBlock s c.block (held s x (marked_stand settled c.marks q)) c.bytes) name holds.bytes)
-        (λ x. held-same s (ParityNode i) (marked_stand settled c.marks q) (stamp_stand settled (stamp_of s c)) x tt
+        (λ x. held-same s (ParityNode i) (marked_stand settled c.marks q) (stamp_stand settled (marks_of s c)) x tt
         (λ d below. ap (λ (n : ℕ). take n (settled d)) (stamp d below ∙ number (at None c.marks d) 0 (replica_of q d).applied (mark d below))))
 
   -- a row takes a mark
@@ -142,7 +142,7 @@ module _ (s : Dimensions) (settled : ℕ → List Update) where
     q : Process
     q = apply_to s d n (begin_copy s leader number block p)
 
-    finished : (own whole : Bool) (c : Copy) (y : Process) → is_marked s c ≡ whole → RowIs s settled (ParityNode i) c.bytes (stamp_of s c) → SendsExact (ParityNode i) (row_finished own s c y)
+    finished : (own whole : Bool) (c : Copy) (y : Process) → is_marked s c ≡ whole → RowIs s settled (ParityNode i) c.bytes (marks_of s c) → SendsExact (ParityNode i) (row_finished own s c y)
     finished true whole c y is exact = tt
     finished false whole c y is exact = (exact, tt)
 

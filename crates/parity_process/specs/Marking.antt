@@ -6,7 +6,7 @@ use Rattle.group_message.specs.declared.message.Message.TheVariants as tells
 use Rattle.group_run.specs.Applying.{ProcessStep, Sent, apply_to}
 use Rattle.group_run.specs.Leaders.{copy_marked, session_of}
 use Rattle.group_run.specs.Process.{Copy, Process}
-use Rattle.group_run.specs.Rows.{copy_in, parity_number, stamp_of}
+use Rattle.group_run.specs.Rows.{copy_in, parity_number, marks_of}
 
 -- each open session waits for the process's own row
 abbrev pub WaitForOwnRow : Process → Type 0
@@ -19,4 +19,4 @@ copy_taken s leader number d n p = let q : Process = apply_to s d n p in copy_ma
 
 -- the message that brings a copy to its leader
 abbrev pub row_of : Dimensions → Copy → Sent
-row_of s copy = record { to = ParityNode copy.leader; message = tells.Row (session_of copy.leader copy.number) copy.bytes (stamp_of s copy) }
+row_of s copy = record { to = ParityNode copy.leader; message = tells.Row (session_of copy.leader copy.number) copy.bytes (marks_of s copy) }

@@ -1,7 +1,7 @@
 ghost use Rattle.std.specs.Prelude.{◌≡◌, ◌<◌, [], ◌∷◌, length, replicate, IfOk};
 ghost use Rattle.group_types.specs.declared.process.ProcessId.TheVariants.{ParityNode};
 ghost use Rattle.group_run.specs.Applying.{copy_after};
-ghost use Rattle.group_run.specs.Rows.{is_copy, is_marked, marked, stamp_of};
+ghost use Rattle.group_run.specs.Rows.{is_copy, is_marked, marked, marks_of};
 ghost use Rattle.row_copies.specs.Row.{IsWhole, unmarked};
 
 use crate::area::add_body;
@@ -101,7 +101,7 @@ impl Copy {
     pub fn stamp(&self, shape: Shape, into: &mut Stamp)
         requires marks { length self.now.marks ≡ shape.k }
         requires zeros { into.old ≡ replicate shape.k 0 }
-        ensures { into.new ≡ stamp_of shape self.now }
+        ensures { into.new ≡ marks_of shape self.now }
     {
         write(&self.marks, shape.k(), into);
     }

@@ -6,7 +6,7 @@ use Rattle.edge_io.specs.Faults.{Rose}
 use Rattle.edge_io.specs.Moving.{Appends, Input, IsEnded, Takes}
 use Rattle.edge_io.specs.Writing.{HasWritten}
 use Rattle.edge_io.proofs.Moving.{Appends-nil, Appends-trans}
-use Rattle.scenario_play.specs.Ends.{HasEnded, HasRead, HasTreated}
+use Rattle.scenario_play.specs.Ends.{HasPlayedScript, HasRead, HasTreated}
 use Rattle.scenario_play.specs.Language.{Language, told_in}
 use Rattle.scenario_play.specs.Outside.{EndsWith, Outside, StopsWithin, TellsFront}
 use Rattle.scenario_play.specs.Played.{IsPlayed, IsWritten}
@@ -43,7 +43,7 @@ nothing-told held status = record { said = status; whose = inl refl; written = n
 
 -- what was read to its end and then played
 module _ (l : Language) (a b : Outside) (text : List ℕ) (within : length text ≤ longest_script) (taken : Takes a.input b.input text) (met : IsEnded b.input) where
-  treated : (result : Result (Unit {0}) Status) → HasEnded l text a b result → HasTreated l a b result
+  treated : (result : Result (Unit {0}) Status) → HasPlayedScript l text a b result → HasTreated l a b result
   treated result ends = record { script = text; taken = taken; few = omega (arith, within); ends = ends }
 
   abbrev Played : Result (Unit {0}) Status → Type 0
@@ -52,7 +52,7 @@ module _ (l : Language) (a b : Outside) (text : List ℕ) (within : length text 
   pub treated-done : (done : Unit {0}) → Played (Ok done) → HasTreated l a b (Ok done)
   treated-done done played = treated (Ok done) (told-short l text within ∙ played.0, met, played.1)
 
-  fault : (status : Status) → Played (Err status) → HasEnded l text a b (Err status)
+  fault : (status : Status) → Played (Err status) → HasPlayedScript l text a b (Err status)
   fault (BadLine n) played = (played.0, told-short l text within ∙ played.1, met, played.2)
   fault (BadShape f) played = (played.0, told-short l text within ∙ played.1, met, played.2)
   fault (BadCount c) played = (played.0, told-short l text within ∙ played.1, met, played.2)
@@ -173,7 +173,7 @@ behind before middle now faults_before faults_middle faults_now text line wrote 
 
 -- after the last line was told
 module _ (l : Language) (script : List ℕ) (a b c : Outside) (kept : c.input ≡ b.input) (reads : c.reads ≡ b.reads) (later : a.writes ≤ b.writes) (more : b.writes ≤ c.writes) where
-  is-told : (s : Status) → HasEnded l script a b (Err s) → IsTold (told_in l script) a.reads c.reads a.writes c.writes s
+  is-told : (s : Status) → HasPlayedScript l script a b (Err s) → IsTold (told_in l script) a.reads c.reads a.writes c.writes s
   is-told (BadLine n) end = inl (sym end.1)
   is-told (BadShape f) end = inl (sym end.1)
   is-told (BadCount n) end = inl (sym end.1)
@@ -191,7 +191,7 @@ module _ (l : Language) (script : List ℕ) (a b c : Outside) (kept : c.input �
   is-told AcceptFault end = absurd end.0
 
   -- one byte more than a script may have was taken
-  is-long : (s : Status) → HasEnded l script a b (Err s) → length script ≡ 16777217 → (s ≡ TooLong) ⊎ (s ≡ Want)
+  is-long : (s : Status) → HasPlayedScript l script a b (Err s) → length script ≡ 16777217 → (s ≡ TooLong) ⊎ (s ≡ Want)
   is-long TooLong end all = inl refl
   is-long Want end all = inr refl
   is-long (BadLine n) end all = absurd (cc (sym end.1 ∙ long-told l script all))
@@ -218,7 +218,7 @@ module _ (l : Language) (script : List ℕ) (a b c : Outside) (kept : c.input �
   alone-told : (status : Status) → IsEarly status → b.held ≡ a.held → TellsFront b.held c.held status → Stops status
   alone-told status early same front = inr (early, subst (λ (h : List ℕ). TellsFront h c.held status) same front)
 
-  stops : (s status : Status) → (IsEarly s → IsEarly status) → HasEnded l script a b (Err s) → TellsFront b.held c.held status → Stops status
+  stops : (s status : Status) → (IsEarly s → IsEarly status) → HasPlayedScript l script a b (Err s) → TellsFront b.held c.held status → Stops status
   stops (BadLine n) status early end front = within-all status end.2 (all-written a.held b.held (l.transcript script) end.3) front
   stops (BadShape f) status early end front = within-all status end.2 (all-written a.held b.held (l.transcript script) end.3) front
   stops (BadCount n) status early end front = within-all status end.2 (all-written a.held b.held (l.transcript script) end.3) front
@@ -239,7 +239,7 @@ module _ (l : Language) (script : List ℕ) (a b c : Outside) (kept : c.input �
   abbrev Tells : Status → Type 0
   Tells s = EndsWith b.held c.held b.writes c.writes [] (last_line s)
 
-  refused : (s : Status) → HasEnded l script a b (Err s) → IsRefusal s → Tells s → EndsWith a.held c.held a.writes c.writes (l.transcript script) (last_line s)
+  refused : (s : Status) → HasPlayedScript l script a b (Err s) → IsRefusal s → Tells s → EndsWith a.held c.held a.writes c.writes (l.transcript script) (last_line s)
   refused (BadLine n) end refusal tells = behind a.held b.held c.held a.writes b.writes c.writes (l.transcript script) (last_line (BadLine n)) end.3 later tells
   refused (BadShape f) end refusal tells = behind a.held b.held c.held a.writes b.writes c.writes (l.transcript script) (last_line (BadShape f)) end.3 later tells
   refused (BadCount n) end refusal tells = behind a.held b.held c.held a.writes b.writes c.writes (l.transcript script) (last_line (BadCount n)) end.3 later tells
@@ -259,7 +259,7 @@ module _ (l : Language) (script : List ℕ) (a b c : Outside) (kept : c.input �
   alone : (s : Status) → b.held ≡ a.held → Tells s → EndsWith a.held c.held a.writes c.writes [] (last_line s)
   alone s same tells = behind a.held b.held c.held a.writes b.writes c.writes [] (last_line s) (subst (λ (o : List ℕ). Appends a.held o []) (sym same) (Appends-nil a.held)) later tells
 
-  unread-told : (s : Status) → HasEnded l script a b (Err s) → IsUnread s → Tells s → EndsWith a.held c.held a.writes c.writes [] (last_line s)
+  unread-told : (s : Status) → HasPlayedScript l script a b (Err s) → IsUnread s → Tells s → EndsWith a.held c.held a.writes c.writes [] (last_line s)
   unread-told TooLong end unread tells = alone TooLong end.0 tells
   unread-told ReadFault end unread tells = alone ReadFault end.0 tells
   unread-told Done end unread tells = absurd unread
@@ -276,14 +276,14 @@ module _ (l : Language) (script : List ℕ) (a b c : Outside) (kept : c.input �
   unread-told (BadConfig key) end unread tells = absurd unread
   unread-told AcceptFault end unread tells = absurd unread
 
-  not-done : (s : Status) → HasEnded l script a b (Err s) → s ≡ Done → ⊥
-  not-done s end is = (subst (λ (x : Status). HasEnded l script a b (Err x)) is end).0
+  not-done : (s : Status) → HasPlayedScript l script a b (Err s) → s ≡ Done → ⊥
+  not-done s end is = (subst (λ (x : Status). HasPlayedScript l script a b (Err x)) is end).0
 
-  too-long : (s : Status) → HasEnded l script a b (Err s) → s ≡ TooLong → length script ≡ 16777217
-  too-long s end is = (subst (λ (x : Status). HasEnded l script a b (Err x)) is end).1
+  too-long : (s : Status) → HasPlayedScript l script a b (Err s) → s ≡ TooLong → length script ≡ 16777217
+  too-long s end is = (subst (λ (x : Status). HasPlayedScript l script a b (Err x)) is end).1
 
   -- the status was told as it is
-  same-told : (s : Status) → Takes a.input b.input script → length script ≤ 16777217 → HasEnded l script a b (Err s) → (s ≡ Want) ⊎ Tells s → TellsFront b.held c.held s → IsPlayed l a c s
+  same-told : (s : Status) → Takes a.input b.input script → length script ≤ 16777217 → HasPlayedScript l script a b (Err s) → (s ≡ Want) ⊎ Tells s → TellsFront b.held c.held s → IsPlayed l a c s
   same-told s taken few end tells front = record {
     script = script;
     taken = subst (λ (i : Input). Takes a.input i script) (sym kept) taken;
@@ -304,7 +304,7 @@ module _ (l : Language) (script : List ℕ) (a b c : Outside) (kept : c.input �
       surely x (inr tells) never = tells
 
   -- there was no memory to tell it
-  want-told : (s : Status) → Takes a.input b.input script → length script ≤ 16777217 → HasEnded l script a b (Err s) → TellsFront b.held c.held Want → IsPlayed l a c Want
+  want-told : (s : Status) → Takes a.input b.input script → length script ≤ 16777217 → HasPlayedScript l script a b (Err s) → TellsFront b.held c.held Want → IsPlayed l a c Want
   want-told s taken few end front = record {
     script = script;
     taken = subst (λ (i : Input). Takes a.input i script) (sym kept) taken;
@@ -320,7 +320,7 @@ module _ (l : Language) (script : List ℕ) (a b c : Outside) (kept : c.input �
     bytes = stops s Want (λ early. tt) end front;
   }
 
-  pub played-told : (s status : Status) → Takes a.input b.input script → length script ≤ 16777217 → HasEnded l script a b (Err s) → (status ≡ s) ⊎ (status ≡ Want) → (status ≡ s → (status ≡ Want) ⊎ Tells s)
+  pub played-told : (s status : Status) → Takes a.input b.input script → length script ≤ 16777217 → HasPlayedScript l script a b (Err s) → (status ≡ s) ⊎ (status ≡ Want) → (status ≡ s → (status ≡ Want) ⊎ Tells s)
       → TellsFront b.held c.held status → IsPlayed l a c status
   played-told s status taken few end (inl is) tells front = subst (IsPlayed l a c) (sym is)
       (same-told s taken few end (subst (λ (x : Status). (x ≡ Want) ⊎ Tells s) is (tells is)) (subst (TellsFront b.held c.held) is front))

@@ -73,14 +73,14 @@ HasDone before next now _ = ⊥
 
 -- a script of these bytes, in this language, was read and played: to its end, up to a line that is refused, or until it was known to be
 -- too long, a read or a write failed, or there was no memory
-abbrev pub HasEnded : Language → List ℕ → Outside → Outside → Result (Unit {0}) Status → Type 0
-HasEnded l script before now (Ok _) = (told_in l script ≡ Done) × IsEnded now.input × Appends before.held now.held (l.transcript script)
-HasEnded l script before now (Err TooLong) = (now.held ≡ before.held) × (length script ≡ longest_script + 1)
-HasEnded l script before now (Err ReadFault) = (now.held ≡ before.held) × Rose before.reads now.reads × (length script ≤ longest_script)
-HasEnded l script before now (Err WriteFault) =
+abbrev pub HasPlayedScript : Language → List ℕ → Outside → Outside → Result (Unit {0}) Status → Type 0
+HasPlayedScript l script before now (Ok _) = (told_in l script ≡ Done) × IsEnded now.input × Appends before.held now.held (l.transcript script)
+HasPlayedScript l script before now (Err TooLong) = (now.held ≡ before.held) × (length script ≡ longest_script + 1)
+HasPlayedScript l script before now (Err ReadFault) = (now.held ≡ before.held) × Rose before.reads now.reads × (length script ≤ longest_script)
+HasPlayedScript l script before now (Err WriteFault) =
     Rose before.writes now.writes × (length script ≤ longest_script) × IsEnded now.input × HasWritten before.held now.held (l.transcript script)
-HasEnded l script before now (Err Want) = (now.held ≡ before.held) ⊎ (IsEnded now.input × HasWritten before.held now.held (l.transcript script))
-HasEnded l script before now (Err status) =
+HasPlayedScript l script before now (Err Want) = (now.held ≡ before.held) ⊎ (IsEnded now.input × HasWritten before.held now.held (l.transcript script))
+HasPlayedScript l script before now (Err status) =
     IsRefusal status × (told_in l script ≡ status) × IsEnded now.input × Appends before.held now.held (l.transcript script)
 
 -- the bytes that were taken are a script, which was read and played
@@ -88,7 +88,7 @@ pub record HasTreated (l : Language) (before now : Outside) (result : Result (Un
   pub script : List ℕ
   pub taken : Takes before.input now.input script
   pub few : length script ≤ longest_script + 1
-  pub ends : HasEnded l script before now result
+  pub ends : HasPlayedScript l script before now result
 
 -- the bytes in an answer
 abbrev pub bytes_in : {E Z : Type 0} → Result (Vec ℕ Z) E → Result (List ℕ) E

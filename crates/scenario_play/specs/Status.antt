@@ -106,8 +106,8 @@ told_by verdict text = if nat_lt longest_script (length text) then TooLong else 
 abbrev pub verdict : List ℕ → Status
 verdict text = told_of told_at (first_fault text)
 
-abbrev pub told : List ℕ → Status
-told text = told_by verdict text
+abbrev pub status_for : List ℕ → Status
+status_for text = told_by verdict text
 
 -- a status is the one that is to be told, or there was no memory, or an object counted a fault
 abbrev pub IsTold : Status → ℕ → ℕ → ℕ → ℕ → Status → Type 0

@@ -5,7 +5,7 @@ ghost use Rattle.edge_io.specs.Faults.{Rose};
 ghost use Rattle.edge_io.specs.Writing.{HasWritten};
 ghost use Rattle.scenario_make.specs.Script.{script_text};
 ghost use Rattle.scenario_play.specs.Played.{IsWritten};
-ghost use Rattle.scenario_play.specs.Status.{TellsOfScript, told};
+ghost use Rattle.scenario_play.specs.Status.{TellsOfScript, status_for};
 ghost use Rattle.scenario_play.specs.Trial.{trial_of, trial_text};
 
 use crate::cut::count_lines;
@@ -22,7 +22,7 @@ use std::alloc::Global;
 /// Plays the script that the number makes, and writes what came of it on a line: how many lines the script has, how
 /// many entries its group logged, and how many bytes its transcript has.
 pub fn trial<K: Sink>(alloc: Global, number: u64, sink: &mut K) -> Status
-    ensures { IsWritten (told (script_text number)) (trial_text number) (K.held sink.old) (K.held sink.new) (K.faults sink.old) (K.faults sink.new) result }
+    ensures { IsWritten (status_for (script_text number)) (trial_text number) (K.held sink.old) (K.held sink.new) (K.faults sink.old) (K.faults sink.new) result }
 {
     match write_trial(alloc, number, sink) {
         Ok(()) => Status::Done,
@@ -33,10 +33,10 @@ pub fn trial<K: Sink>(alloc: Global, number: u64, sink: &mut K) -> Status
 fn write_trial<K: Sink>(alloc: Global, number: u64, sink: &mut K) -> Result<(), Status>
     ensures whole { OnOk result (Appends (K.held sink.old) (K.held sink.new) (trial_text number)) }
     ensures part { HasWritten (K.held sink.old) (K.held sink.new) (trial_text number) }
-    ensures told { OnOk result (told (script_text number) ≡ Status.Done) }
+    ensures told { OnOk result (status_for (script_text number) ≡ Status.Done) }
     ensures later { K.faults sink.old ≤ K.faults sink.new }
     ensures fault { IfErr result (λ status. ((status ≡ Status.WriteFault) × Rose (K.faults sink.old) (K.faults sink.new))
-        ⊎ (status ≡ Status.Want) ⊎ (TellsOfScript status × (status ≡ told (script_text number)))) }
+        ⊎ (status ≡ Status.Want) ⊎ (TellsOfScript status × (status ≡ status_for (script_text number)))) }
 {
     let script = make_script(alloc, number)?;
     let line = trial_line(alloc, number, &script)?;
@@ -46,8 +46,8 @@ fn write_trial<K: Sink>(alloc: Global, number: u64, sink: &mut K) -> Result<(), 
 /// Plays a script, and says what came of it.
 fn trial_line(alloc: Global, number: u64, script: &[u8]) -> Result<String, Status>
     ensures ok { IfOk result (λ line. string_bytes line ≡ trial_of number script.now) }
-    ensures told { OnOk result (told script.now ≡ Status.Done) }
-    ensures fault { IfErr result (λ status. (status ≡ Status.Want) ⊎ (TellsOfScript status × (status ≡ told script.now))) }
+    ensures told { OnOk result (status_for script.now ≡ Status.Done) }
+    ensures fault { IfErr result (λ status. (status ≡ Status.Want) ⊎ (TellsOfScript status × (status ≡ status_for script.now))) }
 {
     if LONGEST_SCRIPT < script.len() {
         return Err(Status::TooLong);

@@ -6,7 +6,7 @@ use Rattle.group_types.specs.declared.process.ProcessId.{ProcessId}
 use Rattle.group_types.specs.declared.run.Run.{Run}
 use Rattle.group_run.specs.Meaning.{IsDown, is_dead}
 use Rattle.group_run.specs.World.{World}
-use Rattle.group_run.specs.Shown.{HoldsTruth, held, is_down, stamp_of, told}
+use Rattle.group_run.specs.Shown.{HoldsTruth, held, is_down, stamp_of, told_bytes}
 use Rattle.scenario_text.specs.Texts.{shown_text}
 use Rattle.scenario_run.specs.Playing.{look}
 use Rattle.scenario_run.specs.Promises.{ShowsTruth}
@@ -21,6 +21,6 @@ shows-truth w p run pin truth = by (is_down w) (is_dead w p) refl refl where
   by false true isdown isdead =
       ap (λ (b : Bool). if b then codes "down" else (if is_dead w p then codes "lost" else shown_text (stamp_of w p) (held w p run))) isdown
       ∙ ap (λ (b : Bool). if b then codes "lost" else shown_text (stamp_of w p) (held w p run)) isdead
-      ∙ sym (ap (λ (b : Bool). if b then codes "down" else (if is_dead w p then codes "lost" else shown_text (stamp_of w p) (told w p run))) isdown
-      ∙ ap (λ (b : Bool). if b then codes "lost" else shown_text (stamp_of w p) (told w p run)) isdead)
+      ∙ sym (ap (λ (b : Bool). if b then codes "down" else (if is_dead w p then codes "lost" else shown_text (stamp_of w p) (told_bytes w p run))) isdown
+      ∙ ap (λ (b : Bool). if b then codes "lost" else shown_text (stamp_of w p) (told_bytes w p run)) isdead)
   by false false isdown isdead = ap (look w p) (truth (up w isdown) p run (pin, isdead))

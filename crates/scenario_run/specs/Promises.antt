@@ -10,7 +10,7 @@ use Rattle.group_calls.specs.Within.{AnswersWithin}
 use Rattle.group_run.specs.Headline.{Headline, IsRun}
 use Rattle.group_run.specs.World as machine
 use Rattle.group_run.specs.World.{World}
-use Rattle.group_run.specs.Shown.{held, told}
+use Rattle.group_run.specs.Shown.{held, told_bytes}
 use Rattle.scenario_text.specs.Meaning.{line_of}
 use Rattle.scenario_text.specs.declared.line.Line.{Line}
 use Rattle.scenario_text.specs.declared.line.Line.TheVariants.{Show}
@@ -22,7 +22,7 @@ use Rattle.scenario_run.specs.Script.{events_of, first_fault, shape_of, turns_of
 
 -- what is shown is what the log tells
 abbrev pub ShowsTruth : World → ProcessId → Run → Type 0
-ShowsTruth w p run = look w p (held w p run) ≡ look w p (told w p run)
+ShowsTruth w p run = look w p (held w p run) ≡ look w p (told_bytes w p run)
 
 -- so it is with a line that shows bytes
 abbrev pub IsTrueLine : Option Play → Result Line LineFault → Type 0

@@ -31,7 +31,7 @@ pub record IsServed (s : Dimensions) (told : Option ℕ) (input input_now : Inpu
   pub one_table : IsOneTable s
 
 -- and the session ends by how the connection ended
-pub record HasEnded (s : Dimensions) (told : Option ℕ) (input input_now : Input) (held held_now : List ℕ) (end : SessionEnd) : Type 0 where
+pub record HasEndedSession (s : Dimensions) (told : Option ℕ) (input input_now : Input) (held held_now : List ℕ) (end : SessionEnd) : Type 0 where
   pub connection : Result End ConnectionFault
   pub served : IsServed s told input input_now held held_now connection
   pub ends : end ≡ end_of connection

@@ -1,6 +1,6 @@
 ghost use Rattle.std.specs.Prelude.{◌≡◌, ◌≤◌};
 ghost use Rattle.edge_io.specs.Faults.{HasCauseOf, Rose};
-ghost use Rattle.scenario_session.specs.Session.{HasEnded, IsServed};
+ghost use Rattle.scenario_session.specs.Session.{HasEndedSession, IsServed};
 
 use crate::end::{SessionEnd, end_of};
 use caller_table::{World, WorldCaller};
@@ -17,7 +17,7 @@ pub fn session<S: Source, K: Sink, T: Clock>(
     sink: &mut K,
     clock: &T,
 ) -> SessionEnd
-    ensures ended { HasEnded shape (T.moment clock.now) (S.input source.old) (S.input source.new) (K.held sink.old) (K.held sink.new) result }
+    ensures ended { HasEndedSession shape (T.moment clock.now) (S.input source.old) (S.input source.new) (K.held sink.old) (K.held sink.new) result }
     ensures read { result ≡ SessionEnd.ReadFault → Rose (S.faults source.old) (S.faults source.new) }
     ensures write { result ≡ SessionEnd.WriteFault → Rose (K.faults sink.old) (K.faults sink.new) }
     ensures later { K.faults sink.old ≤ K.faults sink.new }
