@@ -1,7 +1,7 @@
-ghost use Rattle.std.specs.Prelude.{◌≡◌, ℕ, List, ◌∷◌, MatchResult, IfOk, OnOk, OnErr};
+ghost use Rattle.std.specs.Prelude.{◌≡◌, ℕ, List, [], ◌∷◌, ◌++◌, MatchResult, if◌then◌else◌, IfOk, OnOk, OnErr};
 ghost use Rattle.edge_io.specs.Moving.{Appends};
 ghost use Rattle.edge_io.specs.Writing.{HasWritten};
-ghost use Rattle.memc_proto.specs.Text.{end_text};
+ghost use Rattle.memc_proto.specs.Text.{end_of_items, end_text};
 ghost use Rattle.front_end.specs.Answers.{stand, IsMade, IsKeyAnswered, IsAnswered, IsBroken};
 ghost use Rattle.front_end.specs.Calls.{ways_of};
 ghost use Rattle.front_end.specs.Faults.{HasSinkCause};
@@ -86,12 +86,54 @@ fn answer_get<C: Caller, K: Sink, T: Clock>(
         (stand caller.old (K.held sink.old)) (stand caller.new (K.held sink.new)) fault (Request.Get keys.now with_cas)) }
     ensures cause { HasSinkCause (K.faults sink.old) (K.faults sink.new) result }
 {
-    'keys: for key in keys {
+    let Some((last, first)) = keys.split_last() else {
+        return write_text(sink, end_of_items());
+    };
+    'keys: for key in first {
         if !answer_key(alloc, caller, sink, clock, key, with_cas)? {
             return Ok(());
         }
     }
-    write_text(sink, end_of_items())
+    answer_last_key(alloc, caller, sink, clock, last, with_cas)
+}
+
+/// Makes the call on the last key of a get, and writes its text and what stands behind it at once.
+fn answer_last_key<C: Caller, K: Sink, T: Clock>(
+    alloc: Global,
+    caller: &mut C,
+    sink: &mut K,
+    clock: &T,
+    key: &Key,
+    with_cas: bool,
+) -> Result<(), ConnectionFault>
+    ensures answer { MatchResult result
+        (λ _. IsAnswered (ways_of C.made C.failed C.kept) (T.moment clock.now)
+        (stand caller.old (K.held sink.old)) (stand caller.new (K.held sink.new)) (Request.Get (key.now ∷ []) with_cas))
+        (λ fault. IsBroken (ways_of C.made C.failed C.kept) (T.moment clock.now)
+        (stand caller.old (K.held sink.old)) (stand caller.new (K.held sink.new)) fault (Request.Get (key.now ∷ []) with_cas)) }
+    ensures cause { HasSinkCause (K.faults sink.old) (K.faults sink.new) result }
+{
+    let end = ask(caller, clock, get_of(key)?)?;
+    write_last(alloc, sink, key, with_cas, end)
+}
+
+/// Writes the text of the end of the call on the last key of a get, and `END` behind it where it is a reply.
+fn write_last<K: Sink>(
+    alloc: Global,
+    sink: &mut K,
+    key: &Key,
+    with_cas: bool,
+    end: CallEnd,
+) -> Result<(), ConnectionFault>
+    ensures whole { OnOk result (Appends (K.held sink.old) (K.held sink.new) (end_text key.now with_cas end ++ (if is_reply end then end_of_items else []))) }
+    ensures part { HasWritten (K.held sink.old) (K.held sink.new) (end_text key.now with_cas end ++ (if is_reply end then end_of_items else [])) }
+    ensures cause { HasSinkCause (K.faults sink.old) (K.faults sink.new) result }
+{
+    let mut text = Vec::from(write_reply(alloc, key, with_cas, &end)?);
+    if is_reply(&end) {
+        text.extend_from_slice(end_of_items())?;
+    }
+    write_text(sink, &text)
 }
 
 /// Makes the call on one key of a get and writes its text. Says whether the call ended by a reply.
