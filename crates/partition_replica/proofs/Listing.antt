@@ -1,5 +1,5 @@
 -- The entries of an index, once they are in the order of keys, are the items.
-use Rattle.std.proofs.Common.{◌≡◌, ℕ, zero, suc, ◌+◌, ◌<◌, ◌≤◌, Bool, true, false, ◌&&◌, List, [], ◌∷◌, length, get_or, Option, Some, None, Contains, refl, sym, ap, ◌∙◌, subst, arith}
+use Rattle.std.proofs.Common.{◌≡◌, ℕ, suc, ◌+◌, ◌<◌, Bool, true, false, ◌&&◌, List, [], ◌∷◌, length, get_or, Option, Some, None, refl, sym, ap, ◌∙◌, subst, arith}
 use Rattle.std.specs.Prelude.{T}
 use mathlib.Core.Bool.{false≢true}
 use Rattle.std.specs.declared.cmp.Ordering.{Ordering}
@@ -17,12 +17,11 @@ use Rattle.std.proofs.lemmas.List.MinMax.{ranks_by}
 use Rattle.std.proofs.lemmas.List.Sorted.{Contains-permutation, IsPermutation-map, IsPermutation-sym, sorted_far}
 use Rattle.std.proofs.lemmas.Map.Keys.{IsDistinct-IsPermutation, IsDistinct-head, IsDistinct-tail}
 use Rattle.std.proofs.lemmas.Map.Views.{Contains-from_lookup, lookup-from_Contains}
-use Rattle.group_types.specs.Lists.{same_key}
 use Rattle.item_index.specs.declared.slot.Slot.{Slot}
 use Rattle.item_index.specs.AsMap.{as_map}
-use Rattle.item_index.specs.Keys.{Keys, IsListing, slot_of}
+use Rattle.item_index.specs.Keys.{Keys, IsListing}
 use Rattle.partition_replica.specs.Inside.{items_in}
-use Rattle.partition_replica.proofs.Keys.{equal, equal_is, slot_in-items_in, swapped, tied}
+use Rattle.partition_replica.proofs.Keys.{equal, equal_is, slot_in-items_in, tied}
 
 abbrev order : List ℕ → List ℕ → Ordering
 order = slice_cmp nat_cmp
@@ -59,14 +58,14 @@ rises [] distinct up = tt
 rises (e ∷ es) distinct up =
     both _ _ (below e es (IsDistinct-head equal e.0 (keys_of es) distinct) (λ j d low. sorted_far comes_before (ranks_by nat_list_cmp_total (λ (x : List ℕ × Slot). x.0)) (e ∷ es) up 0 (suc j) d (omega arith) (omega (arith, low))))
     (rises es (IsDistinct-tail equal e.0 (keys_of es) distinct) later) where
-  both : (a b : Bool) → T a → T b → T (a && b)
-  both true b p q = q
-  both false b p q = p
+      both : (a b : Bool) → T a → T b → T (a && b)
+      both true b p q = q
+      both false b p q = p
 
-  later : IsSortedBy comes_before es
-  later k d low less =
-      let next : suc k + 1 ≡ suc (k + 1) = omega arith in
-      subst (λ (n : ℕ). comes_before (get_or (e ∷ es) n d) (get_or es k d) ≡ false) next (up (suc k) d (omega arith) (omega (arith, less)))
+      later : IsSortedBy comes_before es
+      later k d low less =
+          let next : suc k + 1 ≡ suc (k + 1) = omega arith in
+          subst (λ (n : ℕ). comes_before (get_or (e ∷ es) n d) (get_or es k d) ≡ false) next (up (suc k) d (omega arith) (omega (arith, less)))
 
 -- the order of the entries doesn't count
 same_lookup : (xs ys : List (List ℕ × Slot)) (q : List ℕ) → IsDistinct equal (keys_of xs) → IsDistinct equal (keys_of ys) → IsPermutation xs ys → lookup (equal q) ys ≡ lookup (equal q) xs
