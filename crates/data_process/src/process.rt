@@ -36,6 +36,8 @@ use process_service::{Service, Step};
 use std::alloc::{AllocError, Global};
 use std::marker::Model;
 
+mod replica;
+
 /// A data process: it heads its own partition, whose values stand in its space.
 #[derive(Drop)]
 pub struct DataProcess {

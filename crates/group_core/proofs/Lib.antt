@@ -2,6 +2,7 @@ pub mod Changed
 pub mod Waiting
 pub mod Exchanges
 pub mod Halves
+pub mod Heads
 pub mod Killed
 pub mod Known
 pub mod Paired

@@ -1,3 +1,4 @@
+pub mod Items
 pub mod Links
 pub mod NodeList
 pub mod Pairs

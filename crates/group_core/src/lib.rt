@@ -8,6 +8,7 @@ mod coming;
 mod delivering;
 mod draining;
 mod failing;
+mod items;
 mod members;
 mod nodes;
 mod reading;
@@ -16,5 +17,6 @@ mod world;
 
 pub use coming::values_are_bytes;
 pub use failing::fail_at;
+pub use items::ItemHead;
 pub use nodes::Nodes;
 pub use world::World;

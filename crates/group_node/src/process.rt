@@ -28,6 +28,7 @@ use head_service::{Call, CallStep, Sent};
 use membership::Members;
 use memc_table::Op;
 use parity_process::ParityProcess;
+use partition_replica::Replica;
 use process_service::Step;
 use std::alloc::{AllocError, Global};
 use std::marker::Model;
@@ -173,6 +174,17 @@ impl Process {
         match &self.role {
             Role::Data(process) => Ok(vec![in alloc; process.stamp()]?),
             Role::Parity(process) => numbers_of(alloc, k, &process.stamp()?),
+        }
+    }
+
+    /// Its replica of a partition.
+    pub fn replica(&self, partition: Partition) -> &Replica
+        requires { partition.0 < self.now.shape.k }
+        ensures { result.now.replica ≡ replica_of self.now.process partition.0 }
+    {
+        match &self.role {
+            Role::Data(process) => process.replica(partition),
+            Role::Parity(process) => process.replica(partition),
         }
     }
 

@@ -1,10 +1,12 @@
-ghost use Rattle.std.specs.Prelude.{◌≡◌, ◌+◌, ◌≤◌, IfOk, length};
+ghost use Rattle.std.specs.Prelude.{◌≡◌, ◌+◌, ◌<◌, ◌≤◌, IfOk, length};
 ghost use Rattle.group_types.specs.Dimensions.{space_of};
 ghost use Rattle.erasure_code.specs.Spaces.{bytes_at};
+ghost use Rattle.group_run.specs.Applying.{replica_of};
 ghost use Rattle.group_run.specs.Shown.{process_stamp};
 
 use crate::node::Node;
-use group_types::{Payload, Run};
+use group_types::{Partition, Payload, Run};
+use partition_replica::Replica;
 use std::alloc::{AllocError, Global};
 use vector_stamp::Stamp;
 
@@ -16,6 +18,14 @@ impl Node {
         ensures { IfOk result (λ stamp. stamp.items ≡ process_stamp self.now.shape self.now.node.process.name self.now.node.process) }
     {
         self.process.stamp(self.alloc, self.shape.k())
+    }
+
+    /// Its replica of a partition.
+    pub fn replica(&self, partition: Partition) -> &Replica
+        requires { partition.0 < self.now.shape.k }
+        ensures { result.now.replica ≡ replica_of self.now.node.process partition.0 }
+    {
+        self.process.replica(partition)
     }
 
     /// The bytes of a run of its space.

@@ -35,6 +35,8 @@ use std::alloc::{AllocError, Global};
 use std::marker::Model;
 use vector_stamp::Stamp;
 
+mod replica;
+
 /// A parity process: it has a replica of each partition, and heads those whose other heads it knows to be dead.
 /// Its bytes are the code of all spaces, and blocks that it rebuilt.
 #[derive(Drop)]

@@ -1,6 +1,7 @@
 pub mod Agree
 pub mod Indices
 pub mod Keys
+pub mod Listing
 pub mod Moving
 pub mod Owners
 pub mod Places

@@ -18,6 +18,7 @@ use run_alloc::FreeRuns;
 use std::alloc::{AllocError, Global};
 use std::marker::Model;
 
+mod listing;
 mod moves;
 mod room;
 
