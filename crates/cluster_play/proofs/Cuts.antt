@@ -13,6 +13,10 @@ cut-at (b ∷ bs) zero within before here = ap (λ (t : Bool). if t then Some ([
 cut-at (b ∷ bs) (suc end) within before here =
     ap (λ (t : Bool). if t then Some ([], bs) else behind b (cut_at_space bs)) (false_of (b == 32) (before 0 (omega arith)))
     ∙ ap (behind b) (cut-at bs end (omega (arith, within)) (λ k below. before (suc k) (omega (arith, below))) here)
+    ∙ ap (λ (n : ℕ). Some (b ∷ take end bs, drop n (b ∷ bs))) one
+  where
+    one : suc (end + 1) ≡ suc end + 1
+    one = omega arith
 
 pub cut-none : (line : List ℕ) → ((k : ℕ) → k < length line → (slice_index line k == 32) ≡ true → ⊥) → cut_at_space line ≡ None
 cut-none [] none = refl

@@ -1,15 +1,17 @@
 -- The deliveries of a drain in one group of a cluster, and in one group after the other.
-use Rattle.std.proofs.Common.{ℕ, zero, suc, ◌≡◌, ◌+◌, ◌-◌, ◌^◌, ◌≤◌, ◌<◌, Bool, true, false, if◌then◌else◌, codes, List, [], ◌∷◌, ◌++◌, length, map, Option, Some, None, refl, sym, ap, ◌∙◌, subst, append_assoc, append-nil, length-append, arith}
+use Rattle.std.proofs.Common.{ℕ, zero, suc, ◌≡◌, ◌+◌, ◌-◌, ◌*◌, ◌^◌, ◌≤◌, ◌<◌, Bool, true, false, if◌then◌else◌, codes, List, [], ◌∷◌, ◌++◌, length, map, Option, Some, None, refl, sym, ap, ◌∙◌, subst, append_assoc, append-nil, length-append, arith}
 use Rattle.std.specs.Fmt.{decimal}
 use Rattle.std.specs.List.{range_with_len}
 use Rattle.group_calls.specs.declared.event.Event.{Event}
 use Rattle.group_run.specs.Draining.{drain_events, next_delivery}
 use Rattle.group_run.specs.Meaning.{IsDown}
 use Rattle.group_run.specs.Progress.{load_of}
+use Rattle.group_run.specs.Shown.{is_down}
 use Rattle.group_run.specs.World.{World, step}
 use Rattle.group_layout.specs.Cluster.{Cluster, ClusterEntry, MayHappen, cluster_after, cluster_step, logged_in, world_in}
 use Rattle.group_layout.specs.declared.event.ClusterEvent.{ClusterEvent}
 use Rattle.group_layout.specs.declared.event.ClusterEvent.TheVariants.{InGroup}
+use Rattle.group_cluster.specs.History.{HasFewEvents}
 use Rattle.group_cluster.specs.Plan.{Plan}
 use Rattle.scenario_run.specs.Playing.{draining}
 use Rattle.scenario_run.proofs.Draining.{Lightens, burden, lightens, next-delivers}
@@ -35,6 +37,10 @@ written-more c e es = entries-append (logged_in (cluster_step c e).turns) (log_o
 -- deliveries of a group, as events of its cluster
 abbrev pub ours : ℕ → List Event → List ClusterEvent
 ours j es = map (InGroup j) es
+
+ours-many : (j : ℕ) (es : List Event) → length (ours j es) ≡ length es
+ours-many j [] = refl
+ours-many j (e ∷ es) = ap suc (ours-many j es)
 
 module _ (c : Cluster) (j : ℕ) where
   -- the deliveries that are left, of as many as the weight at first
@@ -75,6 +81,16 @@ module _ (c : Cluster) (j : ℕ) where
     whole = ap (λ (n : ℕ). drain_events n (world_in c.groups j)) all
 
   module _ (d : Cluster) (before text : List ℕ) (count : ℕ) (made : Made d before text count) where
+    -- the group is there, and made few events and deliveries
+    pub made-there : j < length d.groups.worlds
+    made-there = subst (λ (n : ℕ). j < n) (sym (led-even made.plan d made.led).many) made.low
+
+    pub made-few : burden (world_in c.groups j) ≤ 2 ^ 59 → HasFewEvents d.groups j
+    made-few few = let light = made.light in omega (arith, few, light)
+
+    pub made-count : burden (world_in c.groups j) ≤ 2 ^ 59 → count ≤ 2 ^ 59
+    made-count few = let fuel = made.fuel in omega (arith, few, fuel)
+
     -- the next delivery
     pub record NextMade (e : Event) : Type 0 where
       pub may : MayHappen d (InGroup j e)
@@ -142,10 +158,12 @@ module _ (c : Cluster) (j : ℕ) where
     all-written = sym (append-nil text) ∙ sym (ap (λ (es : List Event). text ++ written_by d (ours j es)) none) ∙ made.written ∙ sym (ap (λ (es : List ClusterEvent). before ++ written_by c es) all)
 
     pub all-counted : count ≡ length (deliveries_in c j)
-    all-counted = let left = ap length none in let whole = made.many in let same = ap length all in let each = long all_in in omega (arith, left, whole, same, each) where
-      long : (es : List Event) → length (ours j es) ≡ length es
-      long [] = refl
-      long (e ∷ es) = ap suc (long es)
+    all-counted =
+        let left = ap length none in
+        let whole = made.many in
+        let same = ap length all in
+        let each = ours-many j all_in in
+        omega (arith, left, whole, same, each)
 
 -- there are none while a group is down
 pub down-none : (c : Cluster) (j : ℕ) → IsDown (world_in c.groups j) → deliveries_in c j ≡ []
@@ -162,21 +180,55 @@ written-append c es fs =
     ∙ entries-append (log_of (turns_from c es)) (log_of (turns_from (cluster_after c es) fs))
 
 -- events that add to no group leave it ready
+led-after : (n : ℕ) (c : Cluster) (j : ℕ) → (ready : IsReadyFor n c) → j < length c.groups.worlds → IsLedTo ready.plan (cluster_after c (deliveries_in c j))
+led-after n c j ready low =
+    let there : j < ready.plan.groups = subst (λ (k : ℕ). j < k) (led-even ready.plan c ready.led).many low in
+    led-on ready.plan c (cluster_after c (deliveries_in c j)) _ ready.led (record { events = deliveries_in c j; may = (group-drains ready.plan c j ready.led there).may; turns_are = refl; to = refl })
+
 pub still-ready : (n : ℕ) (c : Cluster) (j : ℕ) → IsReadyFor n c → j < length c.groups.worlds → IsReadyFor n (cluster_after c (deliveries_in c j))
 still-ready n c j ready low =
     let there : j < ready.plan.groups = subst (λ (k : ℕ). j < k) (led-even ready.plan c ready.led).many low in
     let drains = group-drains ready.plan c j ready.led there in
     record {
       plan = ready.plan;
-      led = led-on ready.plan c (cluster_after c (deliveries_in c j)) _ ready.led (record { events = deliveries_in c j; may = drains.may; turns_are = refl; to = refl });
+      led = led-after n c j ready low;
       light = λ i below. (let less = drains.light i in let light = ready.light i below in omega (arith, less, light));
     }
 
 -- the number of groups stays
 pub same-many : (n : ℕ) (c : Cluster) (j : ℕ) → IsReadyFor n c → j < length c.groups.worlds → length (cluster_after c (deliveries_in c j)).groups.worlds ≡ length c.groups.worlds
 same-many n c j ready low =
-    let after = still-ready n c j ready low in
-    (led-even after.plan (cluster_after c (deliveries_in c j)) after.led).many ∙ sym (led-even ready.plan c ready.led).many
+    (led-even ready.plan (cluster_after c (deliveries_in c j)) (led-after n c j ready low)).many ∙ sym (led-even ready.plan c ready.led).many
+
+-- there are at most as many deliveries as the weight of what is on its way
+drain-short : (n : ℕ) (w : World) → length (drain_events n w) ≤ n
+drain-short zero w = omega arith
+drain-short (suc n) w = by (next_delivery w) (λ v. drain-short n v) where
+  by : (next : Option Event) → ((v : World) → length (drain_events n v) ≤ n) → length {A = Event} (elim next [ None ↦ [] | Some e ↦ e ∷ drain_events n (step w e).world ]) ≤ suc n
+  by None later = omega arith
+  by (Some e) later = let less = later (step w e).world in omega (arith, less)
+
+deliveries-short : (c : Cluster) (j : ℕ) → length (deliveries_in c j) ≤ load_of (world_in c.groups j)
+deliveries-short c j = by (is_down w) where
+  w : World
+  w = world_in c.groups j
+
+  by : (b : Bool) → length (ours j (if b then [] else drain_events (load_of w) w)) ≤ load_of w
+  by true = omega arith
+  by false = let many = ours-many j (drain_events (load_of w) w) in let short = drain-short (load_of w) w in omega (arith, many, short)
+
+pub burden-few : (c : Cluster) (j : ℕ) → IsReadyFor (2 ^ 59) c → j < length c.groups.worlds → burden (world_in c.groups j) ≤ 2 ^ 59
+burden-few c j ready low = ready.light j (subst (λ (k : ℕ). j < k) (led-even ready.plan c ready.led).many low)
+
+-- so few that all groups' together can be counted
+pub few-deliveries : (c : Cluster) (j : ℕ) → IsReadyFor (2 ^ 59) c → j < length c.groups.worlds → length (deliveries_in c j) ≤ 2 ^ 59
+few-deliveries c j ready low =
+    let light = ready.light j (subst (λ (k : ℕ). j < k) (led-even ready.plan c ready.led).many low) in
+    let short = deliveries-short c j in
+    omega (arith, light, short)
+
+pub few-groups : (c : Cluster) → IsReadyFor (2 ^ 59) c → length c.groups.worlds ≤ 16
+few-groups c ready = let many = (led-even ready.plan c ready.led).many in let few = ready.led.limits.groups.1 in omega (arith, many, few)
 
 module _ (c : Cluster) where
   -- the groups from this one on
@@ -185,19 +237,21 @@ module _ (c : Cluster) where
 
   -- the groups before this one were drained
   pub record Drained (d : Cluster) (i : ℕ) (before text : List ℕ) (count : ℕ) : Type 0 where
-    pub ready : IsReadyFor (2 ^ 61) d
+    pub ready : IsReadyFor (2 ^ 59) d
     pub many : length d.groups.worlds ≡ length c.groups.worlds
     pub after : cluster_after d (deliveries d (groups_from i)) ≡ cluster_after c (all_deliveries c)
     pub written : text ++ written_by d (deliveries d (groups_from i)) ≡ before ++ written_by c (all_deliveries c)
     pub counted : count + length (deliveries d (groups_from i)) ≡ length (all_deliveries c)
+    pub few : count ≤ i * 2 ^ 59
 
-  pub Drained-none : (text : List ℕ) → IsReadyFor (2 ^ 61) c → Drained c 0 text text 0
+  pub Drained-none : (text : List ℕ) → IsReadyFor (2 ^ 59) c → Drained c 0 text text 0
   Drained-none text ready = record {
     ready = ready;
     many = refl;
     after = ap (λ (n : ℕ). cluster_after c (deliveries c (range_with_len 0 n))) all;
     written = ap (λ (n : ℕ). text ++ written_by c (deliveries c (range_with_len 0 n))) all;
     counted = let same = ap (λ (n : ℕ). length (deliveries c (range_with_len 0 n))) all in omega (arith, same);
+    few = omega arith;
   } where
     all : length c.groups.worlds - 0 ≡ length c.groups.worlds
     all = omega arith
@@ -210,12 +264,13 @@ module _ (c : Cluster) where
   pub Drained-more : (d e : Cluster) (i : ℕ) (before text more : List ℕ) (count made : ℕ) → Drained d i before text count → i < length c.groups.worlds → e ≡ cluster_after d (deliveries_in d i)
       → more ≡ text ++ written_by d (deliveries_in d i) → made ≡ length (deliveries_in d i) → Drained e (i + 1) before more (count + made)
   Drained-more d e i before text more count made drained low is written many = subst (λ (x : Cluster). Drained x (i + 1) before more (count + made)) (sym is) (record {
-    ready = still-ready (2 ^ 61) d i drained.ready there;
-    many = same-many (2 ^ 61) d i drained.ready there ∙ drained.many;
+    ready = still-ready (2 ^ 59) d i drained.ready there;
+    many = same-many (2 ^ 59) d i drained.ready there ∙ drained.many;
     after = sym (after-append d here rest) ∙ ap (cluster_after d) (sym split) ∙ drained.after;
     written = ap (λ (xs : List ℕ). xs ++ written_by next rest) written ∙ append_assoc text (written_by d here) (written_by next rest) ∙ ap (λ (xs : List ℕ). text ++ xs) (sym (written-append d here rest))
         ∙ ap (λ (es : List ClusterEvent). text ++ written_by d es) (sym split) ∙ drained.written;
     counted = let same = ap length split ∙ length-append here rest in let all = drained.counted in omega (arith, same, all, many);
+    few = let before = drained.few in let here = few-deliveries d i drained.ready there in omega (arith, before, here, many);
   }) where
     there : i < length d.groups.worlds
     there = let same = drained.many in omega (arith, low, same)
@@ -233,27 +288,27 @@ module _ (c : Cluster) where
     split = ap (deliveries d) (next-group i low)
 
   module _ (d : Cluster) (i : ℕ) (before text : List ℕ) (count : ℕ) (drained : Drained d i before text count) (last : length c.groups.worlds ≤ i) where
-    none : groups_from i ≡ []
-    none = ap (range_with_len i) zero_left where
+    no-groups : groups_from i ≡ []
+    no-groups = ap (range_with_len i) zero_left where
       zero_left : length c.groups.worlds - i ≡ 0
       zero_left = omega (arith, last)
 
     pub drained-all : d ≡ cluster_after c (all_deliveries c)
-    drained-all = sym (ap (λ (js : List ℕ). cluster_after d (deliveries d js)) none) ∙ drained.after
+    drained-all = sym (ap (λ (js : List ℕ). cluster_after d (deliveries d js)) no-groups) ∙ drained.after
 
     pub drained-written : text ≡ before ++ written_by c (all_deliveries c)
-    drained-written = sym (append-nil text) ∙ sym (ap (λ (js : List ℕ). text ++ written_by d (deliveries d js)) none) ∙ drained.written
+    drained-written = sym (append-nil text) ∙ sym (ap (λ (js : List ℕ). text ++ written_by d (deliveries d js)) no-groups) ∙ drained.written
 
     pub drained-counted : count ≡ length (all_deliveries c)
-    drained-counted = let left = ap (λ (js : List ℕ). length (deliveries d js)) none in let all = drained.counted in omega (arith, left, all)
+    drained-counted = let left = ap (λ (js : List ℕ). length (deliveries d js)) no-groups in let all = drained.counted in omega (arith, left, all)
 
 -- what a drain writes
 turns-many : (c : Cluster) (es : List ClusterEvent) → length (turns_from c es) ≡ length es
 turns-many c [] = refl
 turns-many c (e ∷ es) = ap suc (turns-many (cluster_step c e).cluster es)
 
-pub drained-is : (c : Cluster) (es : List ClusterEvent) (count : ℕ) (text end all : List ℕ) → count ≡ length es → text ≡ written_by c es → end ≡ codes "drained " ++ (decimal count ++ codes "\n") → all ≡ text ++ end
-    → all ≡ drained_text (turns_from c es)
-drained-is c es count text end all many text_is end_is is =
+pub drained-is : (c : Cluster) (es : List ClusterEvent) (count : ℕ) (text end whole : List ℕ) → count ≡ length es → text ≡ written_by c es → end ≡ codes "drained " ++ (decimal count ++ codes "\n") → whole ≡ text ++ end
+    → whole ≡ drained_text (turns_from c es)
+drained-is c es count text end whole many text_is end_is is =
     is ∙ ap (λ (xs : List ℕ). xs ++ end) text_is
     ∙ ap (λ (xs : List ℕ). written_by c es ++ xs) (end_is ∙ ap (λ (n : ℕ). codes "drained " ++ (decimal n ++ codes "\n")) (many ∙ sym (turns-many c es)))

@@ -20,7 +20,7 @@ pub(crate) fn treat(
     play: &mut Option<ClusterPlay>,
     line: &[u8],
 ) -> Result<Option<Vec<u8>>, ClusterFault>
-    requires { IfSome play.old (λ p. IsReadyFor (2 ^ 61) p.cluster) }
+    requires { IfSome play.old (λ p. IsReadyFor (2 ^ 59) p.cluster) }
     ensures { HasDone play.old (next_of play.old line.now) play.new (text_in result) }
 {
     match play {
@@ -49,7 +49,7 @@ fn follow(
     play: &mut ClusterPlay,
     line: &[u8],
 ) -> Result<Option<Vec<u8>>, ClusterFault>
-    requires ready { IsReadyFor (2 ^ 61) play.old.cluster }
+    requires ready { IsReadyFor (2 ^ 59) play.old.cluster }
     ensures { HasDone (Some play.old) (next_of (Some play.old) line.now) (Some play.new) (text_in result) }
 {
     match read_group(play.cluster.groups(), line) {
@@ -68,7 +68,7 @@ fn follow_all(
     play: &mut ClusterPlay,
     line: &[u8],
 ) -> Result<Option<Vec<u8>>, ClusterFault>
-    requires ready { IsReadyFor (2 ^ 61) play.old.cluster }
+    requires ready { IsReadyFor (2 ^ 59) play.old.cluster }
     ensures { HasDone (Some play.old) (by_words play.old line.now None (failure_line (length play.old.cluster.failed) (text.words_of line.now))) (Some play.new) (text_in result) }
 {
     match read_failure(play.cluster.nodes(), &words_of(alloc, line)?) {
@@ -90,7 +90,7 @@ fn follow_in(
 ) -> Result<Option<Vec<u8>>, ClusterFault>
     requires group { group < length play.old.cluster.groups.worlds }
     requires line { IsLineOf (Some play.old.cluster.groups.shape) line }
-    requires ready { IsReadyFor (2 ^ 61) play.old.cluster }
+    requires ready { IsReadyFor (2 ^ 59) play.old.cluster }
     ensures { HasDone (Some play.old) (then_in play.old group line) (Some play.new) (text_in result) }
 {
     let text = match line {
@@ -141,7 +141,7 @@ fn follow_plain(
     line: Line,
 ) -> Result<Option<Vec<u8>>, ClusterFault>
     requires line { IsLineOf (Some play.old.cluster.groups.shape) line }
-    requires ready { IsReadyFor (2 ^ 61) play.old.cluster }
+    requires ready { IsReadyFor (2 ^ 59) play.old.cluster }
     ensures { HasDone (Some play.old) (then_by play.old line) (Some play.new) (text_in result) }
 {
     match line {

@@ -58,7 +58,7 @@ impl ClusterPlay {
 
     /// The shape of each group.
     pub(crate) fn shape(&self) -> Shape
-        requires ready { IsReadyFor (2 ^ 61) self.now.cluster }
+        requires ready { IsReadyFor (2 ^ 59) self.now.cluster }
         ensures { result ≡ self.now.cluster.groups.shape }
     {
         self.cluster.world(0).shape()
@@ -75,7 +75,7 @@ impl ClusterPlay {
     /// An event of a group is made: its answer on a line, and what it logged.
     pub(crate) fn make(&mut self, alloc: Global, group: u32, event: Event) -> Result<Vec<u8>, AllocError>
         requires may { MayHappen self.old.cluster (InGroup group event) }
-        requires ready { IsReadyFor (2 ^ 61) self.old.cluster }
+        requires ready { IsReadyFor (2 ^ 59) self.old.cluster }
         ensures play { OnOk result (self.new ≡ record { cluster = (cluster_step self.old.cluster (InGroup group event)).cluster; moment = self.old.moment }) }
         ensures text { IfOk result (λ text. text.items ≡ turn_text (turn_of self.old.cluster (InGroup group event))) }
     {
@@ -91,7 +91,7 @@ impl ClusterPlay {
     /// The processes of a node fail, and nothing is logged.
     pub(crate) fn fail(&mut self, alloc: Global, node: u32, keep: u32) -> Result<Vec<u8>, AllocError>
         requires may { MayHappen self.old.cluster (FailNode node keep) }
-        requires ready { IsReadyFor (2 ^ 61) self.old.cluster }
+        requires ready { IsReadyFor (2 ^ 59) self.old.cluster }
         ensures play { OnOk result (self.new ≡ record { cluster = (cluster_step self.old.cluster (FailNode node keep)).cluster; moment = self.old.moment }) }
         ensures text { IfOk result (λ text. text.items ≡ turn_text (turn_of self.old.cluster (FailNode node keep))) }
     {
@@ -103,7 +103,7 @@ impl ClusterPlay {
 
     /// Messages are delivered in one group after the other, until none is left: what that logged, and how many there were.
     pub(crate) fn drain(&mut self, alloc: Global) -> Result<Vec<u8>, AllocError>
-        requires ready { IsReadyFor (2 ^ 61) self.old.cluster }
+        requires ready { IsReadyFor (2 ^ 59) self.old.cluster }
         ensures play { OnOk result (self.new ≡ record { cluster = cluster_after self.old.cluster (all_deliveries self.old.cluster); moment = self.old.moment }) }
         ensures text { IfOk result (λ text. text.items ≡ drained_text (turns_from self.old.cluster (all_deliveries self.old.cluster))) }
     {

@@ -9,7 +9,7 @@ use Rattle.cluster_play.proofs.Ready.{few-all}
 use Rattle.cluster_play.proofs.playing.ClusterPlay.fail.Goals as goal
 
 pub step-requires-clause-few : goal.step-requires-clause-few
-step-requires-clause-few c = few-all c.self.inside.cluster (subst (λ (p : ClusterPlay). IsReadyFor (2 ^ 61) p.cluster) (sym c.self.view_is) c.requires.ready)
+step-requires-clause-few c = few-all c.self.inside.cluster (subst (λ (p : ClusterPlay). IsReadyFor (2 ^ 59) p.cluster) (sym c.self.view_is) c.requires.ready)
 
 pub returns-clause-text : goal.returns-clause-text
 returns-clause-text c =

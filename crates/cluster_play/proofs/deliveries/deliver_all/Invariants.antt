@@ -1,7 +1,7 @@
 use Rattle.group_run.specs.Progress.{load_of}
 use Rattle.group_layout.specs.Cluster.{world_in}
 use Rattle.cluster_play.proofs.Delivering.{Made}
-use Rattle.cluster_play.proofs.deliveries.drain_group.Given as goal
+use Rattle.cluster_play.proofs.deliveries.deliver_all.Given as goal
 
 abbrev pub invariant-deliveries : goal.invariant-deliveries
 invariant-deliveries l = Made l.initial.cluster l.group l.cluster l.initial.text.items l.text.items l.count
