@@ -13,11 +13,10 @@ use Rattle.group_layout.specs.declared.event.ClusterEvent.{ClusterEvent}
 use Rattle.group_layout.specs.declared.event.ClusterEvent.TheVariants.{InGroup}
 use Rattle.group_cluster.specs.History.{HasFewEvents}
 use Rattle.group_cluster.specs.Plan.{Plan}
-use Rattle.scenario_run.specs.Playing.{draining}
 use Rattle.scenario_run.proofs.Draining.{Lightens, burden, lightens, next-delivers}
 use Rattle.scenario_play.proofs.Delivering.{draining-down, draining-up, none-left, one-left}
 use Rattle.cluster_run.specs.Led.{IsLedTo}
-use Rattle.cluster_run.specs.Playing.{ClusterTurn, all_deliveries, deliveries, deliveries_in, drained_text, log_of, turn_of, turns_from}
+use Rattle.cluster_run.specs.Playing.{ClusterTurn, all_deliveries, deliveries, deliveries_in, drained_text, log_of, turns_from}
 use Rattle.cluster_run.specs.Texts.{cluster_entries_text, cluster_entry_text}
 use Rattle.cluster_run.proofs.Draining.{Delivered, delivered, group-drains}
 use Rattle.cluster_run.proofs.Leading.{after-append, led-even, led-group, led-on, one-leads, turns-append}

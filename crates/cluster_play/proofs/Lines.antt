@@ -1,24 +1,20 @@
 -- What a line of a script of several groups comes to.
-use Rattle.std.proofs.Common.{◌≡◌, ℕ, ◌+◌, ◌*◌, ◌<◌, ◌≤◌, ◌⊎◌, inl, inr, List, [], ◌∷◌, ◌++◌, length, Option, Some, None, Result, Ok, Err, refl, sym, ap, ◌∙◌, subst, append_assoc, length-append, arith}
+use Rattle.std.proofs.Common.{◌≡◌, ℕ, ◌+◌, ◌*◌, ◌⊎◌, inl, inr, List, [], ◌∷◌, ◌++◌, length, Option, Some, None, Ok, Err, refl, sym, ap, ◌∙◌, subst, append_assoc, length-append, arith}
 use Rattle.group_layout.specs.Cluster.{Cluster, ClusterEntry, GroupTurn, Groups, Move, logged_in, turns_made}
 use Rattle.group_layout.proofs.Happening.{all_moves, groups-after, turns-after}
 use Rattle.group_layout.proofs.Moves.{log-moved}
-use Rattle.group_layout.specs.declared.event.ClusterEvent.{ClusterEvent}
 use Rattle.group_cluster.specs.Plan.{IsPlan, Plan}
 use Rattle.group_cluster.specs.declared.layout.LayoutField.{LayoutField}
 use Rattle.group_cluster.specs.declared.layout.LayoutField.TheVariants as field
-use Rattle.group_run.specs.Progress.{load_of}
-use Rattle.group_run.specs.World.{World, opening}
+use Rattle.group_run.specs.World.{opening}
 use Rattle.group_types.proofs.Lists.{at-replicate}
 use Rattle.scenario_run.specs.Course.{Ends, Fault, Goes, Refused}
 use Rattle.scenario_run.proofs.Draining.{burden, load-opening}
 use Rattle.scenario_play.specs.Player.{HasTreatedLine, Telling}
 use Rattle.scenario_play.specs.Status.{IsRefusal, told_of}
-use Rattle.scenario_play.specs.declared.status.Status.{Status}
 use Rattle.scenario_play.specs.declared.status.Status.TheVariants as status
 use Rattle.scenario_play.proofs.Treating as treating
-use Rattle.cluster_run.specs.Led.{IsLedTo}
-use Rattle.cluster_run.specs.Playing.{ClusterNext, ClusterPlay, ClusterTurn, log_of, next_of, opening_of, turns_from}
+use Rattle.cluster_run.specs.Playing.{ClusterNext, ClusterPlay, ClusterTurn, log_of, next_of, opening_of}
 use Rattle.cluster_run.specs.Promises.{KeepsPromises}
 use Rattle.cluster_run.specs.Script.{first_fault}
 use Rattle.cluster_run.specs.declared.fault.ClusterFault.{ClusterFault}
@@ -71,7 +67,7 @@ leads-log : (c d : Cluster) (turns : List ClusterTurn) → Leads c d turns → l
 leads-log c d turns leads =
     let moves : List Move = all_moves c leads.events in
     let grown = ap (λ (x : Cluster). length x.groups.log) (sym leads.to) ∙ ap (λ (g : Groups). length g.log) (groups-after c leads.events) ∙ ap length (log-moved c.groups moves)
-        ∙ length-append c.groups.log (logged_in (turns_made c.groups moves)) in
+    ∙ length-append c.groups.log (logged_in (turns_made c.groups moves)) in
     let all = ap (λ (ts : List GroupTurn). length (logged_in ts)) (sym (turns-after c leads.events)) ∙ ap length (logged-all c leads.events) ∙ ap many leads.turns_are in
     omega (arith, grown, all)
 
@@ -129,9 +125,10 @@ module _ (n : ℕ) (before now : Option ClusterPlay) (bytes : List ℕ) where
 
   pub treated-last : HasDone before (next_of before bytes) now (Ok None) → HasTreatedLine tells n before now bytes (Ok None)
   treated-last done =
-      let end = ended before (next_of before bytes) now done in
-      (treating.ends-at next_of BadLine told_at log_len many IsReady n before bytes end.0,
-      treating.ends-entries next_of BadLine told_at log_len many IsReady before now bytes end.0 end.1)
+      let end = ended before (next_of before bytes) now done in (
+        treating.ends-at next_of BadLine told_at log_len many IsReady n before bytes end.0,
+        treating.ends-entries next_of BadLine told_at log_len many IsReady before now bytes end.0 end.1,
+      )
 
   pub treated-refused : (cause : ClusterFault) → HasDone before (next_of before bytes) now (Err cause) → HasTreatedLine tells n before now bytes (Err (told_at n cause))
   treated-refused Want done = inl refl

@@ -1,5 +1,5 @@
 -- What an event of a cluster logged stands last in its group's log.
-use Rattle.std.proofs.Common.{ℕ, suc, ◌≡◌, ◌+◌, ◌-◌, ◌<◌, ◌≤◌, Bool, true, false, List, [], ◌∷◌, ◌++◌, length, drop, map, Option, Some, None, if◌then◌else◌, refl, sym, ap, subst, ◌∙◌, append_assoc, append-nil, arith}
+use Rattle.std.proofs.Common.{ℕ, suc, ◌≡◌, ◌+◌, ◌-◌, ◌≤◌, Bool, true, false, List, [], ◌∷◌, ◌++◌, length, drop, Option, Some, None, if◌then◌else◌, refl, sym, ap, ◌∙◌, append_assoc, append-nil, arith}
 use Rattle.std.specs.List.{range_with_len}
 use Rattle.group_types.specs.Dimensions.{Dimensions}
 use Rattle.group_types.specs.Lists.{at}
@@ -10,7 +10,7 @@ use Rattle.group_calls.specs.declared.event.Event.{Event}
 use Rattle.group_calls.specs.declared.event.Event.TheVariants.{Fail}
 use Rattle.group_run.specs.World.{Ledger, Ticket, World, all_change, ledger_after, ledger_with, new_ones, node_of, settled_in, step}
 use Rattle.law_moves.proofs.Reading.{grown-is}
-use Rattle.group_layout.specs.Cluster.{Cluster, ClusterEntry, GroupTurn, Groups, Move, all_moved, cluster_step, failure_of, failures, logged_in, move_unless, moved, moves_of, node_failure, other_group, tagged, turns_made, world_in}
+use Rattle.group_layout.specs.Cluster.{Cluster, ClusterEntry, Groups, Move, all_moved, cluster_step, failure_of, failures, logged_in, move_unless, moved, node_failure, other_group, tagged, turns_made, world_in}
 use Rattle.group_layout.specs.Layout.{process_on}
 use Rattle.group_layout.specs.declared.event.ClusterEvent.{ClusterEvent}
 use Rattle.group_layout.specs.declared.event.ClusterAnswer.{ClusterAnswer}

@@ -1,5 +1,5 @@
 -- Groups of numbers that are within their limits, or the first of them that is not.
-use Rattle.std.proofs.Common.{ℕ, ◌≡◌, ◌<◌, ◌≤◌, ◌+◌, ◌*◌, ◌&&◌, ◌⊎◌, inl, inr, Bool, true, false, nat_le, nat_lt, Option, Some, None, Result, Ok, Err, if◌then◌else◌, refl, sym, ap, subst, ◌∙◌, arith}
+use Rattle.std.proofs.Common.{◌≡◌, ◌<◌, ◌≤◌, ◌+◌, ◌&&◌, ◌⊎◌, inl, inr, Bool, true, false, nat_le, nat_lt, Option, Some, None, Result, Ok, Err, if◌then◌else◌, refl, sym, ap, ◌∙◌, arith}
 use Rattle.std.proofs.lemmas.Bool.Decides.{nat_tests}
 use Rattle.group_types.specs.Dimensions.{Dimensions}
 use Rattle.group_types.specs.Shape.{IsFirstOutOfRange, IsShape}
@@ -15,7 +15,6 @@ use Rattle.scenario_text.specs.declared.line.LineFault.{LineFault}
 use Rattle.scenario_text.specs.declared.line.LineFault.TheVariants as line
 use Rattle.scenario_text.proofs.Limits.{group_within-fault, group_within-shape}
 use Rattle.cluster_run.specs.Meaning.{field_of_shape, first_bad, plan_unless, plan_within}
-use Rattle.cluster_run.specs.declared.fault.ClusterFault.{ClusterFault}
 use Rattle.cluster_run.specs.declared.fault.ClusterFault.TheVariants.{BadLayout}
 
 unless : (d : Dimensions) → Result Line LineFault → group_within d ≡ group_unless d (first_out_of_range d)

@@ -1,11 +1,10 @@
 -- What a cluster is ready for, by what led to it.
-use Rattle.std.proofs.Common.{ℕ, ◌≡◌, ◌<◌, ◌≤◌, ◌^◌, length, Option, Some, None, refl, sym, ap, subst, ◌∙◌, arith}
+use Rattle.std.proofs.Common.{ℕ, ◌≡◌, ◌<◌, ◌^◌, length, Option, Some, None, sym, subst, ◌∙◌, arith}
 use Rattle.group_types.specs.Dimensions.{Dimensions}
 use Rattle.group_types.proofs.Lists.{length-put}
-use Rattle.group_run.specs.World.{World, opening, step}
+use Rattle.group_run.specs.World.{opening, step}
 use Rattle.group_calls.specs.declared.event.Event.{Event}
-use Rattle.group_layout.specs.Cluster.{Cluster, Groups, Move, all_moved, cluster_step, move_unless, other_group, world_in}
-use Rattle.group_layout.specs.declared.event.ClusterEvent.{ClusterEvent}
+use Rattle.group_layout.specs.Cluster.{Cluster, all_moved, cluster_step, move_unless, other_group, world_in}
 use Rattle.group_layout.specs.declared.event.ClusterEvent.TheVariants.{InGroup}
 use Rattle.group_cluster.specs.History.{AllHaveFew, HasFewEvents}
 use Rattle.scenario_text.specs.Meaning.{IsLineOf, IsWithin}

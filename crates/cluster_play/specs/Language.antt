@@ -1,5 +1,5 @@
 -- The language of scripts of several groups.
-use Rattle.std.specs.Prelude.{ℕ, List}
+use Rattle.std.specs.Prelude.{ℕ}
 use Rattle.group_cluster.specs.declared.layout.LayoutField.TheVariants.{Groups, Nodes, Shape}
 use Rattle.scenario_play.specs.Language.{Language}
 use Rattle.scenario_play.specs.Status.{told_of}

@@ -17,7 +17,11 @@ use scenario_play::entries::write_last;
 use std::alloc::{AllocError, Global};
 
 /// Makes the deliveries of a drain, in one group after the other, writes what they log, and gives their number.
-pub(crate) fn drain(alloc: Global, cluster: &mut Cluster, text: &mut Vec<u8>) -> Result<u64, AllocError>
+pub(crate) fn drain(
+    alloc: Global,
+    cluster: &mut Cluster,
+    text: &mut Vec<u8>,
+) -> Result<u64, AllocError>
     requires ready { IsReadyFor (2 ^ 59) cluster.old }
     ensures cluster { OnOk result (cluster.new ≡ cluster_after cluster.old (all_deliveries cluster.old)) }
     ensures text { OnOk result (text.new.items ≡ text.old.items ++ cluster_entries_text (log_of (turns_from cluster.old (all_deliveries cluster.old)))) }

@@ -50,7 +50,12 @@ impl Player for ClusterPlayer {
 
     ghost ready = { IsReady };
 
-    fn treat(&mut self, alloc: Global, number: u64, line: &[u8]) -> Result<Option<Vec<u8>>, Status> {
+    fn treat(
+        &mut self,
+        alloc: Global,
+        number: u64,
+        line: &[u8],
+    ) -> Result<Option<Vec<u8>>, Status> {
         match treat(alloc, &mut self.play, line) {
             Ok(Some(text)) => Ok(Some(text)),
             Ok(None) => Ok(None),

@@ -73,7 +73,12 @@ impl ClusterPlay {
     }
 
     /// An event of a group is made: its answer on a line, and what it logged.
-    pub(crate) fn make(&mut self, alloc: Global, group: u32, event: Event) -> Result<Vec<u8>, AllocError>
+    pub(crate) fn make(
+        &mut self,
+        alloc: Global,
+        group: u32,
+        event: Event,
+    ) -> Result<Vec<u8>, AllocError>
         requires may { MayHappen self.old.cluster (InGroup group event) }
         requires ready { IsReadyFor (2 ^ 59) self.old.cluster }
         ensures play { OnOk result (self.new ≡ record { cluster = (cluster_step self.old.cluster (InGroup group event)).cluster; moment = self.old.moment }) }
@@ -89,7 +94,12 @@ impl ClusterPlay {
     }
 
     /// The processes of a node fail, and nothing is logged.
-    pub(crate) fn fail(&mut self, alloc: Global, node: u32, keep: u32) -> Result<Vec<u8>, AllocError>
+    pub(crate) fn fail(
+        &mut self,
+        alloc: Global,
+        node: u32,
+        keep: u32,
+    ) -> Result<Vec<u8>, AllocError>
         requires may { MayHappen self.old.cluster (FailNode node keep) }
         requires ready { IsReadyFor (2 ^ 59) self.old.cluster }
         ensures play { OnOk result (self.new ≡ record { cluster = (cluster_step self.old.cluster (FailNode node keep)).cluster; moment = self.old.moment }) }
@@ -114,7 +124,13 @@ impl ClusterPlay {
     }
 
     /// The bytes of a run of a group's process, with its stamp.
-    pub(crate) fn show(&self, alloc: Global, group: u32, at: ProcessId, run: Run) -> Result<Vec<u8>, AllocError>
+    pub(crate) fn show(
+        &self,
+        alloc: Global,
+        group: u32,
+        at: ProcessId,
+        run: Run,
+    ) -> Result<Vec<u8>, AllocError>
         requires group { group < length self.now.cluster.groups.worlds }
         requires process { IsProcess (group_in self.now group).shape at }
         requires run { run.at + run.len ≤ space_of (group_in self.now group).shape }

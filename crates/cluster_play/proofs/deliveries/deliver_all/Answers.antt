@@ -1,15 +1,11 @@
-use Rattle.std.proofs.Common.{ℕ, ◌≡◌, ◌<◌, ◌+◌, ◌++◌, ◌^◌, ◌≤◌, List, Option, Some, None, length, ap, sym, subst, ◌∙◌, arith}
-use Rattle.group_calls.specs.declared.event.Event.{Event}
+use Rattle.std.proofs.Common.{ℕ, ◌<◌, ◌+◌, ◌^◌, ◌≤◌, List, ap, sym, subst, ◌∙◌, arith}
 use Rattle.group_calls.specs.declared.event.Event.TheVariants.{Deliver}
 use Rattle.group_run.specs.Draining.{next_delivery}
 use Rattle.group_run.specs.Progress.{load_of}
-use Rattle.group_run.specs.World.{World}
-use Rattle.group_layout.specs.Cluster.{Cluster, cluster_step, logged_in, world_in}
+use Rattle.group_layout.specs.Cluster.{Cluster, cluster_step, world_in}
 use Rattle.group_layout.specs.declared.event.ClusterEvent.TheVariants.{InGroup}
-use Rattle.scenario_run.proofs.Draining.{burden}
-use Rattle.cluster_run.specs.Texts.{cluster_entries_text}
 use Rattle.cluster_run.proofs.Leading.{led-even}
-use Rattle.cluster_play.proofs.Delivering.{Made, Made-none, NextMade, all-counted, all-delivered, all-written, burden-few, made-count, made-few, made-there, next-made}
+use Rattle.cluster_play.proofs.Delivering.{Made, Made-none, all-counted, all-delivered, all-written, burden-few, made-count, made-few, made-there, next-made}
 use Rattle.cluster_play.proofs.deliveries.deliver_all.Goals as goal
 
 pub deliveries-init : goal.deliveries-init

@@ -1,6 +1,6 @@
-use Rattle.std.proofs.Common.{ℕ, ◌≡◌, ◌<◌, ◌+◌, ◌*◌, ◌^◌, ◌≤◌, length, arith, subst, sym}
+use Rattle.std.proofs.Common.{ℕ, ◌<◌, length, arith, subst, sym}
 use Rattle.group_layout.specs.Cluster.{Cluster}
-use Rattle.cluster_play.proofs.Delivering.{Drained, Drained-more, few-deliveries, few-groups}
+use Rattle.cluster_play.proofs.Delivering.{Drained-more, few-deliveries, few-groups}
 use Rattle.cluster_play.proofs.deliveries.drain.Goals as goal
 
 pub overflow_add-count : goal.overflow_add-count

@@ -1,4 +1,4 @@
-use Rattle.std.proofs.Common.{◌∙◌, ap, subst}
+use Rattle.std.proofs.Common.{◌∙◌, subst}
 use Rattle.group_cluster.specs.Plan.{IsFirstBad, IsPlan, Plan}
 use Rattle.cluster_play.proofs.Ranges.{plan_within-bad, plan_within-ok}
 use Rattle.cluster_play.proofs.reading.layout_of.Goals as goal

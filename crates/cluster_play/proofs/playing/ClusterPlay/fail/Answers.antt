@@ -1,4 +1,4 @@
-use Rattle.std.proofs.Common.{ℕ, ◌≡◌, ◌^◌, ◌∷◌, ◌++◌, List, [], ap, append-nil, sym, subst, ◌∙◌}
+use Rattle.std.proofs.Common.{◌≡◌, ◌^◌, [], ap, append-nil, sym, subst}
 use Rattle.group_layout.specs.Cluster.{Cluster}
 use Rattle.group_layout.specs.declared.event.ClusterEvent.TheVariants.{FailNode}
 use Rattle.cluster_run.specs.Playing.{ClusterPlay, turn_of, turn_text}

@@ -1,4 +1,4 @@
-use Rattle.std.proofs.Common.{ℕ, ◌≡◌, ◌<◌, length, ap, sym, subst, ◌∙◌, arith}
+use Rattle.std.proofs.Common.{◌<◌, length, ap, sym, subst, ◌∙◌}
 use Rattle.group_layout.specs.Cluster.{world_in}
 use Rattle.group_run.specs.World.{World}
 use Rattle.cluster_run.specs.Playing.{ClusterPlay}
