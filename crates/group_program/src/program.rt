@@ -51,7 +51,7 @@ where
         ⊎ (HasStopped (K.held sink.old) (K.held sink.new) result × (source.new ≡ source.old)) }
     ensures promises { command_of (map string_bytes words.now) ≡ Some Command.Play → result ≡ Status.Done
         → HasPlayedWhole group_scripts (S.input source.old) (S.input source.new) (K.held sink.old) (K.held sink.new) }
-    ensures keeps { command_of (map string_bytes words.now) ≡ Some Command.PlayGroups → result ≡ Status.Done
+    ensures cluster_promises { command_of (map string_bytes words.now) ≡ Some Command.PlayGroups → result ≡ Status.Done
         → HasPlayedWhole cluster_scripts (S.input source.old) (S.input source.new) (K.held sink.old) (K.held sink.new) }
     ensures serves { command_of (map string_bytes words.now) ≡ Some Command.Serve → result ≡ Status.Done
         → HasServedWhole L.listened (λ l. tally (L.accepted l) (L.over l)) listener.old listener.new

@@ -28,8 +28,8 @@ returns-in-Ok-clause-promises g c play done =
     (outside (g.S.Source.input c.run_command.new.source) (g.S.Source.faults c.run_command.new.source) (g.K.Sink.held c.run_command.new.sink) (g.K.Sink.faults c.run_command.new.sink))
     c.run_command.result) (sym said ∙ play) c.run_command.ensures.ran) done
 
-pub returns-in-Ok-clause-keeps : goal.returns-in-Ok-clause-keeps
-returns-in-Ok-clause-keeps g c play done =
+pub returns-in-Ok-clause-cluster_promises : goal.returns-in-Ok-clause-cluster_promises
+returns-in-Ok-clause-cluster_promises g c play done =
     let said : command_of (map (string_bytes {Z = Global}) c.args.words.now) ≡ Some c.in-Ok.command = search rules in
     played_whole cluster_scripts _ _ c.run_command.result (subst (λ (o : Option Command). HasCarriedOut g.L.Listener.listened (λ l. tally (g.L.Listener.accepted l) (g.L.Listener.over l)) c.args.listener.now c.run_command.new.listener o (g.T.Clock.moment c.args.clock.now)
     (outside (g.S.Source.input c.args.source.now) (g.S.Source.faults c.args.source.now) (g.K.Sink.held c.args.sink.now) (g.K.Sink.faults c.args.sink.now))
