@@ -11,7 +11,7 @@ use Rattle.scenario_text.specs.declared.line.LineFault.{LineFault}
 use Rattle.scenario_text.specs.declared.line.LineFault.TheVariants as line
 use Rattle.scenario_run.specs.Course.{Fault}
 use Rattle.scenario_run.specs.Script.{first_fault}
-use Rattle.scenario_play.specs.Language.{Language, group_scripts, told_in}
+use Rattle.scenario_play.specs.Language.{Language, told_in}
 use Rattle.scenario_play.specs.Outside.{Outside}
 use Rattle.scenario_play.specs.Played.{IsPlayed, IsWritten}
 use Rattle.scenario_play.specs.Status.{IsTold, longest_script, status_for, told_at, told_of}

@@ -30,7 +30,8 @@ stop
 A process is d<n> or p<n>; a value is -, hexadecimal digits, or *<len>*<hh>.
 ";
 
-const GROUPS_LINES: &str = "is none of these, with words one space apart, ended by a line feed alone:
+const GROUPS_LINES: &str =
+    "is none of these, with words one space apart, ended by a line feed alone:
 groups <g> <n> <k> <m> <blocks> <block>        the first line, and no other
 g<j> <line>                                    of group j, as in a script of one group: ask, collect, deliver,
                                                flush, trace or show

@@ -1,9 +1,6 @@
-use Rattle.std.proofs.Common.{arith}
 use Rattle.cluster_play.specs.Language.{cluster_scripts}
 use Rattle.scenario_make.specs.Script.{script_text}
 use Rattle.scenario_play.specs.Language.{group_scripts}
-use Rattle.scenario_play.specs.Status.{status_for}
-use Rattle.scenario_play.specs.Trial.{trial_text}
 use Rattle.scenario_play.specs.declared.status.Status.TheVariants.{Done}
 use Rattle.group_program.proofs.Accepting.{groups-told-not, listed-not, played-not, session-not, told-not, written-not}
 use Rattle.group_program.proofs.program.run_command.Goals as goal

@@ -3,7 +3,6 @@ use Rattle.std.specs.String.{string_bytes}
 use Rattle.cluster_play.specs.Language.{cluster_scripts}
 use Rattle.command_line.specs.Words.{command_of}
 use Rattle.command_line.specs.declared.command.Command.{Command}
-use Rattle.command_line.specs.declared.command.Command.TheVariants.{Play, Serve}
 use Rattle.group_server.specs.Service.{tally}
 use Rattle.scenario_play.specs.Language.{group_scripts}
 use Rattle.scenario_play.specs.Outside.{Outside, outside}
