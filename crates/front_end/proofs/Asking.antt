@@ -10,7 +10,7 @@ use Rattle.memc_proto.specs.declared.end.CallEnd.{CallEnd}
 use Rattle.memc_proto.specs.declared.request.Request.TheVariants.{Get}
 use Rattle.front_end.specs.Answers.{Stand, stand, IsMade, IsKeyAnswered, IsAnswered, IsBroken}
 use Rattle.front_end.specs.Calls.{Made, Ways}
-use Rattle.front_end.specs.Turns.{Acts, AreCallsOf, is_reply, key_text, get_text}
+use Rattle.front_end.specs.Turns.{Acts, AreCallsOf, is_reply, key_text, get_text, last_text}
 use Rattle.front_end.specs.declared.end.ConnectionFault.{ConnectionFault}
 use Rattle.front_end.proofs.Answering.{ends-calls, no_calls, first-none, stands-here, written}
 
@@ -109,11 +109,11 @@ asked-nothing ways told at held now with_cas keys text result none is whole part
 
 -- the last key of a get was asked, and the text of its call and what stands behind it was written, or the front of both
 pub last-answered : {C : Type 0} (ways : Ways C) (told : Option ℕ) (before at : C) (held now : List ℕ) (with_cas : Bool) (key : List ℕ) (end : CallEnd) (result : Result (Unit {0}) ConnectionFault)
-    → IsMade ways told before at (act.Get key) end → OnOk result (Appends held now (end_text key with_cas end ++ (if is_reply end then end_of_items else [])))
-    → HasWritten held now (end_text key with_cas end ++ (if is_reply end then end_of_items else []))
+    → IsMade ways told before at (act.Get key) end → OnOk result (Appends held now (last_text key with_cas end))
+    → HasWritten held now (last_text key with_cas end)
     → MatchResult result (λ _. IsAnswered ways told (stand before held) (stand at now) (Get (key ∷ []) with_cas)) (λ fault. IsBroken ways told (stand before held) (stand at now) fault (Get (key ∷ []) with_cas))
 last-answered ways told before at held now with_cas key end result made whole part =
-    written ways told before at held now (Get (key ∷ []) with_cas) (Made made.op end ∷ []) (end_text key with_cas end ++ (if is_reply end then end_of_items else [])) result
+    written ways told before at held now (Get (key ∷ []) with_cas) (Made made.op end ∷ []) (last_text key with_cas end) result
     ((made.act_is, made.moment), ends-calls (is_reply end)) (at, made.made, refl) refl whole part
 
 -- the key of a get whose call ended, and whose text is written
