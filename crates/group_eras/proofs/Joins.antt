@@ -168,7 +168,7 @@ module _ (bases : Bases) (k : ℕ) (some : 1 ≤ k) (Free : List ℕ → Type 0)
 
         by : (r : Ruling) → Tells r → reply_in (shift_ruling bases (home key) r) ≡ told_reply bases (home key) (reply_in r)
         by (Refused reply) tells = refl
-        by (Accepted reply leaves) tells = sym (tells bases (home key))
+        by (Accepted reply left) tells = sym (tells bases (home key))
 
     after : (key : List ℕ) (r : Ruling) → LeavesCas r → Joined (after_ruling all key (shift_ruling bases (home key) r)) (after_ruling own key r)
     after key (Refused reply) has = joined

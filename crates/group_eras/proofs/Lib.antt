@@ -1,2 +1,4 @@
+pub mod Asking
 pub mod Joins
+pub mod Logging
 pub mod Shifts
