@@ -1,4 +1,5 @@
 pub mod Asking
 pub mod Joins
 pub mod Logging
+pub mod Making
 pub mod Shifts
