@@ -3,3 +3,4 @@ pub mod Joins
 pub mod Logging
 pub mod Making
 pub mod Shifts
+pub mod Standing

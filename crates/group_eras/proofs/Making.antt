@@ -14,6 +14,7 @@ use Rattle.memc_table.specs.Asked.{Asked}
 use Rattle.memc_table.specs.Contents.{empty_table}
 use Rattle.memc_table.specs.declared.act.Act.{Act}
 use Rattle.memc_table.specs.declared.act.Act.TheVariants.{Add, Append, Cas, Decr, Delete, Get, Incr, Prepend, Replace, Set, Touch}
+use Rattle.group_calls.specs.Log.{IsLegal}
 use Rattle.group_calls.specs.Turns.{CallName, Turn, accepts, asks_of, name_of}
 use Rattle.group_calls.specs.Within.{AnswersWithin, IsAsk}
 use Rattle.group_calls.specs.declared.entry.Entry.{Entry}
@@ -118,16 +119,16 @@ module _ (e : Eras) (era : IsEra e) (event : Event) (may : MayCome e.world event
   abbrev k : ℕ
   k = e.world.shape.k
 
-  abbrev came : Event
+  abbrev pub came : Event
   came = event_in e.bases e.world.shape.k event
 
-  abbrev events : List Event
+  abbrev pub events : List Event
   events = era.events ++ came ∷ []
 
-  abbrev asked : List Event
+  abbrev pub asked : List Event
   asked = era.asked ++ event ∷ []
 
-  abbrev logged : List Entry
+  abbrev pub logged : List Entry
   logged = (step e.world came).turn.logged
 
   changed : events ≡ map (event_in e.bases k) asked
@@ -287,6 +288,15 @@ module _ (e : Eras) (era : IsEra e) (event : Event) (may : MayCome e.world event
   all-told (x ∷ xs) within =
       (refl, is-told x (within x (0, omega arith, refl)), all-told xs (λ entry there. within entry (suc there.0, (let low = there.1 in omega (arith, low)), there.2)))
 
+  pub logged-told : AreTold e.bases k asked e.era logged (logged_in_era e event logged)
+  logged-told = all-told logged (λ entry there. there)
+
+  pub log-after : (step e.world came).world.log ≡ e.world.log ++ logged
+  log-after = grown-is e.world.log logged
+
+  pub legal-after : IsLegal k (e.world.log ++ logged)
+  legal-after = subst (IsLegal k) (log-after) (subst (λ (w : World). IsLegal k w.log) (sym stands) headline.one_log.legal)
+
   -- so it is an era after it
   pub era-next : IsEra (era_step e event).eras
   era-next = record {
@@ -302,5 +312,5 @@ module _ (e : Eras) (era : IsEra e) (event : Event) (may : MayCome e.world event
     earlier = era.earlier;
     told = subst (λ (xs : List Entry). AreTold e.bases k asked e.era xs (era.own ++ logged_in_era e event logged)) (sym (grown-is e.world.log logged))
         (told-append e.bases k asked e.era e.world.log logged era.own (logged_in_era e event logged) (told-later e.bases k era.asked (event ∷ []) e.era e.world.log era.own era.told)
-        (all-told logged (λ entry there. there)));
+        logged-told);
   }
