@@ -1,4 +1,5 @@
 pub mod Asking
+pub mod Draining
 pub mod Fronts
 pub mod Joins
 pub mod Logging
