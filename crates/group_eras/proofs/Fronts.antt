@@ -23,7 +23,7 @@ use Rattle.group_run.specs.Headline.{MayCome}
 use Rattle.group_run.specs.History.{History, history, prolonged}
 use Rattle.group_run.specs.Process.{Head, Process}
 use Rattle.group_run.specs.Receiving.{receive}
-use Rattle.group_run.specs.Replica.{Replica, last_of}
+use Rattle.group_run.specs.Replica.{Replica, items_after, last_of}
 use Rattle.group_run.specs.World.{next_name, node_of}
 use Rattle.law_moves.proofs.Moves.{Acted, Asks, Popped}
 use Rattle.law_moves.specs.State.{IsUp, State, state_of}
@@ -145,6 +145,10 @@ module _ (s : Dimensions) (v : State) (reached : Reached s v) (told : Told s v) 
         ap (λ (us : List Update). take (replica_of (v.process p) d).applied (v.settled d) ++ us) no-log
         ∙ append-nil (take (replica_of (v.process p) d).applied (v.settled d))
         ∙ take_all (replica_of (v.process p) d).applied (v.settled d) (let all = all-applied in omega (arith, all))
+
+    -- so the head's items are those of all that is settled
+    pub head-items : (replica_of (v.process p) d).items ≡ items_after [] (v.settled d)
+    head-items = kept.holds.items ∙ ap (items_after []) (take_all (replica_of (v.process p) d).applied (v.settled d) (let all = all-applied in omega (arith, all)))
 
     parity-history : (i : ℕ) → i < s.m → p ≢ ParityNode i → v.dead (ParityNode i) ≡ false → history (v.settled d) (replica_of (v.process (ParityNode i)) d) ≡ v.settled d
     parity-history i iin apart living = ends.history_is ∙ head-history where

@@ -1,5 +1,6 @@
 pub mod Asking
 pub mod Draining
+pub mod Finding
 pub mod Fronts
 pub mod Joins
 pub mod Logging

@@ -35,9 +35,9 @@ use Rattle.group_run.specs.Asking.{found_at}
 use Rattle.group_run.specs.Deciding.{Bytes, Found, Missing, blind_reply, decide, decide_blind, decide_found, decide_ruled, decide_waiting, item_found, length_of, run_needed, ruling_with, unseen, waits_for}
 use Rattle.group_run.specs.Headline.{IsRun, IsRunFrom, MayCome}
 use Rattle.group_run.specs.History.{History, prolonged}
-use Rattle.group_run.specs.Meaning.{IsDown, IsDrained}
+use Rattle.group_run.specs.Meaning.{HasTakenOver, Heads, IsDown, IsDrained, is_dead, process_of}
 use Rattle.group_run.specs.Process.{Head}
-use Rattle.group_run.specs.Replica.{Replica, number_on, slot_in}
+use Rattle.group_run.specs.Replica.{Replica, items_after, number_on, slot_in}
 use Rattle.group_run.specs.World.{World, after, next_name}
 use Rattle.law_moves.specs.State.{State, state_of}
 use Rattle.law_moves.proofs.Events.{FramedHistory}
@@ -60,7 +60,7 @@ use Rattle.law_log.proofs.Tables.{home-below}
 use Rattle.law_log.proofs.Ties.{Ties}
 use Rattle.law_headline.proofs.All.{whole-always}
 use Rattle.law_headline.proofs.Promises.{stands-always}
-use Rattle.group_eras.proofs.Fronts.{AllUpto, Upto, rest-upto, upto-ask, upto-deliver}
+use Rattle.group_eras.proofs.Fronts.{AllUpto, Upto, head-items, rest-upto, upto-ask, upto-deliver}
 
 -- a get is never issued
 abbrev pub IsGet : Act → Type 0
@@ -128,13 +128,34 @@ module _ (h : History) (reached : Reached h.world.shape (state_of h)) (told : To
   empty : IsEmpty h.world.shape (state_of h)
   empty from to fin tin living apart = drained from to fin (tin, living) apart
 
-  pub history-rests : AllUpto (λ d. at [] h.settled d) h.world.shape (state_of h)
-  history-rests = rest-upto h.world.shape (state_of h) reached told empty (λ d below.
+  abbrev pub heads-at-rest : (d : ℕ) → d < h.world.shape.k
+      → (r : ℕ) × (is_dead h.world (of_rank d r) ≡ false) × IsProcess h.world.shape (of_rank d r) × ((q : ℕ) → q < r → is_dead h.world (of_rank d q) ≡ true) × ((x : Head) × (head_at (process_of h.world (of_rank d r)) d ≡ Some x))
+  heads-at-rest d below =
       let head = headed d below in
       let one = finished d head.0 below head.1 in
-      (head.0, head.1.lives, rank-in h.world.shape d head.0 below head.1.within, head.1.lowest, (one.0, one.1)))
+      (head.0, head.1.lives, rank-in h.world.shape d head.0 below head.1.within, head.1.lowest, (one.0, one.1))
+
+  pub history-items : (d : ℕ) (below : d < h.world.shape.k) → (replica_of (process_of h.world (of_rank d (headed d below).0)) d).items ≡ items_after [] (at [] h.settled d)
+  history-items d below = head-items h.world.shape (state_of h) reached told empty heads-at-rest d below
+
+  pub history-rests : AllUpto (λ d. at [] h.settled d) h.world.shape (state_of h)
+  history-rests = rest-upto h.world.shape (state_of h) reached told empty heads-at-rest
 
 module _ (s : Dimensions) where
+  pub rests-items : (es : List Event) (rests : Rests s es) (d : ℕ) → d < s.k → (r : ℕ) × Heads (after s es) d r × HasTakenOver (after s es) d r × ((replica_of (process_of (after s es) (of_rank d r)) d).items ≡ items_after [] (settled_of s es d))
+  rests-items es rests d below =
+      let h : History = (book_of s es).history in
+      let both = subst (λ (x : History). Reached s (state_of x) × Told s (state_of x)) (sym (book-history (no_book s) es)) (reached-and-told s es rests.run) in
+      let world : h.world ≡ after s es = book-world s es in
+      let shape : h.world.shape ≡ s = book-shape s es in
+      let headed : IsHeaded h.world = subst IsHeaded (sym world) (headed_always s es rests.run rests.drained rests.up) in
+      let low : d < h.world.shape.k = subst (λ (t : Dimensions). d < t.k) (sym shape) below in
+      let items = history-items h (subst (λ (t : Dimensions). Reached t (state_of h)) (sym shape) both.0) (subst (λ (t : Dimensions). Told t (state_of h)) (sym shape) both.1)
+      (subst IsDrained (sym world) rests.drained) headed (subst IsFinished (sym world) (finished_always s es rests.run rests.drained)) d low in
+      let r : ℕ = (headed d low).0 in
+      (r, subst (λ (w : World). Heads w d r) world (headed d low).1, subst (λ (w : World). HasTakenOver w d r) world (headed d low).2,
+          subst (λ (w : World). (replica_of (process_of w (of_rank d r)) d).items ≡ items_after [] (settled_of s es d)) world items)
+
   pub rests-upto : (es : List Event) → Rests s es → AllUpto (settled_of s es) s (state_at s es)
   rests-upto es rests =
       let h : History = (book_of s es).history in
