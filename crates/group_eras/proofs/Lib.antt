@@ -2,6 +2,7 @@ pub mod Asking
 pub mod Draining
 pub mod Finding
 pub mod Fronts
+pub mod Getting
 pub mod Joins
 pub mod Logging
 pub mod Making
