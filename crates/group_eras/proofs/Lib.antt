@@ -9,3 +9,4 @@ pub mod Making
 pub mod Resting
 pub mod Shifts
 pub mod Standing
+pub mod Trying
