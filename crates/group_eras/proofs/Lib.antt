@@ -10,3 +10,4 @@ pub mod Resting
 pub mod Shifts
 pub mod Standing
 pub mod Trying
+pub mod Readings
