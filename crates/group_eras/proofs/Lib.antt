@@ -11,3 +11,4 @@ pub mod Shifts
 pub mod Standing
 pub mod Trying
 pub mod Readings
+pub mod Piling
