@@ -12,3 +12,4 @@ pub mod Standing
 pub mod Trying
 pub mod Readings
 pub mod Piling
+pub mod Sets

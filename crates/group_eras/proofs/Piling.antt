@@ -150,6 +150,9 @@ module _ (space total : ℕ) (r : Replica) (piled : Piled total r.items) (quiet 
     above = λ more. absurd (omega (arith, more, fits));
   }
 
+  pub some-place : (len : ℕ) → 0 < len → total + len ≤ space → ¬ (NoPlace space (is_free space r) len)
+  some-place len some fits none = let short = none total (space - total) (top-run len some fits) in omega (arith, short, fits)
+
   pub placed-on-top : (len : ℕ) → total + len ≤ space → (run : Run) × (place_for space r len ≡ Some run) × IsOnTop total len run
   placed-on-top zero fits = (record { at = 0; len = 0 }, refl, (refl, inr (refl, refl)))
   placed-on-top (suc n) fits = by (place_for space r (suc n)) refl (places_are_best space r (suc n) (omega arith)) where

@@ -34,7 +34,7 @@ use Rattle.group_run.specs.Applying.{head_at, replica_of}
 use Rattle.group_run.specs.Asking.{found_at}
 use Rattle.group_run.specs.Deciding.{Bytes, Found, Missing, blind_reply, decide, decide_blind, decide_found, decide_ruled, decide_waiting, item_found, length_of, run_needed, ruling_with, unseen, waits_for}
 use Rattle.group_run.specs.Headline.{IsRun, IsRunFrom, MayCome}
-use Rattle.group_run.specs.History.{History, prolonged}
+use Rattle.group_run.specs.History.{History, history, prolonged}
 use Rattle.group_run.specs.Meaning.{HasTakenOver, Heads, IsDown, IsDrained, is_dead, process_of}
 use Rattle.group_run.specs.Process.{Head}
 use Rattle.group_run.specs.Replica.{Replica, items_after, number_on, slot_in}
@@ -60,7 +60,7 @@ use Rattle.law_log.proofs.Tables.{home-below}
 use Rattle.law_log.proofs.Ties.{Ties}
 use Rattle.law_headline.proofs.All.{whole-always}
 use Rattle.law_headline.proofs.Promises.{stands-always}
-use Rattle.group_eras.proofs.Fronts.{AllUpto, Upto, head-items, rest-upto, upto-ask, upto-deliver}
+use Rattle.group_eras.proofs.Fronts.{AllUpto, Upto, head-history, head-items, rest-upto, upto-ask, upto-deliver}
 
 -- a get is never issued
 abbrev pub IsGet : Act → Type 0
@@ -138,11 +138,15 @@ module _ (h : History) (reached : Reached h.world.shape (state_of h)) (told : To
   pub history-items : (d : ℕ) (below : d < h.world.shape.k) → (replica_of (process_of h.world (of_rank d (headed d below).0)) d).items ≡ items_after [] (at [] h.settled d)
   history-items d below = head-items h.world.shape (state_of h) reached told empty heads-at-rest d below
 
+  pub history-heads : (d : ℕ) (below : d < h.world.shape.k) → history (at [] h.settled d) (replica_of (process_of h.world (of_rank d (headed d below).0)) d) ≡ at [] h.settled d
+  history-heads d below = head-history h.world.shape (state_of h) reached told empty heads-at-rest d below
+
   pub history-rests : AllUpto (λ d. at [] h.settled d) h.world.shape (state_of h)
   history-rests = rest-upto h.world.shape (state_of h) reached told empty heads-at-rest
 
 module _ (s : Dimensions) where
   pub rests-items : (es : List Event) (rests : Rests s es) (d : ℕ) → d < s.k → (r : ℕ) × Heads (after s es) d r × HasTakenOver (after s es) d r × ((replica_of (process_of (after s es) (of_rank d r)) d).items ≡ items_after [] (settled_of s es d))
+      × (history (settled_of s es d) (replica_of (process_of (after s es) (of_rank d r)) d) ≡ settled_of s es d)
   rests-items es rests d below =
       let h : History = (book_of s es).history in
       let both = subst (λ (x : History). Reached s (state_of x) × Told s (state_of x)) (sym (book-history (no_book s) es)) (reached-and-told s es rests.run) in
@@ -152,9 +156,12 @@ module _ (s : Dimensions) where
       let low : d < h.world.shape.k = subst (λ (t : Dimensions). d < t.k) (sym shape) below in
       let items = history-items h (subst (λ (t : Dimensions). Reached t (state_of h)) (sym shape) both.0) (subst (λ (t : Dimensions). Told t (state_of h)) (sym shape) both.1)
       (subst IsDrained (sym world) rests.drained) headed (subst IsFinished (sym world) (finished_always s es rests.run rests.drained)) d low in
+      let whole = history-heads h (subst (λ (t : Dimensions). Reached t (state_of h)) (sym shape) both.0) (subst (λ (t : Dimensions). Told t (state_of h)) (sym shape) both.1)
+      (subst IsDrained (sym world) rests.drained) headed (subst IsFinished (sym world) (finished_always s es rests.run rests.drained)) d low in
       let r : ℕ = (headed d low).0 in
       (r, subst (λ (w : World). Heads w d r) world (headed d low).1, subst (λ (w : World). HasTakenOver w d r) world (headed d low).2,
-          subst (λ (w : World). (replica_of (process_of w (of_rank d r)) d).items ≡ items_after [] (settled_of s es d)) world items)
+          subst (λ (w : World). (replica_of (process_of w (of_rank d r)) d).items ≡ items_after [] (settled_of s es d)) world items,
+          subst (λ (w : World). history (settled_of s es d) (replica_of (process_of w (of_rank d r)) d) ≡ settled_of s es d) world whole)
 
   pub rests-upto : (es : List Event) → Rests s es → AllUpto (settled_of s es) s (state_at s es)
   rests-upto es rests =
