@@ -13,3 +13,4 @@ pub mod Trying
 pub mod Readings
 pub mod Piling
 pub mod Sets
+pub mod Naming
