@@ -14,3 +14,4 @@ pub mod Readings
 pub mod Piling
 pub mod Sets
 pub mod Naming
+pub mod Issues
