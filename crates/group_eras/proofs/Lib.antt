@@ -15,3 +15,4 @@ pub mod Piling
 pub mod Sets
 pub mod Naming
 pub mod Issues
+pub mod Served
