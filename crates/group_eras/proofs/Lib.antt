@@ -16,3 +16,4 @@ pub mod Sets
 pub mod Naming
 pub mod Issues
 pub mod Served
+pub mod Setup
