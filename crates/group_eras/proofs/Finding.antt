@@ -74,7 +74,7 @@ key-found (y ∷ ys) key slot is = by (same_key key y.0) refl is (key-found ys k
   by false same is later = let rest = later is in (suc rest.0, (let low = rest.1 in omega (arith, low)), rest.2)
 
 module _ (s : Dimensions) (es : List Event) (rests : Rests s es) (d : ℕ) (below : d < s.k) where
-  abbrev w : World
+  abbrev pub w : World
   w = after s es
 
   shape : w.shape ≡ s
@@ -107,7 +107,7 @@ module _ (s : Dimensions) (es : List Event) (rests : Rests s es) (d : ℕ) (belo
     by zero pin lives = ((headline_always s es rests.run).not_undone rests.up).at_data d (pin, lives)
     by (suc i) pin lives = ((headline_always s es rests.run).not_undone rests.up).at_parity i d (subst (λ (t : Dimensions). d < t.k) (sym shape) below) (pin, lives)
 
-  settled : IsSettled w d (replica_of (process_of w (head_of w d)) d)
+  pub settled : IsSettled w d (replica_of (process_of w (head_of w d)) d)
   settled = subst (λ (p : ProcessId). IsSettled w d (replica_of (process_of w p) d)) (sym head) keeps.settled
 
   abbrev pub space : List ℕ

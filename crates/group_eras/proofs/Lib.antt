@@ -17,3 +17,4 @@ pub mod Naming
 pub mod Issues
 pub mod Served
 pub mod Setup
+pub mod Loading

@@ -34,8 +34,8 @@ pub record IsLoad (s : Dimensions) (w : World) (x : Load) : Type 0 where
   pub there : Contains (settled_items w x.partition) (x.key, x.slot)
   pub live : is_live 0 x.slot.until ≡ true
 
-module _ (s : Dimensions) (w : World) (shape : w.shape ≡ s) where
-  some-loads : (d : ℕ) → d < s.k → (items : Items) → ((x : List ℕ × Slot) → Contains items x → Contains (settled_items w d) x) → Each (IsLoad s w) (map (load_from d) (filter (λ x. is_live 0 x.1.until) items))
+module _ (s : Dimensions) (w : World) where
+  pub some-loads : (d : ℕ) → d < s.k → (items : Items) → ((x : List ℕ × Slot) → Contains items x → Contains (settled_items w d) x) → Each (IsLoad s w) (map (load_from d) (filter (λ x. is_live 0 x.1.until) items))
   some-loads d below [] within = tt
   some-loads d below (x ∷ xs) within =
       by (is_live 0 x.1.until) refl (some-loads d below xs (λ y there. within y (suc there.0, (let low = there.1 in omega (arith, low)), there.2))) where
@@ -48,8 +48,8 @@ module _ (s : Dimensions) (w : World) (shape : w.shape ≡ s) where
   all-loads zero a low = tt
   all-loads (suc n) a low = each-both s (IsLoad s w) (loads_in w a) (loads_of w (range_with_len (a + 1) n)) (some-loads a (omega (arith, low)) (settled_items w a) (λ x there. there)) (all-loads n (a + 1) (omega (arith, low)))
 
-  pub are-loads : Each (IsLoad s w) (loads w)
-  are-loads = subst (λ (k : ℕ). Each (IsLoad s w) (loads_of w (range_with_len 0 k))) (sym (ap (λ (t : Dimensions). t.k) shape)) (all-loads s.k 0 (omega arith))
+  pub are-loads : w.shape ≡ s → Each (IsLoad s w) (loads w)
+  are-loads shape = subst (λ (k : ℕ). Each (IsLoad s w) (loads_of w (range_with_len 0 k))) (sym (ap (λ (t : Dimensions). t.k) shape)) (all-loads s.k 0 (omega arith))
 
 module _ (s : Dimensions) (es : List Event) (rests : Rests s es) where
   abbrev pub space_in : ℕ → List ℕ
