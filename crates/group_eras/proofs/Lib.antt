@@ -18,3 +18,4 @@ pub mod Issues
 pub mod Served
 pub mod Setup
 pub mod Loading
+pub mod SetAll

@@ -182,10 +182,10 @@ module _ (s : Dimensions) (es : List Event) (ps : List Parcel) (up : SetUp s es 
   settled-done : HasNamed (settled_of s done x.partition) (next_name (after s es) carrier)
   settled-done = served.put-settled s es up.rests up.live d comes.below total piled x.key comes.home x.flags (expiry_of x.until) x.value comes.bytes comes.room
 
-  may-set : MayCome (after s es) (set_of x)
+  pub may-set : MayCome (after s es) (set_of x)
   may-set = served.may-put s es up.rests up.live d comes.below total piled x.key comes.home x.flags (expiry_of x.until) x.value comes.bytes comes.room
 
-  deliveries : Each IsDelivery (draining (step (after s es) (set_of x)).world)
+  pub deliveries : Each IsDelivery (draining (step (after s es) (set_of x)).world)
   deliveries = (served.delivered-put s es up.rests up.live d comes.below total piled x.key comes.home x.flags (expiry_of x.until) x.value comes.bytes comes.room).deliveries
 
   upto-start : AllUpto limit (book_of s es).history.world.shape (state_at s es)
