@@ -19,3 +19,4 @@ pub mod Served
 pub mod Setup
 pub mod Loading
 pub mod SetAll
+pub mod SetTables

@@ -30,8 +30,7 @@ use Rattle.group_eras.proofs.Draining.{after-is, each-both, each-weak}
 use Rattle.group_eras.proofs.Piling.{Piled, none-piled}
 use Rattle.group_eras.proofs.Resting.{Rests, settled_of}
 use Rattle.group_eras.proofs.Served.{AllLive}
-use Rattle.group_eras.proofs.Setup.{ComesNext, SetUp, deliveries, set-next, weight, weight-both, weight_if}
-use Rattle.group_eras.proofs.Shifts.{IsSet}
+use Rattle.group_eras.proofs.Setup.{ComesNext, SetUp, deliveries, op_of, set-next, weight, weight-both, weight_if}
 
 -- no message is on its way at the start
 opens-drained : (s : Dimensions) → IsDrained (opening s)
@@ -66,42 +65,42 @@ abbrev pub AllCome : Dimensions → List Parcel → List Parcel → Type 0
 AllCome s ps [] = Unit {0}
 AllCome s ps (x ∷ xs) = ComesNext s ps x × AllCome s (ps ++ x ∷ []) xs
 
--- what is asked in a fresh group: sets, and deliveries
-abbrev pub IsPlain : Event → Type 0
-IsPlain (Ask caller op p) = IsSet op.act
-IsPlain (Deliver from to) = Unit {0}
-IsPlain _ = ⊥
+-- what is asked in a fresh group: sets of these parcels, and deliveries
+abbrev pub IsPlain : List Parcel → Event → Type 0
+IsPlain all (Ask caller op p) = (x : Parcel) × Contains all x × (op ≡ op_of x)
+IsPlain all (Deliver from to) = Unit {0}
+IsPlain all _ = ⊥
 
-delivery-plain : (e : Event) → IsDelivery e → IsPlain e
-delivery-plain (Deliver from to) is = tt
-delivery-plain (Ask caller op p) is = absurd is
-delivery-plain (Collect caller call p) is = absurd is
-delivery-plain (Fail p keep) is = absurd is
-delivery-plain (Flush p) is = absurd is
-delivery-plain (Trace caller call d p) is = absurd is
+delivery-plain : (all : List Parcel) (e : Event) → IsDelivery e → IsPlain all e
+delivery-plain all (Deliver from to) is = tt
+delivery-plain all (Ask caller op p) is = absurd is
+delivery-plain all (Collect caller call p) is = absurd is
+delivery-plain all (Fail p keep) is = absurd is
+delivery-plain all (Flush p) is = absurd is
+delivery-plain all (Trace caller call d p) is = absurd is
 
-pub record AllSet (s : Dimensions) (es : List Event) (ps qs : List Parcel) : Type 0 where
+pub record AllSet (s : Dimensions) (all : List Parcel) (es : List Event) (ps qs : List Parcel) : Type 0 where
   pub setup : SetUp s (es ++ setting (after s es) qs) (ps ++ qs)
-  pub plain : Each IsPlain (setting (after s es) qs)
+  pub plain : Each (IsPlain all) (setting (after s es) qs)
 
-pub set-all : (s : Dimensions) (es : List Event) (ps qs : List Parcel) → SetUp s es ps → AllCome s ps qs → AllSet s es ps qs
-set-all s es ps [] up come = record {
+pub set-all : (s : Dimensions) (all : List Parcel) (es : List Event) (ps qs : List Parcel) → Each (Contains all) qs → SetUp s es ps → AllCome s ps qs → AllSet s all es ps qs
+set-all s all es ps [] inside up come = record {
   setup = subst (λ (xs : List Event). SetUp s xs (ps ++ [])) (sym (append-nil es)) (subst (SetUp s es) (sym (append-nil ps)) up);
   plain = tt;
 }
-set-all s es ps (x ∷ xs) up come =
+set-all s all es ps (x ∷ xs) inside up come =
     let drain : List Event = draining (step (after s es) (set_of x)).world in
     let done : List Event = es ++ set_of x ∷ drain in
     let world : after s (es ++ set_of x ∷ draining (step (after s es) (set_of x)).world) ≡ drained (step (after s es) (set_of x)).world = after-is s es (set_of x ∷ drain) in
     let events : (es ++ set_of x ∷ draining (step (after s es) (set_of x)).world) ++ setting (drained (step (after s es) (set_of x)).world) xs ≡ es ++ setting (after s es) (x ∷ xs)
     = append_assoc es (set_of x ∷ drain) (setting (drained (step (after s es) (set_of x)).world) xs) in
-    let rest : AllSet s (es ++ set_of x ∷ draining (step (after s es) (set_of x)).world) (ps ++ x ∷ []) xs = set-all s done (ps ++ x ∷ []) xs (set-next s es ps up x come.0) come.1 in
+    let rest : AllSet s all (es ++ set_of x ∷ draining (step (after s es) (set_of x)).world) (ps ++ x ∷ []) xs = set-all s all done (ps ++ x ∷ []) xs inside.1 (set-next s es ps up x come.0) come.1 in
     record {
       setup = subst (SetUp s (es ++ setting (after s es) (x ∷ xs))) (append_assoc ps (x ∷ []) xs)
           (subst (λ (ys : List Event). SetUp s ys ((ps ++ x ∷ []) ++ xs)) events (subst (λ (w : World). SetUp s (done ++ setting w xs) ((ps ++ x ∷ []) ++ xs)) world rest.setup));
-      plain = each-both s IsPlain (set_of x ∷ drain) (setting (drained (step (after s es) (set_of x)).world) xs)
-          (tt, each-weak s IsDelivery IsPlain delivery-plain drain (deliveries s es ps up x come.0))
-          (subst (λ (w : World). Each IsPlain (setting w xs)) world rest.plain);
+      plain = each-both s (IsPlain all) (set_of x ∷ drain) (setting (drained (step (after s es) (set_of x)).world) xs)
+          ((x, inside.0, refl), each-weak s IsDelivery (IsPlain all) (delivery-plain all) drain (deliveries s es ps up x come.0))
+          (subst (λ (w : World). Each (IsPlain all) (setting w xs)) world rest.plain);
     }
 
 -- a parcel that is of the group
