@@ -1,6 +1,7 @@
 -- The items of a group at rest are those of its log's table.
 use Rattle.std.proofs.Common.{ℕ, zero, suc, ◌≡◌, ◌≢◌, ◌<◌, ◌≤◌, ◌+◌, Bool, true, false, cond, List, [], ◌∷◌, ◌++◌, length, AllPairs, Option, Some, None, if◌then◌else◌, ◌⊎◌, inl, inr, refl, sym, ap, subst, ◌∙◌, arith}
-use Rattle.std.specs.Prelude.{All, Contains}
+use Rattle.std.specs.Prelude.{All, Contains, drop}
+use Rattle.std.proofs.lemmas.List.Elements.{All-drop, All-take}
 use Rattle.std.specs.List.{range_with_len, slice_index_or}
 use Rattle.std.proofs.lemmas.Bool.{cases_lt}
 use Rattle.group_types.specs.Dimensions.{Dimensions, space_of}
@@ -129,6 +130,7 @@ module _ (s : Dimensions) (es : List Event) (rests : Rests s es) (d : ℕ) (belo
     pub home : home_of x.0 s.k ≡ d
     pub there : (table_after_run s es).items x.0 ≡ Some (held_as x.1 (bytes_at x.1.at x.1.len space))
     pub long : length (bytes_at x.1.at x.1.len space) ≡ x.1.len
+    pub bytes : All (λ b. b < 256) (bytes_at x.1.at x.1.len space)
 
   pub in-table : (x : List ℕ × Slot) → Contains (settled_items w d) x → InTable x
   in-table x there =
@@ -138,6 +140,7 @@ module _ (s : Dimensions) (es : List Event) (rests : Rests s es) (d : ℕ) (belo
         home = home;
         there = table-at x.0 home ∙ ap (held_in space) (found-key (settled_items w d) x settled.once there);
         long = length-bytes_at x.1.at x.1.len space (let long = fits.long in omega (arith, inside, long));
+        bytes = All-take (λ b. b < 256) x.1.len (drop x.1.at space) (All-drop (λ b. b < 256) x.1.at space fits.bytes);
       }
 
   -- and an item of the table is the head's

@@ -20,3 +20,4 @@ pub mod Setup
 pub mod Loading
 pub mod SetAll
 pub mod SetTables
+pub mod Following
