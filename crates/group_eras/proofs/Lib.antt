@@ -21,3 +21,4 @@ pub mod Loading
 pub mod SetAll
 pub mod SetTables
 pub mod Following
+pub mod Carrying
