@@ -88,7 +88,7 @@ live-load d (y ∷ ys) x there live = by there (is_live 0 y.1.until) refl (λ re
   by : Contains (y ∷ ys) x → (b : Bool) → is_live 0 y.1.until ≡ b → (Contains ys x → Contains (map (load_from d) (filter (λ z. is_live 0 z.1.until) ys)) (load_from d x))
       → Contains (map (load_from d) (cond b (y ∷ filter (λ z. is_live 0 z.1.until) ys) (filter (λ z. is_live 0 z.1.until) ys))) (load_from d x)
   by (zero, low, is) true same later = (0, omega arith, ap (load_from d) is)
-  by (zero, low, is) false same later = absurd (cc (same, ap (λ (z : List ℕ × Slot). is_live 0 z.1.until) is, live))
+  by (zero, low, is) false same later = absurd (cc (same, is, live))
   by (suc i, low, is) true same later = let rest = later (i, omega (arith, low), is) in (suc rest.0, (let less = rest.1 in omega (arith, less)), rest.2)
   by (suc i, low, is) false same later = later (i, omega (arith, low), is)
 
@@ -383,3 +383,133 @@ module _ (e : Eras) (stands : Stands e) (rest : IsAtRest e.world) where
 
     pub carried-stands : Stands (carried e s')
     carried-stands = subst Stands (sym carried-is) stands3
+
+    -- of the new group
+    world3 : (carried e s').world ≡ after s' (setting (opening s') parcels)
+    world3 = ap (λ (x : Eras). x.world) carried-is ∙ follows3.world_is
+
+    shape3 : (carried e s').world.shape ≡ s'
+    shape3 = ap (λ (v : World). v.shape) world3 ∙ shape-after (opening s') sets
+
+    -- the numbers of the next era are above all earlier ones
+    base3 : (d : ℕ) → d < e.world.shape.k → (many : 1 ≤ e.world.shape.k) → slice_index (table_over e).counts d ≡ at 0 e3.bases d
+    base3 d below many =
+        let low : d < (read_era e).world.shape.k = subst (λ (t : Dimensions). d < t.k) (sym shape1) below in
+        let j = (stands.joined many).counts d below in
+        let start : 0 + d ≡ d = omega arith in
+        let base : at 0 (next_bases (read_era e)) d ≡ at 0 (read_era e).bases (0 + d) + count_logged (read_era e).world (0 + d)
+        = at-map-range zero (λ (x : ℕ). at 0 (read_era e).bases x + count_logged (read_era e).world x) (read_era e).world.shape.k 0 d low in
+        let here : at 0 (read_era e).bases (0 + d) + count_logged (read_era e).world (0 + d) ≡ at 0 (read_era e).bases d + count_logged (read_era e).world d
+        = ap (λ (x : ℕ). at 0 (read_era e).bases x + count_logged (read_era e).world x) start in
+        let old : at 0 (read_era e).bases d ≡ at 0 e.bases d = ap (λ (b : List ℕ). at 0 b d) follows1.bases in
+        let new : at 0 e3.bases d ≡ at 0 (next_bases (read_era e)) d = ap (λ (b : List ℕ). at 0 b d) follows3.bases in
+        let counts : slice_index (own_table e).counts d ≡ slice_index (own_table (read_era e)).counts d
+        = ap (λ (t : Contents). slice_index t.counts d) own-is ∙ sym (same-counts s es es1 rests.run well.rests_then.run settled1 d below) ∙ sym (ap (λ (t : Contents). slice_index t.counts d) own1-is) in
+        let logged = counts1 d below in
+        omega (arith, j, base, here, old, new, counts, logged)
+
+    -- an item that lives is what it was
+    module _ (key : List ℕ) (h : Holding) (there : (table_over e).items key ≡ Some h) (live : is_live 0 h.until ≡ true) where
+      many : 1 ≤ e.world.shape.k
+      many = rests.run.0.k.0
+
+      many3 : 1 ≤ e3.world.shape.k
+      many3 = stands3.era.run.0.k.0
+
+      -- the item of the old era
+      pub record Was : Type 0 where
+        pub old : Holding
+        pub own : (own_table e).items key ≡ Some old
+        pub flags : old.item.flags ≡ h.item.flags
+        pub value : old.item.value ≡ h.item.value
+        pub until : old.until ≡ h.until
+
+      was : Was
+      was = by ((stands.joined many).items key) where
+        alike : (o : Option Holding) → (own_table e).items key ≡ o → (table_over e).items key ≡ shift e.bases (home_of key s.k) o → Was
+        alike None own is = absurd (cc (is, there))
+        alike (Some x) own is =
+            let same : shifted e.bases (home_of key s.k) x ≡ h = some-same (shifted e.bases (home_of key s.k) x) h (sym is ∙ there) in
+            record {
+              old = x;
+              own = own;
+              flags = ap (λ (y : Holding). y.item.flags) same;
+              value = ap (λ (y : Holding). y.item.value) same;
+              until = ap (λ (y : Holding). y.until) same;
+            }
+
+        by : Meets e.bases s.k many NoKey key ((table_over e).items key) ((own_table e).items key) → Was
+        by (inl (Alike is has)) = alike ((own_table e).items key) refl is
+        by (inl (Gone x is ends none)) =
+            let same : x ≡ h = some-same x h (sym is ∙ there) in
+            let dead : is_live 0 h.until ≡ false = ap (λ (y : Holding). is_live 0 y.until) (sym same) ∙ ap (is_live 0) ends in
+            absurd (cc (dead, live))
+        by (inr both) = absurd both.0
+
+      carried-as : Carries key was.old
+      carried-as = carries key was.old (ap (λ (t : Contents). t.items key) (sym own-is) ∙ was.own) (ap (is_live 0) was.until ∙ live)
+
+      -- the item of the new one
+      pub record Now : Type 0 where
+        pub new : Holding
+        pub own : (own_table e3).items key ≡ Some new
+        pub flags : new.item.flags ≡ h.item.flags
+        pub value : new.item.value ≡ h.item.value
+        pub until : new.until ≡ h.until
+        pub cas : 1 ≤ new.item.cas
+
+      now : Now
+      now = by (sets-items parcels (empty_table s'.k) (after s' sets).log key log-all (NoItem refl)) where
+        x : Parcel
+        x = carried-as.parcel
+
+        by : SetItem parcels key ((table_after_run s' (setting (opening s') parcels)).items key) → Now
+        by (NoItem none) = absurd (cc (appeared carried-as.parcel carried-as.there, ap (λ (k : List ℕ). is_some ((own_table e3).items k)) carried-as.key_is, ap (λ (t : Contents). is_some (t.items key)) own3-is, ap is_some none))
+        by (OfSet y new in-parcels key_is is of) =
+            let same : y ≡ carried-as.parcel = one-parcel parcels y carried-as.parcel apart in-parcels carried-as.there (key_is ∙ sym carried-as.key_is) in
+            let lives : is_live 0 carried-as.parcel.until ≡ true = ap (is_live 0) (sym carried-as.until ∙ was.until) ∙ live in
+            record {
+              new = new;
+              own = ap (λ (t : Contents). t.items key) own3-is ∙ is;
+              flags = of.flags ∙ ap (λ (p : Parcel). p.flags) same ∙ sym carried-as.flags ∙ was.flags;
+              value = of.value ∙ ap (λ (p : Parcel). p.value) same ∙ sym carried-as.value ∙ was.value;
+              until = of.until ∙ ap (λ (p : Parcel). until_of (expiry_of p.until) 0) same ∙ until-back carried-as.parcel.until lives ∙ sym carried-as.until ∙ was.until;
+              cas = of.cas;
+            }
+
+      kept3 : IsKept (table_over e) key h (table_over e3)
+      kept3 = by ((stands3.joined many3).items key) where
+        home3 : home_of key e3.world.shape.k ≡ home_of key s.k
+        home3 = ap (λ (v : World). home_of key v.shape.k) follows3.world_is ∙ ap (λ (t : Dimensions). home_of key t.k) (shape-after (opening s') sets) ∙ ap (home_of key) successor.partitions
+
+        alike : (o : Option Holding) → (own_table e3).items key ≡ o → (table_over e3).items key ≡ shift e3.bases (home_of key e3.world.shape.k) o → IsKept (table_over e) key h (table_over e3)
+        alike None own is = absurd (cc (now.own, own))
+        alike (Some x) own is =
+            let same : x ≡ now.new = some-same x now.new (sym own ∙ now.own) in
+            let d : ℕ = home_of key s.k in
+            let count : count_of (table_over e) key ≡ slice_index (table_over e).counts d = ap (λ (n : ℕ). slice_index (table_over e).counts (home_of key n)) (stands.joined many).many_all in
+            let base = base3 d (home-below key s.k many) many in
+            let here : at 0 e3.bases (home_of key e3.world.shape.k) ≡ at 0 e3.bases d = ap (at 0 e3.bases) home3 in
+            let some = now.cas in
+            let cas : x.item.cas ≡ now.new.item.cas = ap (λ (y : Holding). y.item.cas) same in
+            record {
+              holding = shifted e3.bases (home_of key e3.world.shape.k) x;
+              there = is;
+              flags = ap (λ (y : Holding). y.item.flags) same ∙ now.flags;
+              value = ap (λ (y : Holding). y.item.value) same ∙ now.value;
+              until = ap (λ (y : Holding). y.until) same ∙ now.until;
+              above = omega (arith, count, base, here, some, cas);
+            }
+
+        by : Meets e3.bases e3.world.shape.k many3 NoKey key ((table_over e3).items key) ((own_table e3).items key) → IsKept (table_over e) key h (table_over e3)
+        by (inl (Alike is has)) = alike ((own_table e3).items key) refl is
+        by (inl (Gone x is ends none)) = absurd (cc (now.own, none))
+        by (inr both) = absurd both.0
+
+    pub has-carried : HasCarried e s'
+    has-carried = record {
+      shape = shape3;
+      whole = λ p pin. ap (λ (v : World). is_dead v p) world3 ∙ setup.live p;
+      drained = subst IsDrained (sym world3) setup.rests.drained;
+      kept = λ key h there live. subst (λ (x : Eras). IsKept (table_over e) key h (table_over x)) (sym carried-is) (kept3 key h there live);
+    }

@@ -22,3 +22,4 @@ pub mod SetAll
 pub mod SetTables
 pub mod Following
 pub mod Carrying
+pub mod Promises
