@@ -1,6 +1,6 @@
 -- A carry: the old era is read and stays legal, and the next one stands behind it.
-use Rattle.std.proofs.Common.{ℕ, zero, suc, ◌≡◌, ◌≢◌, ◌<◌, ◌≤◌, ◌+◌, ◌==◌, nat_le, nat_lt, Bool, true, false, cond, List, [], ◌∷◌, ◌++◌, length, map, take, replicate, Option, Some, None, is_some, if◌then◌else◌, ◌⊎◌, inl, inr, refl, sym, ap, ap₂, subst, ◌∙◌, arith}
-use Rattle.std.specs.Prelude.{All, Contains, filter, slice_index}
+use Rattle.std.proofs.Common.{ℕ, zero, suc, ◌≡◌, ◌<◌, ◌≤◌, ◌+◌, ◌==◌, nat_le, nat_lt, Bool, true, false, cond, List, [], ◌∷◌, ◌++◌, map, take, replicate, Option, Some, None, is_some, if◌then◌else◌, ◌⊎◌, inl, inr, refl, sym, ap, subst, ◌∙◌, arith}
+use Rattle.std.specs.Prelude.{Contains, filter, slice_index}
 use Rattle.std.specs.List.{range_with_len}
 use Rattle.std.proofs.lemmas.Bool.{cases_lt}
 use Rattle.std.proofs.lemmas.Grind.{common_steps}
@@ -11,8 +11,6 @@ use Rattle.group_types.specs.Dimensions.{Dimensions, space_of}
 use Rattle.group_types.specs.Each.{Each, EachTwo}
 use Rattle.group_types.specs.Hash.{home_of}
 use Rattle.group_types.specs.Lists.{at}
-use Rattle.group_types.specs.Names.{IsProcess}
-use Rattle.group_types.specs.declared.process.ProcessId.{ProcessId}
 use Rattle.group_types.proofs.Lists.{at-map-range}
 use Rattle.item_index.specs.declared.slot.Slot.{Slot}
 use Rattle.memc_table.specs.Contents.{Contents, count_of, empty_table}
@@ -21,12 +19,11 @@ use Rattle.memc_table.specs.declared.holding.Holding.{Holding}
 use Rattle.group_calls.specs.Log.{IsLegal, table_of}
 use Rattle.group_calls.specs.declared.entry.Entry.{Entry}
 use Rattle.group_calls.specs.declared.event.Event.{Event}
-use Rattle.group_run.specs.Headline.{IsRun, IsRunFrom}
+use Rattle.group_run.specs.Headline.{IsRunFrom}
 use Rattle.group_run.specs.Meaning.{IsDown, IsDrained, count_logged, is_dead, updates_of}
 use Rattle.group_run.specs.Replica.{Items}
 use Rattle.group_run.specs.World.{World, after, opening, step, world_after}
 use Rattle.law_updates.specs.Store.{no_store}
-use Rattle.law_log.specs.Book.{book_of}
 use Rattle.law_log.proofs.Calls.{each-contained}
 use Rattle.law_log.proofs.Tables.{home-below}
 use Rattle.law_log.proofs.Values.{shown-long}
@@ -38,7 +35,7 @@ use Rattle.law_moves.proofs.Reading.{some-same}
 use Rattle.group_eras.specs.Carry.{Parcel, begun, carried, expiry_of, read_era, reading, setting}
 use Rattle.group_eras.specs.Eras.{EraEntry, Eras, eras_after, next_bases, next_era}
 use Rattle.group_eras.specs.Items.{Load, bytes_in, load_from, loads, loads_in, loads_of, settled_items}
-use Rattle.group_eras.specs.Promise.{AreKept, AreTold, HasCarried, IsEra, IsKept, IsWhole, one_log, table_over}
+use Rattle.group_eras.specs.Promise.{AreTold, HasCarried, IsEra, IsKept, one_log, table_over}
 use Rattle.group_eras.specs.Refusal.{CanCarry, IsAtRest, IsSuccessor}
 use Rattle.group_eras.specs.Told.{with_base}
 use Rattle.group_eras.proofs.Draining.{after-is, each-weak, shape-after}
@@ -46,13 +43,12 @@ use Rattle.group_eras.proofs.Finding as finding
 use Rattle.group_eras.proofs.Following.{Follows, IsSame, each-first, follows, plain-same, run-first, sets-along, stands-along, still-same}
 use Rattle.group_eras.proofs.Joins.{Joined, Meets}
 use Rattle.group_eras.proofs.Loading.{keys-differ, weight-is}
-use Rattle.group_eras.proofs.Readings.{IsLoad, ReadWell, are-loads, item_of, parcel_for, reads}
+use Rattle.group_eras.proofs.Readings.{IsLoad, ReadWell, are-loads, parcel_for, reads}
 use Rattle.group_eras.proofs.Resting.{IsStill, Rests, same-counts, same-items, settled_of, still-settled, table_after_run, ties-of}
-use Rattle.group_eras.proofs.Served.{AllLive}
 use Rattle.group_eras.proofs.SetAll.{AllSet, Apart, IsOfGroup, IsPlain, all-come, opens-setup, set-all}
-use Rattle.group_eras.proofs.SetTables.{IsOfParcel, NoItem, OfSet, SetItem, SetsOne, appears, log-sets, one-parcel, sets-items}
+use Rattle.group_eras.proofs.SetTables.{NoItem, OfSet, SetItem, SetsOne, appears, log-sets, one-parcel, sets-items}
 use Rattle.group_eras.proofs.Setup.{HasSet, SetUp, weight}
-use Rattle.group_eras.proofs.Shifts.{Alike, Gone, HasCas, Same, shift, shifted}
+use Rattle.group_eras.proofs.Shifts.{Alike, Gone, shift, shifted}
 use Rattle.group_eras.proofs.Standing.{NoKey, Standing, Stands, own_table}
 
 run-behind : (w : World) (xs ys : List Event) → IsRunFrom w (xs ++ ys) → IsRunFrom (world_after w xs) ys
@@ -355,9 +351,10 @@ module _ (e : Eras) (stands : Stands e) (rest : IsAtRest e.world) where
     log-all = every (after s' sets).log (λ y there. there) where
       every : (ys : List Entry) → ((y : Entry) → Contains ys y → Contains (after s' (setting (opening s') parcels)).log y) → Each (λ (y : Entry). SetsOne parcels y.op) ys
       every [] within = tt
-      every (y ∷ ys) within =
-          (log-sets s' parcels (setting (opening s') parcels) setup.rests.run all-set.plain y (within y (0, omega arith, refl)),
-          every ys (λ z there. within z (suc there.0, (let low = there.1 in omega (arith, low)), there.2)))
+      every (y ∷ ys) within = (
+        log-sets s' parcels (setting (opening s') parcels) setup.rests.run all-set.plain y (within y (0, omega arith, refl)),
+        every ys (λ z there. within z (suc there.0, (let low = there.1 in omega (arith, low)), there.2)),
+      )
 
     appeared : (x : Parcel) → Contains parcels x → is_some ((own_table e3).items x.key) ≡ true
     appeared x there = ap (λ (t : Contents). is_some (t.items x.key)) own3-is

@@ -1,16 +1,15 @@
 -- A drain is a list of deliveries that may come, after which the group is at rest; and who is dead stays so where no
 -- process fails.
-use Rattle.std.proofs.Common.{ℕ, zero, suc, ◌≡◌, ◌<◌, ◌≤◌, ◌+◌, false, List, [], ◌∷◌, ◌++◌, length, Option, Some, None, refl, sym, ap, subst, ◌∙◌, arith}
-use Rattle.std.proofs.lemmas.List.{append_assoc, append-nil}
+use Rattle.std.proofs.Common.{ℕ, zero, suc, ◌≡◌, ◌<◌, List, [], ◌∷◌, ◌++◌, Option, Some, None, refl, sym, ap, subst, ◌∙◌, arith}
 use Rattle.group_types.specs.Dimensions.{Dimensions}
 use Rattle.group_types.specs.Each.{Each}
-use Rattle.group_types.specs.Names.{IsProcess, index_of}
+use Rattle.group_types.specs.Names.{index_of}
 use Rattle.group_types.specs.declared.process.ProcessId.{ProcessId}
 use Rattle.group_calls.specs.declared.event.Event.{Event}
 use Rattle.group_calls.specs.declared.event.Event.TheVariants.{Ask, Collect, Deliver, Fail, Flush, Trace}
 use Rattle.group_run.specs.Draining.{drain_events, next_delivery}
 use Rattle.group_run.specs.Headline.{IsRun, IsRunFrom, MayCome}
-use Rattle.group_run.specs.Meaning.{IsDown, IsDrained, is_dead}
+use Rattle.group_run.specs.Meaning.{IsDown, is_dead}
 use Rattle.group_run.specs.Progress.{load_of}
 use Rattle.group_run.specs.World.{World, after, opening, opening_node, step, world_after}
 use Rattle.law_answers.proofs.Entries.{after-more, run-more}

@@ -1,16 +1,14 @@
 -- The items of a group at rest are those of its log's table.
-use Rattle.std.proofs.Common.{ℕ, zero, suc, ◌≡◌, ◌≢◌, ◌<◌, ◌≤◌, ◌+◌, Bool, true, false, cond, List, [], ◌∷◌, ◌++◌, length, AllPairs, Option, Some, None, if◌then◌else◌, ◌⊎◌, inl, inr, refl, sym, ap, subst, ◌∙◌, arith}
+use Rattle.std.proofs.Common.{ℕ, zero, suc, ◌≡◌, ◌≢◌, ◌<◌, ◌≤◌, ◌+◌, Bool, true, false, cond, List, [], ◌∷◌, length, AllPairs, Option, Some, None, if◌then◌else◌, ◌⊎◌, inl, inr, refl, sym, ap, subst, ◌∙◌, arith}
 use Rattle.std.specs.Prelude.{All, Contains, drop}
 use Rattle.std.proofs.lemmas.List.Elements.{All-drop, All-take}
-use Rattle.std.specs.List.{range_with_len, slice_index_or}
+use Rattle.std.specs.List.{range_with_len}
 use Rattle.std.proofs.lemmas.Bool.{cases_lt}
 use Rattle.group_types.specs.Dimensions.{Dimensions, space_of}
-use Rattle.group_types.specs.Each.{Each}
 use Rattle.group_types.specs.Hash.{home_of}
-use Rattle.group_types.specs.Lists.{at, same_key}
+use Rattle.group_types.specs.Lists.{same_key}
 use Rattle.group_types.specs.Names.{IsProcess, of_rank}
 use Rattle.group_types.specs.declared.process.ProcessId.{ProcessId}
-use Rattle.group_types.specs.declared.process.ProcessId.TheVariants.{DataNode, ParityNode}
 use Rattle.item_index.specs.declared.slot.Slot.{Slot}
 use Rattle.memc_table.specs.declared.holding.Holding.{Holding}
 use Rattle.group_message.specs.declared.update.Update.{Update}
@@ -19,7 +17,7 @@ use Rattle.erasure_code.specs.Spaces.{bytes_at}
 use Rattle.group_run.specs.Applying.{replica_of}
 use Rattle.group_run.specs.Deciding.{held_as}
 use Rattle.group_run.specs.Headline.{IsSettled, KeepsAll}
-use Rattle.group_run.specs.Meaning.{HasTakenOver, Heads, Lives, is_dead, process_of}
+use Rattle.group_run.specs.Meaning.{HasTakenOver, Heads, is_dead, process_of}
 use Rattle.group_run.specs.Replica.{Items, items_after, slot_in}
 use Rattle.group_run.specs.World.{World, after, opening}
 use Rattle.law_histories.proofs.Headed.{rank-in}

@@ -1,7 +1,6 @@
 -- Events that come in as they are asked: an era follows its world, and stays legal.
-use Rattle.std.proofs.Common.{ℕ, zero, suc, ◌≡◌, ◌<◌, ◌≤◌, ◌+◌, Bool, true, false, List, [], ◌∷◌, ◌++◌, length, map, take, Option, Some, None, refl, sym, ap, subst, ◌∙◌, arith}
+use Rattle.std.proofs.Common.{ℕ, zero, suc, ◌≡◌, ◌≤◌, List, [], ◌∷◌, ◌++◌, take, refl, sym, ap, subst, ◌∙◌, arith}
 use Rattle.std.specs.Prelude.{Contains}
-use Rattle.std.proofs.lemmas.List.{append_assoc}
 use Rattle.std.proofs.lemmas.List.Elements.{Contains-append_right}
 use Rattle.group_types.specs.Dimensions.{Dimensions}
 use Rattle.group_types.specs.Each.{Each}
@@ -17,15 +16,14 @@ use Rattle.law_answers.proofs.Entries.{after-more, run-more}
 use Rattle.group_eras.specs.Carry.{Parcel}
 use Rattle.group_eras.specs.Eras.{EraEntry, Eras, era_step, eras_after}
 use Rattle.group_eras.specs.Promise.{AreTold}
-use Rattle.group_eras.specs.Told.{Bases, event_in, op_in, with_cas}
+use Rattle.group_eras.specs.Told.{Bases, event_in, with_cas}
 use Rattle.group_eras.proofs.Joins.{SetsFree}
 use Rattle.group_eras.proofs.Making as making
 use Rattle.group_eras.proofs.Resting.{IsGet, IsStill}
 use Rattle.group_eras.proofs.SetAll.{IsPlain}
 use Rattle.group_eras.proofs.SetTables.{SetsOne, log-sets}
-use Rattle.group_eras.proofs.Setup.{op_of}
 use Rattle.group_eras.proofs.Shifts.{IsSet}
-use Rattle.group_eras.proofs.Standing.{NoKey, Standing, Stands, standing-next, stands-next}
+use Rattle.group_eras.proofs.Standing.{Standing, Stands, standing-next, stands-next}
 use Rattle.law_moves.proofs.Reading.{grown-is}
 
 -- an event that comes in as it is asked
@@ -114,9 +112,10 @@ told-sets all bases k many Free asked era [] [] told sets = tt
 told-sets all bases k many Free asked era [] (y ∷ ys) told sets = absurd told
 told-sets all bases k many Free asked era (x ∷ xs) [] told sets = tt
 told-sets all bases k many Free asked era (x ∷ xs) (y ∷ ys) told sets =
-    let one : SetsOne all x.op = sets x (0, omega arith, refl) in
-    ((λ free. uncas _ y.1.op.act (subst (λ (o : Asked). IsSet o.act) (sym one.2 ∙ told.1.op) tt)),
-    told-sets all bases k many Free asked era xs ys told.2 (λ entry there. sets entry (suc there.0, (let low = there.1 in omega (arith, low)), there.2)))
+    let one : SetsOne all x.op = sets x (0, omega arith, refl) in (
+      (λ free. uncas _ y.1.op.act (subst (λ (o : Asked). IsSet o.act) (sym one.2 ∙ told.1.op) tt)),
+      told-sets all bases k many Free asked era xs ys told.2 (λ entry there. sets entry (suc there.0, (let low = there.1 in omega (arith, low)), there.2)),
+    )
 
 -- a fresh era in which parcels are set
 pub sets-along : (Free : List ℕ → Type 0) (all : List Parcel) (s : Dimensions) (e : Eras) (done : List Event) → Standing Free e → e.world ≡ after s done → IsRun s done → Each (IsPlain all) done

@@ -1,5 +1,5 @@
 -- Histories that stay fronts of given ones: so no process can settle anything else.
-use Rattle.std.proofs.Common.{ℕ, zero, suc, ◌≡◌, ◌≢◌, ◌<◌, ◌≤◌, ◌+◌, Bool, true, false, List, [], ◌∷◌, ◌++◌, length, take, Option, Some, None, ◌⊎◌, inl, inr, refl, sym, ap, subst, ◌∙◌, arith}
+use Rattle.std.proofs.Common.{ℕ, zero, suc, ◌≡◌, ◌≢◌, ◌<◌, ◌≤◌, true, false, List, [], ◌++◌, length, take, Some, ◌⊎◌, inl, inr, refl, sym, ap, subst, ◌∙◌, arith}
 use Rattle.std.specs.Prelude.{All}
 use Rattle.std.proofs.lemmas.Bool.{cases_eq}
 use Rattle.std.proofs.lemmas.List.{append-nil, take_all}
@@ -15,15 +15,14 @@ use Rattle.group_message.specs.declared.message.Message.{Message}
 use Rattle.group_message.specs.declared.update.Update.{Update}
 use Rattle.group_calls.specs.Turns.{CallName}
 use Rattle.group_calls.specs.declared.event.Answer.{Answer}
-use Rattle.group_calls.specs.declared.event.Event.{Event}
 use Rattle.group_calls.specs.declared.event.Event.TheVariants.{Ask, Deliver}
 use Rattle.group_run.specs.Applying.{head_at, replica_of}
 use Rattle.group_run.specs.Asking.{ask_process}
 use Rattle.group_run.specs.Headline.{MayCome}
 use Rattle.group_run.specs.History.{History, history, prolonged}
-use Rattle.group_run.specs.Process.{Head, Process}
+use Rattle.group_run.specs.Process.{Head}
 use Rattle.group_run.specs.Receiving.{receive}
-use Rattle.group_run.specs.Replica.{Replica, items_after, last_of}
+use Rattle.group_run.specs.Replica.{items_after}
 use Rattle.group_run.specs.World.{next_name, node_of}
 use Rattle.law_moves.proofs.Moves.{Acted, Asks, Popped}
 use Rattle.law_moves.specs.State.{IsUp, State, state_of}
@@ -33,11 +32,10 @@ use Rattle.law_moves.proofs.Keeping.{keeps}
 use Rattle.law_histories.proofs.Around.{GrewBy, keeper-rank}
 use Rattle.law_histories.proofs.Finished.{IsEmpty, log-empty}
 use Rattle.law_histories.proofs.Folds.{Along, run}
-use Rattle.law_histories.proofs.Histories.{length-history}
 use Rattle.law_histories.proofs.HistoryWords.{HistoryLaws}
 use Rattle.law_histories.proofs.Issuing.{IssueKeeps}
 use Rattle.law_histories.proofs.Keeping as reaching
-use Rattle.law_histories.proofs.LaneWords.{Goes, Prolongs, Seen, next}
+use Rattle.law_histories.proofs.LaneWords.{Goes, Prolongs, next}
 use Rattle.law_histories.proofs.Lanes.{begins-trans}
 use Rattle.law_histories.proofs.Ranks.{head-from}
 use Rattle.law_histories.proofs.Reach.{Any, EndsAt, IsKeeper, LaneReaches, PartitionReaches, Reach, ReplicaReaches, seen_at}

@@ -1,21 +1,15 @@
 -- Gets of items in a group at rest: each is answered with the item, or has to wait for a block.
-use Rattle.std.proofs.Common.{ℕ, zero, suc, ◌≡◌, ◌≢◌, ◌<◌, ◌≤◌, ◌+◌, Bool, true, false, List, [], ◌∷◌, ◌++◌, length, Option, Some, None, if◌then◌else◌, ◌⊎◌, inl, inr, refl, sym, ap, subst, ◌∙◌, arith}
-use Rattle.std.specs.Prelude.{All, Contains}
-use Rattle.std.proofs.lemmas.List.{append_assoc, append-nil}
+use Rattle.std.proofs.Common.{ℕ, ◌≡◌, ◌<◌, ◌+◌, Bool, true, false, List, [], ◌∷◌, ◌++◌, length, Option, Some, None, if◌then◌else◌, refl, sym, ap, subst, ◌∙◌, arith}
 use Rattle.group_types.specs.Dimensions.{Dimensions}
-use Rattle.group_types.specs.Each.{Each}
 use Rattle.group_types.specs.Hash.{home_of}
 use Rattle.group_types.specs.Names.{IsProcess, of_rank}
 use Rattle.group_types.specs.declared.process.ProcessId.{ProcessId}
-use Rattle.memc_table.specs.Act.{key_of, value_of}
 use Rattle.memc_table.specs.Asked.{Asked}
 use Rattle.memc_table.specs.Contents.{Contents, count_of, empty_table, reply_in, reply_of}
 use Rattle.memc_table.specs.Expiry.{is_live, live_at}
 use Rattle.memc_table.specs.Ruling.{ruling_of}
 use Rattle.memc_table.specs.declared.act.Act.TheVariants.{Get}
 use Rattle.memc_table.specs.declared.holding.Holding.{Holding}
-use Rattle.memc_table.specs.declared.reply.Item.{Item}
-use Rattle.memc_table.specs.declared.reply.Reply.{Reply}
 use Rattle.memc_table.specs.declared.reply.Reply.TheVariants as reply
 use Rattle.group_calls.specs.Log.{table_of}
 use Rattle.group_calls.specs.Turns.{accepts}
@@ -25,18 +19,17 @@ use Rattle.group_calls.specs.declared.event.Cause.TheVariants as cause
 use Rattle.group_calls.specs.declared.event.Event.{Event}
 use Rattle.group_calls.specs.declared.event.Event.TheVariants.{Ask}
 use Rattle.group_run.specs.Causes.{AskCause, AskLeaves, IsReady, table_now}
-use Rattle.group_run.specs.Headline.{IsRun, MayCome}
-use Rattle.group_run.specs.Meaning.{Heads, IsDown, IsDrained, is_dead, link}
+use Rattle.group_run.specs.Headline.{MayCome}
+use Rattle.group_run.specs.Meaning.{Heads, IsDrained, is_dead, link}
 use Rattle.group_run.specs.Process.{Node}
-use Rattle.group_run.specs.World.{World, after, opening, step, world_after}
-use Rattle.law_histories.specs.Laws.{IsAsked}
+use Rattle.group_run.specs.World.{World, after, opening, step}
 use Rattle.law_histories.proofs.Quiet.{asked_always}
 use Rattle.law_answers.proofs.Asks.{asks_always}
 use Rattle.law_answers.proofs.Entries.{after-more}
 use Rattle.law_answers.proofs.Leaves.{asks_leave_always}
 use Rattle.group_eras.specs.Eras.{carrier}
 use Rattle.group_eras.proofs.Draining.{more-run, more-up, shape-after, still-none}
-use Rattle.group_eras.proofs.Resting.{IsStill, Rests, table_after_run}
+use Rattle.group_eras.proofs.Resting.{Rests, table_after_run}
 
 -- the get of a key, by the caller that carries
 abbrev pub get_op : List ℕ → Asked

@@ -1,10 +1,8 @@
 -- The update that a head at rest issues for the set of a fresh key: its value lies on top of the others.
-use Rattle.std.proofs.Common.{ℕ, ℤ, zero, suc, ◌≡◌, ◌≢◌, ◌<◌, ◌≤◌, ◌+◌, ◌==◌, Bool, true, false, List, [], ◌∷◌, ◌++◌, length, take, Option, Some, None, if◌then◌else◌, refl, sym, ap, ap₂, subst, ◌∙◌, arith}
-use Rattle.std.proofs.lemmas.Bool.{eq-eqb}
+use Rattle.std.proofs.Common.{ℕ, ℤ, ◌≡◌, ◌≢◌, ◌≤◌, ◌+◌, Bool, List, [], ◌∷◌, ◌++◌, length, Some, None, if◌then◌else◌, refl, sym, ap, ap₂, subst, ◌∙◌, arith}
 use Rattle.std.proofs.lemmas.List.{take_all}
-use Rattle.group_types.specs.Dimensions.{Dimensions, space_of}
+use Rattle.group_types.specs.Dimensions.{space_of}
 use Rattle.group_types.specs.Each.{Each}
-use Rattle.group_types.specs.Hash.{home_of}
 use Rattle.group_types.specs.declared.process.ProcessId.{ProcessId}
 use Rattle.group_types.specs.declared.process.ProcessId.TheVariants.{DataNode}
 use Rattle.group_types.specs.declared.run.Run.{Run}
@@ -17,14 +15,14 @@ use Rattle.group_message.specs.declared.update.Update.{Update}
 use Rattle.group_calls.specs.declared.decision.Decision.{Decision}
 use Rattle.group_calls.specs.declared.decision.Decision.TheVariants as decides
 use Rattle.erasure_code.specs.Spaces.{bytes_at}
-use Rattle.group_run.specs.Applying.{head_at, replica_of}
+use Rattle.group_run.specs.Applying.{replica_of}
 use Rattle.group_run.specs.Asking.{found_at, update_of}
 use Rattle.group_run.specs.Deciding.{decide}
 use Rattle.group_run.specs.Free.{place_for}
 use Rattle.group_run.specs.History.{history}
 use Rattle.group_run.specs.Meaning.{process_of}
-use Rattle.group_run.specs.Process.{Head, Process}
-use Rattle.group_run.specs.Replica.{Items, Replica, item_settled, items_after, run_in, slot_after, slot_in, with_slot}
+use Rattle.group_run.specs.Process.{Process}
+use Rattle.group_run.specs.Replica.{Items, Replica, item_settled, items_after, slot_after, slot_in}
 use Rattle.group_run.specs.World.{World, next_name}
 use Rattle.law_histories.proofs.Issuing.{IssuesIn}
 use Rattle.law_histories.proofs.LaneWords.{Prolongs}
@@ -110,8 +108,11 @@ module _ (w : World) (d : ℕ) (us : List Update) (ready : IsReadyAt w d us) (to
       = ap₂ (λ (b : Body) (o : Outcome). us ++ update_of (next_name w carrier) (put_op key flags expiry value) d b o p ∷ []) same.0 same.1
       ∙ ap (λ (xs : List Update). xs ++ update_of (next_name w carrier) (put_op key flags expiry value) d body outcome p ∷ []) (sym ready.whole) in
       subst (λ (xs : List Update). Prolongs (history us r ++ update_of (next_name w carrier) (put_op key flags expiry value) d body outcome p ∷ []) xs) (sym (is ∙ front))
-      (record { reaches = omega arith; front = take_all (length (history us r ++ update_of (next_name w carrier) (put_op key flags expiry value) d body outcome p ∷ []))
-          (history us r ++ update_of (next_name w carrier) (put_op key flags expiry value) d body outcome p ∷ []) (omega arith) })
+      (record {
+        reaches = omega arith;
+        front = take_all (length (history us r ++ update_of (next_name w carrier) (put_op key flags expiry value) d body outcome p ∷ []))
+            (history us r ++ update_of (next_name w carrier) (put_op key flags expiry value) d body outcome p ∷ []) (omega arith);
+      })
 
   -- and its value lies on top
   pub piled-next : Piled (total + length value) (items_after [] (us ++ issued-put ∷ []))

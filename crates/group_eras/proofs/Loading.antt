@@ -1,17 +1,16 @@
 -- The items that are carried have different keys, and their values are as long as their slots say.
-use Rattle.std.proofs.Common.{ℕ, zero, suc, ◌≡◌, ◌≢◌, ◌<◌, ◌≤◌, ◌+◌, ◌==◌, Bool, true, false, cond, List, [], ◌∷◌, ◌++◌, length, map, AllPairs, ◌⊎◌, inl, inr, refl, sym, ap, ap₂, subst, ◌∙◌, arith}
-use Rattle.std.specs.Prelude.{All, Contains, filter}
+use Rattle.std.proofs.Common.{ℕ, zero, suc, ◌≡◌, ◌≢◌, ◌<◌, ◌≤◌, ◌+◌, ◌==◌, Bool, true, false, cond, List, [], ◌∷◌, ◌++◌, length, map, AllPairs, ◌⊎◌, inl, inr, refl, sym, ap, subst, ◌∙◌, arith}
+use Rattle.std.specs.Prelude.{Contains, filter}
 use Rattle.std.specs.List.{range_with_len, sum_by}
 use Rattle.std.proofs.lemmas.Bool.{cases_eq, eq-eqb, ne_eqb}
 use Rattle.std.proofs.lemmas.List.Sums.{sum_by-cons}
 use Rattle.std.specs.Prelude.{slice_index_or}
-use Rattle.group_types.specs.Dimensions.{Dimensions, space_of}
+use Rattle.group_types.specs.Dimensions.{Dimensions}
 use Rattle.group_types.specs.Each.{Each, EachTwo}
 use Rattle.group_types.specs.Hash.{home_of}
 use Rattle.item_index.specs.declared.slot.Slot.{Slot}
 use Rattle.memc_table.specs.Expiry.{is_live}
 use Rattle.group_calls.specs.declared.event.Event.{Event}
-use Rattle.erasure_code.specs.Spaces.{bytes_at}
 use Rattle.group_run.specs.Replica.{Items}
 use Rattle.group_run.specs.World.{World, after, opening}
 use Rattle.group_eras.specs.Carry.{Parcel}
@@ -21,7 +20,7 @@ use Rattle.group_eras.proofs.Draining.{each-both, each-weak, shape-after}
 use Rattle.group_eras.proofs.Finding as finding
 use Rattle.group_eras.proofs.Readings.{IsLoad, parcel_for, some-loads}
 use Rattle.group_eras.proofs.Resting.{Rests}
-use Rattle.group_eras.proofs.Setup.{ComesNext, weight, weight-both, weight_if}
+use Rattle.group_eras.proofs.Setup.{weight, weight-both, weight_if}
 
 abbrev KeysApart : Load → Load → Type 0
 KeysApart x y = x.key ≢ y.key

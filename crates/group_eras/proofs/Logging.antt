@@ -1,12 +1,12 @@
 -- What an event logs is of its own call, or accepted; and who is accepted by a cas has a cas number above 0.
-use Rattle.std.proofs.Common.{ℕ, zero, suc, ◌≡◌, ◌≢◌, ◌<◌, ◌≤◌, ◌+◌, ◌==◌, Bool, true, false, List, [], ◌∷◌, ◌++◌, length, Option, Some, None, if◌then◌else◌, ◌⊎◌, inl, inr, refl, sym, ap, subst, ◌∙◌, arith}
+use Rattle.std.proofs.Common.{ℕ, zero, suc, ◌≡◌, ◌≤◌, ◌+◌, ◌==◌, Bool, true, false, List, [], ◌∷◌, length, Option, Some, None, if◌then◌else◌, ◌⊎◌, inl, inr, refl, sym, ap, subst, ◌∙◌, arith}
 use Rattle.std.specs.Prelude.{Contains}
 use Rattle.std.specs.List.{range_with_len}
 use Rattle.std.proofs.lemmas.Bool.{eqb-true}
 use Rattle.std.proofs.lemmas.List.Elements.{Contains-append_cases}
 use Rattle.memc_table.specs.Act.{key_of}
 use Rattle.memc_table.specs.Asked.{Asked}
-use Rattle.memc_table.specs.Contents.{Contents, after_ruling, count_of, empty_table, reply_in, reply_of, ruling_on, table_after}
+use Rattle.memc_table.specs.Contents.{Contents, after_ruling, count_of, reply_in, reply_of, ruling_on, table_after}
 use Rattle.memc_table.specs.Expiry.{live_at}
 use Rattle.memc_table.specs.Ruling.{ruling_of}
 use Rattle.memc_table.specs.declared.act.Act.{Act}
@@ -18,14 +18,13 @@ use Rattle.memc_table.specs.declared.ruling.Ruling.{Ruling}
 use Rattle.memc_table.specs.declared.ruling.Ruling.TheVariants.{Accepted, Refused}
 use Rattle.group_types.specs.Lists.{at, same_key}
 use Rattle.group_message.specs.declared.update.Update.{Update}
-use Rattle.group_calls.specs.Log.{IsLegalFrom, table_of}
-use Rattle.group_calls.specs.Turns.{CallName, accepts, entry_of, name_of}
+use Rattle.group_calls.specs.Log.{IsLegalFrom}
+use Rattle.group_calls.specs.Turns.{accepts, name_of}
 use Rattle.group_calls.specs.declared.entry.Entry.{Entry}
 use Rattle.group_calls.specs.declared.event.Answer.{Answer}
 use Rattle.group_calls.specs.declared.event.Answer.TheVariants as says
 use Rattle.group_calls.specs.declared.event.Event.{Event}
 use Rattle.group_run.specs.Applying.{Settlement}
-use Rattle.group_run.specs.Asking.{reply_from}
 use Rattle.group_run.specs.World.{Call, Ledger, Ticket, World, call_of, entries_for, entry_then, group_step, grown, ledger_after, ledger_with, logged_at_once, new_ones, op_in, refusal_logged, settled_in, step, tickets_after, update_name}
 use Rattle.law_moves.proofs.Reading.{grown-is}
 use Rattle.law_log.proofs.Entries.{accepted-from}

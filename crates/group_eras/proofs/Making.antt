@@ -1,5 +1,5 @@
 -- An era stays a run of its own when an event is made in it.
-use Rattle.std.proofs.Common.{ℕ, zero, suc, ◌≡◌, ◌≢◌, ◌<◌, ◌≤◌, ◌+◌, ◌-◌, ◌==◌, Bool, true, false, List, [], ◌∷◌, ◌++◌, length, map, take, Option, Some, None, if◌then◌else◌, ◌⊎◌, inl, inr, refl, sym, ap, ap₂, subst, ◌∙◌, arith}
+use Rattle.std.proofs.Common.{ℕ, suc, ◌≡◌, ◌<◌, ◌≤◌, Bool, true, false, List, [], ◌∷◌, ◌++◌, length, map, take, Some, if◌then◌else◌, ◌⊎◌, inl, inr, refl, sym, ap, subst, ◌∙◌, arith}
 use Rattle.std.specs.Prelude.{All, Contains, slice_get}
 use Rattle.std.proofs.lemmas.Option.{slice_get_within}
 use Rattle.std.proofs.lemmas.Bool.{cases_lt}
@@ -20,16 +20,16 @@ use Rattle.group_calls.specs.Within.{AnswersWithin, IsAsk}
 use Rattle.group_calls.specs.declared.entry.Entry.{Entry}
 use Rattle.group_calls.specs.declared.event.Event.{Event}
 use Rattle.group_calls.specs.declared.event.Event.TheVariants.{Ask, Collect, Deliver, Fail, Flush, Trace}
-use Rattle.group_run.specs.Headline.{Headline, IsRun, IsRunFrom, MayCome}
-use Rattle.group_run.specs.World.{Call, World, after, call_of, next_name, opening, same_call, step, turns_from, turns_of, world_after}
+use Rattle.group_run.specs.Headline.{Headline, IsRun, MayCome}
+use Rattle.group_run.specs.World.{Call, World, after, call_of, next_name, opening, same_call, step, turns_of}
 use Rattle.law_moves.proofs.Reading.{grown-is, some-same}
-use Rattle.law_log.specs.Book.{book_of, no_book}
+use Rattle.law_log.specs.Book.{no_book}
 use Rattle.law_log.proofs.Books.{book-turns, book-world}
-use Rattle.law_log.proofs.Entries.{call-eq, call-ne, call-refl}
+use Rattle.law_log.proofs.Entries.{call-ne, call-refl}
 use Rattle.law_log.proofs.Turnings.{asks_counted, get-last}
 use Rattle.law_headline.proofs.Headlines.{headline_always}
 use Rattle.law_answers.proofs.Entries.{after-more, run-more, turns-more}
-use Rattle.group_eras.specs.Eras.{EraEntry, Eras, era_step, logged_in_era, turn_in}
+use Rattle.group_eras.specs.Eras.{EraEntry, Eras, era_step, logged_in_era}
 use Rattle.group_eras.specs.Promise.{AreTold, IsAskOf, IsEra, IsTold, asks_among}
 use Rattle.group_eras.specs.Told.{Bases, event_in, op_in, op_out, told_entry, told_op, told_reply, with_base, with_cas, without_base}
 use Rattle.group_eras.proofs.Asking.{WasAsked, among-all, among-before, among-in, among-map, get-front, map-more, take-front, take-whole, turn-event, turns-asks, turns-long, was-asked}

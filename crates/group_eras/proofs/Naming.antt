@@ -1,27 +1,24 @@
 -- Entries of a run by the names of their calls: an entry has the op of the one ask of its name.
-use Rattle.std.proofs.Common.{ℕ, zero, suc, ◌≡◌, ◌≢◌, ◌<◌, ◌≤◌, ◌+◌, List, [], ◌∷◌, ◌++◌, length, take, Option, Some, None, ◌⊎◌, inl, inr, refl, sym, ap, subst, ◌∙◌, arith}
+use Rattle.std.proofs.Common.{ℕ, zero, suc, ◌≡◌, ◌<◌, ◌≤◌, ◌+◌, List, [], ◌∷◌, ◌++◌, length, take, Some, ◌⊎◌, inl, inr, refl, sym, ap, subst, ◌∙◌, arith}
 use Rattle.std.specs.Prelude.{Contains, slice_get}
 use Rattle.std.proofs.lemmas.Bool.{cases_lt}
-use Rattle.std.proofs.lemmas.List.{append_assoc, append-nil}
 use Rattle.std.proofs.lemmas.List.Elements.{Contains-append_cases, Contains-append_left}
-use Rattle.std.proofs.lemmas.Option.{slice_get_within}
 use Rattle.group_types.specs.Dimensions.{Dimensions}
 use Rattle.group_types.specs.Lists.{at}
 use Rattle.group_types.specs.declared.process.ProcessId.{ProcessId}
 use Rattle.memc_table.specs.Asked.{Asked}
-use Rattle.group_calls.specs.Turns.{CallName, Turn, asks_in, asks_of, log_of, name_of}
+use Rattle.group_calls.specs.Turns.{CallName, Turn, log_of, name_of}
 use Rattle.group_calls.specs.Within.{IsAsk}
 use Rattle.group_calls.specs.declared.entry.Entry.{Entry}
 use Rattle.group_calls.specs.declared.event.Event.{Event}
 use Rattle.group_calls.specs.declared.event.Event.TheVariants.{Ask, Collect, Deliver, Fail, Flush, Trace}
-use Rattle.group_run.specs.Headline.{IsRun, IsRunFrom}
-use Rattle.group_run.specs.World.{World, after, opening, step, turns_from, turns_of, world_after}
+use Rattle.group_run.specs.Headline.{IsRun}
+use Rattle.group_run.specs.World.{World, after, opening, step, turns_of, world_after}
 use Rattle.law_moves.proofs.Reading.{grown-is, some-same}
 use Rattle.law_log.proofs.Turnings.{asks-self}
 use Rattle.law_headline.proofs.Headlines.{headline_always}
 use Rattle.group_eras.specs.Promise.{asks_among}
-use Rattle.group_eras.proofs.Asking.{among-before, get-front, take-front, take-whole, turn-event, turns-asks}
-use Rattle.group_eras.proofs.Draining.{after-both}
+use Rattle.group_eras.proofs.Asking.{among-before, get-front, take-front, turn-event, turns-asks}
 use Rattle.group_eras.proofs.Making.{asked-among}
 
 -- an entry of the log is one that a turn logged

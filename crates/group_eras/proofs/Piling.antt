@@ -1,5 +1,5 @@
 -- Items that lie one upon another from the bottom of a space: the next value gets the run on top of them.
-use Rattle.std.proofs.Common.{ℕ, zero, suc, ◌≡◌, ◌≢◌, ◌<◌, ◌≤◌, ◌+◌, ◌-◌, nat_lt, Bool, true, false, not, ◌&&◌, ◌||◌, cond, List, [], ◌∷◌, ◌++◌, length, Option, Some, None, if◌then◌else◌, ◌⊎◌, inl, inr, refl, sym, ap, ap₂, subst, ◌∙◌, arith}
+use Rattle.std.proofs.Common.{ℕ, zero, suc, ◌≡◌, ◌<◌, ◌≤◌, ◌+◌, ◌-◌, nat_lt, Bool, true, false, not, ◌&&◌, ◌||◌, cond, List, [], ◌∷◌, Option, Some, None, ◌⊎◌, inl, inr, refl, ap, ap₂, ◌∙◌, arith}
 use Rattle.std.specs.List.{list_any}
 use Rattle.std.proofs.lemmas.Bool.{cases_lt}
 use Rattle.std.proofs.lemmas.Grind.{common_steps}
@@ -14,7 +14,7 @@ use Rattle.group_types.specs.Lists.{same_key}
 use Rattle.group_types.specs.declared.run.Run.{Run}
 use Rattle.item_index.specs.declared.slot.Slot.{Slot}
 use Rattle.group_message.specs.declared.update.Update.{Update}
-use Rattle.run_alloc.specs.Free.{IsFreeRun, IsPlace, NoPlace}
+use Rattle.run_alloc.specs.Free.{IsFreeRun, NoPlace}
 use Rattle.group_run.specs.Free.{in_run, is_free, place_for}
 use Rattle.group_run.specs.Replica.{Items, Replica, run_in, slot_in, with_slot}
 use Rattle.law_updates.specs.Placing.{IsPlaced}

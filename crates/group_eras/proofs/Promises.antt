@@ -1,6 +1,5 @@
 -- What is promised over eras, whatever happens.
-use Rattle.std.proofs.Common.{ℕ, List, [], ◌∷◌}
-use Rattle.group_types.specs.Dimensions.{Dimensions}
+use Rattle.std.proofs.Common.{List, [], ◌∷◌}
 use Rattle.group_run.specs.World.{opening}
 use Rattle.group_eras.specs.Eras.{Eras, first_era}
 use Rattle.group_eras.specs.Promise.{Begins, Carries, CarriesKeep, Deed, ErasAreRuns, Makes, MayAllBeDone, MayBeDone, all_done, done}

@@ -1,5 +1,5 @@
 -- All items of a group at rest are read, one after the other, and nothing more is settled.
-use Rattle.std.proofs.Common.{ℕ, zero, suc, ◌≡◌, ◌≢◌, ◌<◌, ◌≤◌, ◌+◌, Bool, true, false, cond, List, [], ◌∷◌, ◌++◌, length, map, Option, Some, None, refl, sym, ap, ap₂, subst, ◌∙◌, arith}
+use Rattle.std.proofs.Common.{ℕ, zero, suc, ◌≡◌, ◌<◌, ◌≤◌, ◌+◌, Bool, true, false, cond, List, [], ◌∷◌, ◌++◌, map, Some, refl, sym, ap, ap₂, subst, ◌∙◌, arith}
 use Rattle.std.specs.Prelude.{Contains, filter}
 use Rattle.std.specs.List.{range_with_len}
 use Rattle.std.proofs.lemmas.List.{append_assoc, append-nil}
@@ -11,7 +11,6 @@ use Rattle.item_index.specs.declared.slot.Slot.{Slot}
 use Rattle.memc_table.specs.Expiry.{is_live}
 use Rattle.memc_table.specs.declared.act.Act.TheVariants.{Get}
 use Rattle.memc_table.specs.declared.holding.Holding.{Holding}
-use Rattle.group_calls.specs.declared.event.Answer.{Answer}
 use Rattle.group_calls.specs.declared.event.Event.{Event}
 use Rattle.group_calls.specs.declared.event.Event.TheVariants.{Ask}
 use Rattle.erasure_code.specs.Spaces.{bytes_at}
@@ -20,9 +19,9 @@ use Rattle.group_run.specs.Meaning.{Heads}
 use Rattle.group_run.specs.Replica.{Items}
 use Rattle.group_run.specs.World.{World, after, opening, step}
 use Rattle.law_updates.specs.Store.{store_after}
-use Rattle.group_eras.specs.Carry.{Getting, Parcel, Reading, get_with, got, parcel_of, read_all, read_before, reading}
+use Rattle.group_eras.specs.Carry.{Getting, Parcel, Reading, get_with, got, parcel_of, read_all, reading}
 use Rattle.group_eras.specs.Eras.{carrier}
-use Rattle.group_eras.specs.Items.{Load, head_of, load_from, loads, loads_in, loads_of, settled_items}
+use Rattle.group_eras.specs.Items.{Load, load_from, loads, loads_in, loads_of, settled_items}
 use Rattle.group_eras.proofs.Draining.{each-both, shape-after}
 use Rattle.group_eras.proofs.Finding as finding
 use Rattle.group_eras.proofs.Resting.{IsStill, Rests, same-items, settled_of, still-settled, table_after_run}

@@ -1,5 +1,5 @@
 -- A group at rest: while only gets are asked nothing more is settled.
-use Rattle.std.proofs.Common.{ℕ, zero, suc, ◌≡◌, ◌≢◌, ◌<◌, ◌≤◌, ◌+◌, Bool, true, false, List, [], ◌∷◌, ◌++◌, length, take, Option, Some, None, ◌⊎◌, inl, inr, refl, sym, ap, subst, ◌∙◌, arith}
+use Rattle.std.proofs.Common.{ℕ, ◌≡◌, ◌<◌, ◌+◌, true, false, List, [], ◌∷◌, ◌++◌, length, Option, Some, None, refl, sym, ap, subst, ◌∙◌, arith}
 use Rattle.std.specs.Prelude.{slice_index}
 use Rattle.std.proofs.lemmas.List.{append_assoc, append-nil, take_all}
 use Rattle.group_types.specs.Dimensions.{Dimensions, space_of}
@@ -21,8 +21,6 @@ use Rattle.memc_table.specs.declared.ruling.Ruling.{Ruling}
 use Rattle.memc_table.specs.declared.ruling.Ruling.TheVariants.{Accepted, Refused}
 use Rattle.item_index.specs.declared.slot.Slot.{Slot}
 use Rattle.group_types.specs.declared.run.Run.{Run}
-use Rattle.group_message.specs.declared.update.Body.{Body}
-use Rattle.group_message.specs.declared.update.Outcome.{Outcome}
 use Rattle.group_message.specs.declared.update.Update.{Update}
 use Rattle.group_calls.specs.Log.{table_of}
 use Rattle.group_calls.specs.Turns.{CallName}
@@ -33,7 +31,7 @@ use Rattle.group_calls.specs.declared.event.Event.TheVariants.{Ask, Collect, Del
 use Rattle.group_run.specs.Applying.{head_at, replica_of}
 use Rattle.group_run.specs.Asking.{found_at}
 use Rattle.group_run.specs.Deciding.{Bytes, Found, Missing, blind_reply, decide, decide_blind, decide_found, decide_ruled, decide_waiting, item_found, length_of, run_needed, ruling_with, unseen, waits_for}
-use Rattle.group_run.specs.Headline.{IsRun, IsRunFrom, MayCome}
+use Rattle.group_run.specs.Headline.{IsRun, MayCome}
 use Rattle.group_run.specs.History.{History, history, prolonged}
 use Rattle.group_run.specs.Meaning.{HasTakenOver, Heads, IsDown, IsDrained, is_dead, process_of}
 use Rattle.group_run.specs.Process.{Head}
@@ -53,7 +51,7 @@ use Rattle.law_histories.proofs.Quiet.{finished_always}
 use Rattle.law_histories.proofs.Told.{Told}
 use Rattle.law_histories.proofs.ToldKeeping.{Reached}
 use Rattle.law_updates.specs.Store.{held, store_after}
-use Rattle.law_log.specs.Book.{Book, book_of, booked, no_book}
+use Rattle.law_log.specs.Book.{Book, book_of, no_book}
 use Rattle.law_log.proofs.Books.{book-append, book-framed, book-history, book-shape, book-world, run-push}
 use Rattle.law_log.proofs.Logging.{LogsOf, logs_always}
 use Rattle.law_log.proofs.Tables.{home-below}
@@ -158,10 +156,13 @@ module _ (s : Dimensions) where
       (subst IsDrained (sym world) rests.drained) headed (subst IsFinished (sym world) (finished_always s es rests.run rests.drained)) d low in
       let whole = history-heads h (subst (λ (t : Dimensions). Reached t (state_of h)) (sym shape) both.0) (subst (λ (t : Dimensions). Told t (state_of h)) (sym shape) both.1)
       (subst IsDrained (sym world) rests.drained) headed (subst IsFinished (sym world) (finished_always s es rests.run rests.drained)) d low in
-      let r : ℕ = (headed d low).0 in
-      (r, subst (λ (w : World). Heads w d r) world (headed d low).1, subst (λ (w : World). HasTakenOver w d r) world (headed d low).2,
-          subst (λ (w : World). (replica_of (process_of w (of_rank d r)) d).items ≡ items_after [] (settled_of s es d)) world items,
-          subst (λ (w : World). history (settled_of s es d) (replica_of (process_of w (of_rank d r)) d) ≡ settled_of s es d) world whole)
+      let r : ℕ = (headed d low).0 in (
+        r,
+        subst (λ (w : World). Heads w d r) world (headed d low).1,
+        subst (λ (w : World). HasTakenOver w d r) world (headed d low).2,
+        subst (λ (w : World). (replica_of (process_of w (of_rank d r)) d).items ≡ items_after [] (settled_of s es d)) world items,
+        subst (λ (w : World). history (settled_of s es d) (replica_of (process_of w (of_rank d r)) d) ≡ settled_of s es d) world whole,
+      )
 
   pub rests-upto : (es : List Event) → Rests s es → AllUpto (settled_of s es) s (state_at s es)
   rests-upto es rests =

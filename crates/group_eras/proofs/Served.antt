@@ -1,23 +1,23 @@
 -- The set of a fresh key, in a group at rest of which no process is dead, is issued, and settled once the group is
 -- drained.
-use Rattle.std.proofs.Common.{ℕ, ℤ, zero, suc, ◌≡◌, ◌≢◌, ◌<◌, ◌≤◌, ◌+◌, Bool, true, false, List, [], ◌∷◌, ◌++◌, length, Option, Some, None, if◌then◌else◌, ◌⊎◌, inl, inr, refl, sym, ap, subst, ◌∙◌, arith}
+use Rattle.std.proofs.Common.{ℕ, ℤ, zero, suc, ◌≡◌, ◌<◌, ◌≤◌, ◌+◌, Bool, false, List, [], ◌∷◌, ◌++◌, length, Option, Some, None, if◌then◌else◌, ◌⊎◌, inl, inr, refl, sym, ap, subst, ◌∙◌, arith}
 use Rattle.std.specs.Prelude.{All, Contains, slice_get, take}
 use Rattle.std.proofs.lemmas.List.{append_assoc, append-nil}
 use Rattle.std.proofs.lemmas.List.Elements.{Contains-append_right}
 use Rattle.group_types.specs.Dimensions.{Dimensions, space_of}
 use Rattle.group_types.specs.Each.{Each}
 use Rattle.group_types.specs.Hash.{home_of}
-use Rattle.group_types.specs.Lists.{at, same_key}
+use Rattle.group_types.specs.Lists.{at}
 use Rattle.group_types.specs.Names.{IsProcess, of_rank}
 use Rattle.group_types.specs.declared.process.ProcessId.{ProcessId}
-use Rattle.group_types.specs.declared.process.ProcessId.TheVariants.{DataNode, ParityNode}
+use Rattle.group_types.specs.declared.process.ProcessId.TheVariants.{DataNode}
 use Rattle.memc_table.specs.Asked.{Asked}
-use Rattle.memc_table.specs.Contents.{count_of, reply_of, table_after}
+use Rattle.memc_table.specs.Contents.{count_of}
 use Rattle.memc_table.specs.Expiry.{until_of}
 use Rattle.memc_table.specs.declared.holding.Holding.{Holding}
 use Rattle.memc_table.specs.declared.reply.Reply.TheVariants as reply
 use Rattle.group_message.specs.declared.update.Update.{Update}
-use Rattle.group_calls.specs.Turns.{CallName, Turn, accepts, asks_of, entry_of, name_of}
+use Rattle.group_calls.specs.Turns.{CallName, Turn, asks_of, entry_of}
 use Rattle.group_calls.specs.Within.{IsAsk}
 use Rattle.group_calls.specs.declared.entry.Entry.{Entry}
 use Rattle.group_calls.specs.declared.event.Answer.{Answer}
@@ -30,17 +30,16 @@ use Rattle.group_run.specs.Applying.{head_at, held_at, replica_of}
 use Rattle.group_run.specs.Causes.{AskCause, FindsNoRun, IsReady, home_in, replica_for, table_now}
 use Rattle.group_run.specs.Free.{is_free}
 use Rattle.group_run.specs.Headline.{IsRun, IsRunFrom, MayCome}
-use Rattle.group_run.specs.History.{History, history}
-use Rattle.group_run.specs.Meaning.{Heads, IsDown, is_dead, link, process_of}
+use Rattle.group_run.specs.History.{history}
+use Rattle.group_run.specs.Meaning.{Heads, IsDown, is_dead, process_of}
 use Rattle.group_run.specs.Process.{Head, Held}
 use Rattle.group_run.specs.Replica.{items_after}
-use Rattle.group_run.specs.World.{World, after, next_name, opening, step, turns_of, update_name, world_after}
-use Rattle.law_moves.specs.State.{State, state_of}
-use Rattle.law_moves.proofs.Reading.{grown-is, some-same}
+use Rattle.group_run.specs.World.{World, after, next_name, opening, step, turns_of, update_name}
+use Rattle.law_moves.proofs.Reading.{grown-is}
 use Rattle.law_histories.proofs.Quiet.{asked_always, finished_always}
 use Rattle.law_updates.proofs.Keys.{key-refl}
-use Rattle.law_log.specs.Book.{book_of, no_book}
-use Rattle.law_log.proofs.Books.{book-history, book-world}
+use Rattle.law_log.specs.Book.{book_of}
+use Rattle.law_log.proofs.Books.{book-world}
 use Rattle.law_log.proofs.Calls.{each-contained}
 use Rattle.law_log.proofs.Held.{held-book}
 use Rattle.law_log.proofs.HeldWords.{HeldStand, IsHeldOf}
@@ -56,7 +55,7 @@ use Rattle.law_progress.specs.Ends.{IsDelivery}
 use Rattle.group_eras.specs.Carry.{draining}
 use Rattle.group_eras.specs.Eras.{carrier}
 use Rattle.group_eras.proofs.Draining.{Delivers, NoFailure, after-is, dead-after, dead-still, delivers, delivery-still, drained-rests, each-weak, more-run, more-up, shape-after, still-none}
-use Rattle.group_eras.proofs.Issues.{IsReadyAt, fresh-slot}
+use Rattle.group_eras.proofs.Issues.{IsReadyAt}
 use Rattle.group_eras.proofs.Making.{asked-among}
 use Rattle.group_eras.proofs.Asking.{among-all, take-front, take-whole, turns-long}
 use Rattle.group_eras.proofs.Naming.{log-grows}
@@ -272,14 +271,14 @@ module _ (s : Dimensions) (es : List Event) (rests : Rests s es) (live : AllLive
         = ap (λ (turns : List Turn). slice_get turns (length es)) turns-are ∙ ap (slice_get (turns_of s es ++ (step w put_event).turn ∷ [])) (sym (turns-long (opening s) es)) ∙ get-last (turns_of s es) (step w put_event).turn in
         let within = (headline_always s after_put run-put).one_log.within in
         let ask : IsAsk (turns_of s after_put) (length es) (step w put_event).turn put_name op = record {
-              there = last;
-              at = DataNode d;
-              event = refl;
-              place = ap (λ (turns : List Turn). asks_of carrier (take (length es) turns)) turns-are
-                  ∙ ap (asks_of carrier) (take-front (turns_of s es) ((step w put_event).turn ∷ []) (length es) (let long = turns-long (opening s) es in omega (arith, long)))
-                  ∙ ap (asks_of carrier) (take-whole (turns_of s es) (length es) (let long = turns-long (opening s) es in omega (arith, long)))
-                  ∙ among-all carrier (opening s) es ∙ sym (asked-among s es rests.run carrier);
-            } in
+          there = last;
+          at = DataNode d;
+          event = refl;
+          place = ap (λ (turns : List Turn). asks_of carrier (take (length es) turns)) turns-are
+              ∙ ap (asks_of carrier) (take-front (turns_of s es) ((step w put_event).turn ∷ []) (length es) (let long = turns-long (opening s) es in omega (arith, long)))
+              ∙ ap (asks_of carrier) (take-whole (turns_of s es) (length es) (let long = turns-long (opening s) es in omega (arith, long)))
+              ∙ among-all carrier (opening s) es ∙ sym (asked-among s es rests.run carrier);
+        } in
         let logged : Contains (step w put_event).turn.logged (entry_of put_name op reply.Stored) = within.at_once (length es) (step w put_event).turn put_name op reply.Stored ask is in
         let in-log : Contains (step w put_event).world.log (entry_of put_name op reply.Stored)
         = subst (λ (log : List Entry). Contains log (entry_of put_name op reply.Stored)) (sym (grown-is w.log (step w put_event).turn.logged)) (Contains-append_right w.log (step w put_event).turn.logged (entry_of put_name op reply.Stored) logged) in

@@ -1,27 +1,23 @@
 -- All parcels are set in a fresh group, one after the other.
-use Rattle.std.proofs.Common.{ℕ, ℤ, zero, suc, ◌≡◌, ◌≢◌, ◌<◌, ◌≤◌, ◌+◌, ◌==◌, Bool, true, false, List, [], ◌∷◌, ◌++◌, length, map, replicate, Option, Some, None, ◌⊎◌, inl, inr, refl, sym, ap, subst, ◌∙◌, arith}
-use Rattle.std.specs.Prelude.{All, Contains, take, drop}
-use Rattle.std.proofs.lemmas.Bool.{cases_eq, eq-eqb}
+use Rattle.std.proofs.Common.{ℕ, ◌≡◌, ◌≢◌, ◌<◌, ◌≤◌, ◌+◌, ◌==◌, Bool, List, [], ◌∷◌, ◌++◌, length, refl, sym, ap, subst, ◌∙◌, arith}
+use Rattle.std.specs.Prelude.{All, Contains}
+use Rattle.std.proofs.lemmas.Bool.{eq-eqb}
 use Rattle.std.proofs.lemmas.List.{append_assoc, append-nil}
 use Rattle.group_types.specs.Dimensions.{Dimensions, space_of}
 use Rattle.group_types.specs.Each.{Each, EachTwo}
 use Rattle.group_types.specs.Hash.{home_of}
 use Rattle.group_types.specs.Lists.{at}
-use Rattle.group_types.specs.Names.{IsProcess, index_of, process_at}
+use Rattle.group_types.specs.Names.{index_of, process_at}
 use Rattle.group_types.specs.Shape.{IsShape}
-use Rattle.group_types.specs.declared.process.ProcessId.{ProcessId}
 use Rattle.group_types.proofs.Lists.{at-replicate}
 use Rattle.group_types.proofs.Names.{process_at-index}
-use Rattle.group_message.specs.declared.message.Message.{Message}
 use Rattle.group_message.specs.declared.update.Update.{Update}
 use Rattle.group_calls.specs.declared.event.Event.{Event}
 use Rattle.group_calls.specs.declared.event.Event.TheVariants.{Ask, Collect, Deliver, Fail, Flush, Trace}
-use Rattle.memc_table.specs.declared.act.Act.TheVariants.{Set}
-use Rattle.group_run.specs.Headline.{IsRun, IsRunFrom}
-use Rattle.group_run.specs.Meaning.{IsDown, IsDrained, is_dead, link}
+use Rattle.group_run.specs.Meaning.{IsDrained}
 use Rattle.group_run.specs.Process.{Node}
 use Rattle.group_run.specs.Replica.{items_after}
-use Rattle.group_run.specs.World.{World, after, opening, opening_node, step, world_after}
+use Rattle.group_run.specs.World.{World, after, opening, opening_node, step}
 use Rattle.law_moves.proofs.Reading.{at-indices}
 use Rattle.law_progress.specs.Ends.{IsDelivery}
 use Rattle.group_layout.proofs.Deaths.{none-dead, none-dead-at}

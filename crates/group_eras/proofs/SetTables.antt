@@ -1,11 +1,11 @@
 -- The table that a log of sets leaves.
-use Rattle.std.proofs.Common.{ℕ, zero, suc, ◌≡◌, ◌≢◌, ◌<◌, ◌≤◌, ◌+◌, Bool, true, false, List, [], ◌∷◌, ◌++◌, length, Option, Some, None, is_some, if◌then◌else◌, ◌⊎◌, inl, inr, refl, sym, ap, subst, ◌∙◌, arith}
+use Rattle.std.proofs.Common.{ℕ, zero, suc, ◌≡◌, ◌≤◌, ◌+◌, Bool, true, false, List, [], ◌∷◌, Option, Some, None, is_some, if◌then◌else◌, refl, sym, ap, subst, ◌∙◌, arith}
 use Rattle.std.specs.Prelude.{Contains, slice_get}
 use Rattle.group_types.specs.Dimensions.{Dimensions}
 use Rattle.group_types.specs.Each.{Each, EachTwo}
 use Rattle.group_types.specs.Lists.{same_key}
 use Rattle.memc_table.specs.Asked.{Asked}
-use Rattle.memc_table.specs.Contents.{Contents, count_of, empty_table, table_after}
+use Rattle.memc_table.specs.Contents.{Contents, count_of, table_after}
 use Rattle.memc_table.specs.Expiry.{until_of}
 use Rattle.memc_table.specs.declared.holding.Holding.{Holding}
 use Rattle.group_calls.specs.Log.{table_of}

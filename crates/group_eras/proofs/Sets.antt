@@ -1,5 +1,5 @@
 -- What a head decides of the set of a key that has no item: it puts the value.
-use Rattle.std.proofs.Common.{ℕ, ℤ, suc, ◌≡◌, nat_le, Bool, true, false, List, [], ◌∷◌, length, Option, Some, None, refl, sym, ap, ◌∙◌}
+use Rattle.std.proofs.Common.{ℕ, ℤ, suc, ◌≡◌, nat_le, false, List, [], length, Option, Some, None, ap, ◌∙◌}
 use Rattle.field_byte.specs.Vectors.{add_bytes}
 use Rattle.group_types.specs.declared.run.Run.{Run}
 use Rattle.item_index.specs.declared.slot.Slot.{Slot}
@@ -11,7 +11,6 @@ use Rattle.group_message.specs.declared.update.Body.{Body}
 use Rattle.group_message.specs.declared.update.Body.TheVariants.{Put}
 use Rattle.group_message.specs.declared.update.Outcome.TheVariants as ends
 use Rattle.group_message.specs.declared.update.Update.{Update}
-use Rattle.group_calls.specs.declared.decision.Decision.{Decision}
 use Rattle.group_calls.specs.declared.decision.Decision.TheVariants as decides
 use Rattle.group_run.specs.Deciding.{Bytes, Found, decide, decide_accepted, decide_blind, decide_left, decide_placed, decide_waiting, decide_written, blind_reply, length_of, ruling_with, unseen, waits_for, window}
 use Rattle.group_run.specs.Free.{place_for}

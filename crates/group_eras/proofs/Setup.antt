@@ -1,5 +1,5 @@
 -- A fresh group that is set up: the items of which it was asked lie one upon another, and all are settled.
-use Rattle.std.proofs.Common.{ℕ, ℤ, zero, suc, ◌≡◌, ◌≢◌, ◌<◌, ◌≤◌, ◌+◌, ◌==◌, Bool, true, false, List, [], ◌∷◌, ◌++◌, length, take, Option, Some, None, if◌then◌else◌, ◌⊎◌, inl, inr, refl, sym, ap, ap₂, subst, ◌∙◌, arith}
+use Rattle.std.proofs.Common.{ℕ, ◌≡◌, ◌≢◌, ◌<◌, ◌≤◌, ◌+◌, ◌==◌, Bool, true, false, List, [], ◌∷◌, ◌++◌, length, if◌then◌else◌, ◌⊎◌, inl, inr, refl, sym, ap, subst, ◌∙◌, arith}
 use Rattle.std.specs.Prelude.{All, Contains}
 use Rattle.std.proofs.lemmas.Bool.{cases_eq, cases_lt, eq-eqb, ne_eqb}
 use Rattle.std.proofs.lemmas.List.{append_assoc, append-nil, length-append, take_all, take-append-le}
@@ -7,19 +7,18 @@ use Rattle.group_types.specs.Dimensions.{Dimensions, space_of}
 use Rattle.group_types.specs.Each.{Each}
 use Rattle.group_types.specs.Hash.{home_of}
 use Rattle.group_types.specs.Lists.{at}
-use Rattle.group_types.specs.Names.{IsProcess}
 use Rattle.group_types.specs.Shape.{IsShape}
 use Rattle.group_types.specs.declared.process.ProcessId.TheVariants.{DataNode}
 use Rattle.memc_table.specs.Asked.{Asked}
 use Rattle.group_message.specs.declared.update.Update.{Update}
-use Rattle.group_calls.specs.Turns.{CallName, name_of}
+use Rattle.group_calls.specs.Turns.{CallName}
 use Rattle.group_calls.specs.declared.entry.Entry.{Entry}
 use Rattle.group_calls.specs.declared.event.Event.{Event}
 use Rattle.group_run.specs.Headline.{IsRun, MayCome}
 use Rattle.group_run.specs.History.{History, prolonged}
-use Rattle.group_run.specs.Meaning.{is_dead, process_of}
+use Rattle.group_run.specs.Meaning.{process_of}
 use Rattle.group_run.specs.Replica.{items_after}
-use Rattle.group_run.specs.World.{World, after, next_name, opening, step, update_name, world_after}
+use Rattle.group_run.specs.World.{World, after, next_name, step}
 use Rattle.law_moves.specs.State.{State, state_of}
 use Rattle.law_histories.proofs.Issuing.{IssuesIn}
 use Rattle.law_histories.proofs.LaneWords.{Prolongs}
@@ -28,7 +27,7 @@ use Rattle.law_histories.proofs.Weaker.{reach-weaker}
 use Rattle.law_updates.specs.Store.{no_store}
 use Rattle.law_updates.proofs.Histories.{steps-each}
 use Rattle.law_updates.proofs.Steps.{no_store-fits}
-use Rattle.law_log.specs.Book.{Book, book_of, booked, no_book}
+use Rattle.law_log.specs.Book.{Book, book_of, no_book}
 use Rattle.law_log.proofs.Books.{book-append, book-framed, book-shape, book-world}
 use Rattle.law_log.proofs.Calls.{asked_always, each-contained}
 use Rattle.law_log.proofs.Ties.{HasEntry}
@@ -37,7 +36,7 @@ use Rattle.law_headline.proofs.Promises.{stands-always}
 use Rattle.law_progress.specs.Ends.{IsDelivery}
 use Rattle.group_eras.specs.Carry.{Parcel, draining, expiry_of, set_of}
 use Rattle.group_eras.specs.Eras.{carrier}
-use Rattle.group_eras.proofs.Draining.{after-is, delivery-still, each-both, each-weak, shape-after}
+use Rattle.group_eras.proofs.Draining.{after-is, delivery-still, each-both, each-weak}
 use Rattle.group_eras.proofs.Fronts.{AllUpto, Upto, upto-ask}
 use Rattle.group_eras.proofs.Issues as issues
 use Rattle.group_eras.proofs.Issues.{IsReadyAt}

@@ -1,7 +1,7 @@
 -- A get that is asked again after each wait is answered in the end: there are no more waits than blocks.
-use Rattle.std.proofs.Common.{ℕ, zero, suc, ◌≡◌, ◌≢◌, ◌<◌, ◌≤◌, ◌+◌, Bool, true, false, List, [], ◌∷◌, ◌++◌, length, Option, Some, None, if◌then◌else◌, ◌⊎◌, inl, inr, refl, sym, ap, subst, ◌∙◌, arith}
+use Rattle.std.proofs.Common.{ℕ, zero, suc, ◌≡◌, ◌<◌, ◌≤◌, ◌+◌, Bool, true, List, [], ◌∷◌, ◌++◌, Some, if◌then◌else◌, refl, sym, ap, subst, ◌∙◌, arith}
 use Rattle.std.proofs.lemmas.List.{append_assoc, append-nil}
-use Rattle.std.proofs.lemmas.List.Sums.{sum_by-append, sum_by-cons}
+use Rattle.std.proofs.lemmas.List.Sums.{sum_by-cons}
 use Rattle.group_types.specs.Dimensions.{Dimensions}
 use Rattle.group_types.specs.Each.{Each}
 use Rattle.group_types.specs.Hash.{home_of}
@@ -20,13 +20,13 @@ use Rattle.group_calls.specs.declared.event.Event.TheVariants.{Ask, Collect, Del
 use Rattle.group_run.specs.Headline.{IsRun, IsRunFrom, MayCome}
 use Rattle.group_run.specs.Meaning.{Heads, IsDown, IsDrained, is_dead}
 use Rattle.group_run.specs.Progress.{AskedDrained, AsksDrained, IsNoFailure, block_waits, waits_here}
-use Rattle.group_run.specs.World.{World, WorldStep, after, opening, step, turns_from, world_after}
-use Rattle.law_answers.proofs.Entries.{after-more, run-more, turns-more}
+use Rattle.group_run.specs.World.{World, after, opening, step, turns_from, world_after}
+use Rattle.law_answers.proofs.Entries.{after-more, run-more}
 use Rattle.law_progress.specs.Ends.{IsDelivery}
 use Rattle.law_progress.proofs.Waits.{few_waits_always}
 use Rattle.group_eras.specs.Carry.{Getting, drained, draining, get_with, got_behind, is_retry, only_got}
 use Rattle.group_eras.specs.Eras.{carrier}
-use Rattle.group_eras.proofs.Draining.{NoFailure, after-both, after-is, dead-after, delivers, delivery-still, drain-still, drained-rests, each-both, each-weak, more-run, more-up, shape-after, still-none}
+use Rattle.group_eras.proofs.Draining.{NoFailure, after-is, dead-after, delivers, delivery-still, drained-rests, each-both, each-weak, more-run, more-up, shape-after, still-none}
 use Rattle.group_eras.proofs.Getting as getting
 use Rattle.group_eras.proofs.Getting.{get_op}
 use Rattle.group_eras.proofs.Resting.{IsStill, Rests, same-items, still-settled, table_after_run}
