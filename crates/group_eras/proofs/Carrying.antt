@@ -109,7 +109,7 @@ until-back : (until : Option ℕ) → is_live 0 until ≡ true → until_of (exp
 until-back None live = refl
 until-back (Some u) live = by (u == 0) refl (nat_le u longest_offset) where
   by : (b : Bool) → (u == 0) ≡ b → (c : Bool) → (if b then None else (if c then Some (0 + u) else Some u)) ≡ Some u
-  by true is c = absurd (let none : u ≡ 0 = grind (arith, common_steps) in cc (live, ap (λ (n : ℕ). nat_lt 0 n) none))
+  by true is c = absurd (let none : u ≡ 0 = grind (arith, common_steps) in cc (live, none))
   by false is true = ap Some (omega arith)
   by false is false = refl
 

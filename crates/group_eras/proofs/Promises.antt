@@ -1,8 +1,8 @@
 -- What is promised over eras, whatever happens.
-use Rattle.std.proofs.Common.{List, [], ◌∷◌}
+use Rattle.std.proofs.Common.{List, [], ◌∷◌, sym, subst}
 use Rattle.group_run.specs.World.{opening}
 use Rattle.group_eras.specs.Eras.{Eras, first_era}
-use Rattle.group_eras.specs.Promise.{Begins, Carries, CarriesKeep, Deed, ErasAreRuns, Makes, MayAllBeDone, MayBeDone, all_done, done}
+use Rattle.group_eras.specs.Promise.{Begins, Carries, CarriesKeep, Deed, ErasAreRuns, IsLed, Makes, MayAllBeDone, MayBeDone, all_done, done}
 use Rattle.group_eras.proofs.Carrying.{begun-stands, carried-stands, has-carried}
 use Rattle.group_eras.proofs.Standing.{Stands, has-promise, stands-first, stands-next}
 
@@ -15,9 +15,11 @@ pub all-stand : (e : Eras) (deeds : List Deed) → Stands e → MayAllBeDone e d
 all-stand e [] stands may = stands
 all-stand e (deed ∷ deeds) stands may = all-stand (done e deed) deeds (deed-stands e deed stands may.0) may.1
 
+pub led-stands : (e : Eras) → IsLed e → Stands e
+led-stands e led = subst Stands (sym led.is) (all-stand (first_era (opening led.s)) led.deeds (stands-first led.s led.limits) led.may)
+
 pub eras_are_runs : ErasAreRuns
-eras_are_runs s deeds shaped may = has-promise (all_done (first_era (opening s)) deeds) (all-stand (first_era (opening s)) deeds (stands-first s shaped) may)
+eras_are_runs e led = has-promise e (led-stands e led)
 
 pub carries_keep : CarriesKeep
-carries_keep s next deeds shaped may successor can =
-    has-carried (all_done (first_era (opening s)) deeds) (all-stand (first_era (opening s)) deeds (stands-first s shaped) may) can.rest next successor can
+carries_keep e s led successor can = has-carried e (led-stands e led) can.rest s successor can

@@ -2,7 +2,6 @@ ghost use Rattle.group_eras.specs.Promise.{CarriesKeep, ErasAreRuns};
 
 /// Whatever happens over eras, the log of all is legal, and the current era is a run of its own, with the whole
 /// headline, whose log is told from the bases.
-#[tactic(auto, using(crate::proofs::Promises::eras_are_runs))]
 pub fn eras_are_runs()
     ensures { ErasAreRuns }
 {}
