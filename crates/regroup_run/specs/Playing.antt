@@ -1,13 +1,12 @@
 -- What a line of a script over eras makes of them, and what is written for it.
-use Rattle.std.specs.Prelude.{ℕ, nat_lt, Bool, true, false, List, [], ◌∷◌, ◌++◌, codes, drop, find, length, map, Option, Some, None, Result, Ok, Err, option_map, if◌then◌else◌}
+use Rattle.std.specs.Prelude.{ℕ, nat_lt, nat_le, Bool, false, List, [], ◌∷◌, ◌++◌, codes, drop, length, map, Option, Some, None, Result, Ok, Err, option_map, if◌then◌else◌}
 use Rattle.std.specs.Fmt.{decimal}
-use Rattle.std.specs.List.{range_with_len}
+use Rattle.std.specs.List.{list_all, range_with_len}
 use Rattle.std.specs.Option.{is_some}
 use Rattle.group_types.specs.Dimensions.{Dimensions, space_of}
 use Rattle.group_types.specs.Lists.{at}
 use Rattle.group_types.specs.declared.process.ProcessId.{ProcessId}
 use Rattle.group_types.specs.declared.run.Run.{Run}
-use Rattle.group_calls.specs.declared.event.Answer.{Answer}
 use Rattle.group_calls.specs.declared.event.Event.{Event}
 use Rattle.group_calls.specs.declared.event.Event.TheVariants as happens
 use Rattle.group_run.specs.Draining.{next_delivery}
@@ -81,16 +80,16 @@ by_carry p s = Goes (Some (record { eras = carried p.eras s; moment = p.moment }
 abbrev pub refuses : EraPlay → List ℕ → EraNext
 refuses p text = Goes (Some p) [] (text ++ 10 ∷ [])
 
--- the first partition whose items have more bytes than the new space
-abbrev pub first_too_long : World → Dimensions → Option ℕ
-first_too_long w s = find (λ d. nat_lt (space_of s) (bytes_in w d)) (range_with_len 0 w.shape.k)
+-- no partition's items have more bytes than the new space
+abbrev pub has_space : World → Dimensions → Bool
+has_space w s = list_all (λ d. nat_le (bytes_in w d) (space_of s)) (range_with_len 0 w.shape.k)
 
 -- the group is down, or else has messages on their way, or else the items are too long, or else they are carried
 abbrev pub by_regroup : EraPlay → Dimensions → EraNext
 by_regroup p s =
     if is_down p.eras.world then refuses p (codes "down")
     else (if is_some (next_delivery p.eras.world) then refuses p (codes "not_drained")
-    else (if is_some (first_too_long p.eras.world s) then refuses p (codes "no_space") else by_carry p s))
+    else (if has_space p.eras.world s then by_carry p s else refuses p (codes "no_space")))
 
 -- what a line of this meaning does where the group isn't named yet
 abbrev pub first_by : Line → EraNext

@@ -1,6 +1,6 @@
 -- What holds of every script over eras: its deeds may be done, so the laws of eras are about it; and the lines that show
 -- bytes show what the log tells.
-use Rattle.std.specs.Prelude.{ℕ, ◌≡◌, false, List, [], ◌∷◌, Option, Some, None, Result, Ok}
+use Rattle.std.specs.Prelude.{ℕ, ◌≡◌, List, [], ◌∷◌, Option, Some, None, Result, Ok}
 use Rattle.group_types.specs.Dimensions.{Dimensions}
 use Rattle.group_types.specs.Shape.{IsShape}
 use Rattle.group_types.specs.declared.process.ProcessId.{ProcessId}
@@ -15,7 +15,7 @@ use Rattle.scenario_run.specs.Course.{Goes, Ends, Refused}
 use Rattle.scenario_run.specs.Lines.{lines_of}
 use Rattle.group_eras.specs.Eras.{Eras, first_era}
 use Rattle.group_eras.specs.Promise.{Deed, Carries, HasCarried, HasPromise, MayAllBeDone, done}
-use Rattle.regroup_run.specs.Playing.{EraPlay, look, next_of, regroups, shape_in}
+use Rattle.regroup_run.specs.Playing.{EraPlay, look, next_of, shape_in}
 use Rattle.regroup_run.specs.Script.{deeds_of, first_fault, shape_of}
 
 -- what a carry leaves is what it should
