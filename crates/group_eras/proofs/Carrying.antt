@@ -35,6 +35,7 @@ use Rattle.law_moves.proofs.Reading.{some-same}
 use Rattle.group_eras.specs.Carry.{Parcel, begun, carried, expiry_of, read_era, reading, setting}
 use Rattle.group_eras.specs.Eras.{EraEntry, Eras, eras_after, next_bases, next_era}
 use Rattle.group_eras.specs.Items.{Load, bytes_in, load_from, loads, loads_in, loads_of, settled_items}
+use Rattle.group_eras.specs.Moments.{AreGot}
 use Rattle.group_eras.specs.Promise.{AreTold, HasCarried, IsEra, IsKept, one_log, table_over}
 use Rattle.group_eras.specs.Refusal.{CanCarry, IsAtRest, IsSuccessor}
 use Rattle.group_eras.specs.Told.{with_base}
@@ -140,6 +141,9 @@ module _ (e : Eras) (stands : Stands e) (rest : IsAtRest e.world) where
 
   pub run-read : IsRunFrom e.world (reading e.world).events
   run-read = subst (λ (v : World). IsRunFrom v (reading v).events) (sym world) (run-behind (opening s) es (reading w).events well.rests_then.run.1)
+
+  pub all-got : AreGot e.world (loads e.world)
+  all-got = subst (λ (v : World). AreGot v (loads v)) (sym world) well.are_got
 
   -- want of memory leaves the old group
   pub begun-stands : (many : ℕ) → Stands (begun e many)
@@ -377,6 +381,9 @@ module _ (e : Eras) (stands : Stands e) (rest : IsAtRest e.world) where
           → Meets e3.bases e3.world.shape.k many NoKey key ((table_over e3).items key) ((own_table e3).items key)
       item many key (inl both) = inl both
       item many key (inr free) = absurd (cc (appeared free.0.0 free.0.1, ap (λ (k : List ℕ). is_some ((own_table e3).items k)) free.0.2, ap is_some free.1))
+
+    pub run-set : IsRunFrom (opening s') (setting (opening s') (reading e.world).parcels)
+    run-set = subst (λ (ps : List Parcel). IsRunFrom (opening s') (setting (opening s') ps)) (sym parcels-are) run-sets
 
     pub carried-stands : Stands (carried e s')
     carried-stands = subst Stands (sym carried-is) stands3

@@ -22,6 +22,7 @@ use Rattle.law_updates.specs.Store.{store_after}
 use Rattle.group_eras.specs.Carry.{Getting, Parcel, Reading, get_with, got, parcel_of, read_all, reading}
 use Rattle.group_eras.specs.Eras.{carrier}
 use Rattle.group_eras.specs.Items.{Load, load_from, loads, loads_in, loads_of, settled_items}
+use Rattle.group_eras.specs.Moments.{AreGot, HasItem}
 use Rattle.group_eras.proofs.Draining.{each-both, shape-after}
 use Rattle.group_eras.proofs.Finding as finding
 use Rattle.group_eras.proofs.Resting.{IsStill, Rests, same-items, settled_of, still-settled, table_after_run}
@@ -66,6 +67,7 @@ module _ (s : Dimensions) (es : List Event) (rests : Rests s es) where
     pub still : Each IsStill r.events
     pub world : r.world ≡ after s (fs ++ r.events)
     pub parcels : r.parcels ≡ map parcel_for xs
+    pub are_got : AreGot (after s fs) xs
 
   module _ (gs : List Event) (still : Each IsStill gs) (now : Rests s (es ++ gs)) (x : Load) (load : IsLoad s (after s es) x) where
     abbrev pub fs : List Event
@@ -102,6 +104,9 @@ module _ (s : Dimensions) (es : List Event) (rests : Rests s es) where
     pub one-world : (got (after s (es ++ gs)) x).world ≡ after s (es ++ (gs ++ (got (after s (es ++ gs)) x).events))
     one-world = came-load.world ∙ ap (after s) (append_assoc es gs (got (after s fs) x).events)
 
+    pub one-got : HasItem x (got (after s (es ++ gs)) x).answer
+    one-got = subst (HasItem x) (sym came-load.answer) (refl, in-table.long)
+
     pub one-parcel : parcel_of x (got (after s (es ++ gs)) x).answer ≡ parcel_for x
     one-parcel = ap (parcel_of x) came-load.answer
 
@@ -111,6 +116,7 @@ module _ (s : Dimensions) (es : List Event) (rests : Rests s es) where
     still = tt;
     world = sym (ap (after s) (append-nil (es ++ gs)));
     parcels = refl;
+    are_got = tt;
   }
   read-well gs still now (x ∷ xs) all =
       let g : Getting = got (after s (es ++ gs)) x in
@@ -127,6 +133,7 @@ module _ (s : Dimensions) (es : List Event) (rests : Rests s es) where
         still = each-both s IsStill g.events more (trying.Came.still (came-load gs still now x all.0)) rest.still;
         world = rest.world ∙ ap (after s) events;
         parcels = ap₂ (λ (p : Parcel) (ps : List Parcel). p ∷ ps) (one-parcel gs still now x all.0) rest.parcels;
+        are_got = (one-got gs still now x all.0, subst (λ (w : World). AreGot w xs) (sym world) later.are_got);
       }
 
   -- so all are read
