@@ -133,10 +133,10 @@ module _ (e : Eras) (stands : Stands e) (rest : IsAtRest e.world) where
   well : ReadWell s es rests es (loads w) (reading w)
   well = reads s es rests
 
-  still : Each IsStill (reading e.world).events
+  pub still : Each IsStill (reading e.world).events
   still = subst (λ (v : World). Each IsStill (reading v).events) (sym world) well.still
 
-  same : Each IsSame (reading e.world).events
+  pub same : Each IsSame (reading e.world).events
   same = each-weak s IsStill IsSame still-same (reading e.world).events still
 
   pub run-read : IsRunFrom e.world (reading e.world).events
@@ -248,13 +248,13 @@ module _ (e : Eras) (stands : Stands e) (rest : IsAtRest e.world) where
         let is = weight-is s es rests d below ∙ ap (λ (v : World). bytes_in v d) (sym world) in
         omega (arith, most, is)
 
-    all-set : AllSet s' parcels [] [] parcels
+    pub all-set : AllSet s' parcels [] [] parcels
     all-set = set-all s' parcels [] [] parcels (each-self parcels) (opens-setup s' successor.shape) (all-come s' [] parcels of-group apart tt room)
 
     abbrev sets : List Event
     sets = setting (opening s') parcels
 
-    setup : SetUp s' (setting (opening s') parcels) parcels
+    pub setup : SetUp s' (setting (opening s') parcels) parcels
     setup = all-set.setup
 
     run-sets : IsRunFrom (opening s') (setting (opening s') parcels)
@@ -389,10 +389,10 @@ module _ (e : Eras) (stands : Stands e) (rest : IsAtRest e.world) where
     carried-stands = subst Stands (sym carried-is) stands3
 
     -- of the new group
-    world3 : (carried e s').world ≡ after s' (setting (opening s') parcels)
+    pub world3 : (carried e s').world ≡ after s' (setting (opening s') parcels)
     world3 = ap (λ (x : Eras). x.world) carried-is ∙ follows3.world_is
 
-    shape3 : (carried e s').world.shape ≡ s'
+    pub shape3 : (carried e s').world.shape ≡ s'
     shape3 = ap (λ (v : World). v.shape) world3 ∙ shape-after (opening s') sets
 
     -- the numbers of the next era are above all earlier ones

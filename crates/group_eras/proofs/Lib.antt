@@ -23,3 +23,4 @@ pub mod SetTables
 pub mod Following
 pub mod Carrying
 pub mod Promises
+pub mod Ranging

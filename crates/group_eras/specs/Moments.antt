@@ -1,15 +1,13 @@
 -- What may be made in the course of a carry, and what comes of it.
-use Rattle.std.specs.Prelude.{ℕ, ◌≡◌, ◌<◌, ◌≤◌, ◌+◌, ◌^◌, List, [], ◌∷◌, length, Option, Some, None}
+use Rattle.std.specs.Prelude.{ℕ, ◌≡◌, ◌<◌, ◌^◌, List, [], ◌∷◌, length, Option, Some, None}
 use Rattle.group_types.specs.Dimensions.{Dimensions}
 use Rattle.group_types.specs.Each.{Each}
-use Rattle.memc_table.specs.declared.reply.Item.{Item}
 use Rattle.memc_table.specs.declared.reply.Reply.TheVariants as reply
 use Rattle.group_calls.specs.declared.event.Answer.{Answer}
 use Rattle.group_calls.specs.declared.event.Answer.TheVariants as says
 use Rattle.group_run.specs.Headline.{IsRunFrom}
-use Rattle.group_run.specs.Meaning.{count_logged}
 use Rattle.group_run.specs.World.{World, opening}
-use Rattle.group_eras.specs.Carry.{Getting, got, reading, setting}
+use Rattle.group_eras.specs.Carry.{got, reading, setting}
 use Rattle.group_eras.specs.Eras.{Eras}
 use Rattle.group_eras.specs.Items.{Load, loads}
 use Rattle.group_eras.specs.Promise.{IsLed}
