@@ -24,3 +24,4 @@ pub mod Following
 pub mod Carrying
 pub mod Promises
 pub mod Ranging
+pub mod Counting
