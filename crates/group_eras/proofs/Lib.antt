@@ -25,3 +25,4 @@ pub mod Carrying
 pub mod Promises
 pub mod Ranging
 pub mod Counting
+pub mod Weighing
