@@ -130,7 +130,7 @@ module _ (e : Eras) (stands : Stands e) (rest : IsAtRest e.world) where
   abbrev w : World
   w = after e.world.shape stands.era.events
 
-  well : ReadWell s es rests es (loads w) (reading w)
+  pub well : ReadWell e.world.shape stands.era.events rests stands.era.events (loads (after e.world.shape stands.era.events)) (reading (after e.world.shape stands.era.events))
   well = reads s es rests
 
   pub still : Each IsStill (reading e.world).events
@@ -139,8 +139,11 @@ module _ (e : Eras) (stands : Stands e) (rest : IsAtRest e.world) where
   pub same : Each IsSame (reading e.world).events
   same = each-weak s IsStill IsSame still-same (reading e.world).events still
 
+  pub run-reading : IsRunFrom (after e.world.shape stands.era.events) (reading (after e.world.shape stands.era.events)).events
+  run-reading = run-behind (opening s) es (reading w).events well.rests_then.run.1
+
   pub run-read : IsRunFrom e.world (reading e.world).events
-  run-read = subst (λ (v : World). IsRunFrom v (reading v).events) (sym world) (run-behind (opening s) es (reading w).events well.rests_then.run.1)
+  run-read = subst (λ (v : World). IsRunFrom v (reading v).events) (sym world) run-reading
 
   pub all-got : AreGot e.world (loads e.world)
   all-got = subst (λ (v : World). AreGot v (loads v)) (sym world) well.are_got
@@ -190,7 +193,7 @@ module _ (e : Eras) (stands : Stands e) (rest : IsAtRest e.world) where
   abbrev pub parcels : List Parcel
   parcels = map (parcel_for e.world.shape stands.era.events rests) (loads (after e.world.shape stands.era.events))
 
-  parcels-are : (reading e.world).parcels ≡ parcels
+  pub parcels-are : (reading e.world).parcels ≡ parcels
   parcels-are = ap (λ (v : World). (reading v).parcels) world ∙ well.parcels
 
   -- a key whose item is carried

@@ -13,7 +13,7 @@ use Rattle.std.proofs.lemmas.List.{length-append, length-map}
 use Rattle.group_types.specs.Dimensions.{Dimensions}
 use Rattle.group_types.specs.Each.{Each, EachTwo}
 use Rattle.group_types.specs.Hash.{home_of}
-use Rattle.group_types.specs.Lists.{at, same_key}
+use Rattle.group_types.specs.Lists.{same_key}
 use Rattle.item_index.specs.declared.slot.Slot.{Slot}
 use Rattle.memc_table.specs.Act.{key_of}
 use Rattle.memc_table.specs.Expiry.{is_live}
@@ -22,7 +22,7 @@ use Rattle.group_calls.specs.Turns.{CallName}
 use Rattle.group_calls.specs.declared.event.Answer.{Answer}
 use Rattle.group_calls.specs.declared.event.Event.{Event}
 use Rattle.group_run.specs.Headline.{IsRun}
-use Rattle.group_run.specs.Meaning.{IsDown, IsDrained, count_logged, updates_of}
+use Rattle.group_run.specs.Meaning.{count_logged, updates_of}
 use Rattle.group_run.specs.Replica.{Items, item_settled, items_after, slot_after, slot_in, with_slot}
 use Rattle.group_run.specs.World.{Call, World, after, call_of, group_step, is_issued, opening, step, update_name, world_after}
 use Rattle.law_updates.specs.Fine.{ComesBefore, Fine}
@@ -30,16 +30,13 @@ use Rattle.law_updates.specs.Store.{no_store}
 use Rattle.law_updates.proofs.Histories.{steps-each}
 use Rattle.law_updates.proofs.Steps.{no_store-fits}
 use Rattle.law_log.specs.Book.{Book, book_from, book_of, booked, call_if, issued_by, no_book}
-use Rattle.law_log.proofs.Books.{book-shape}
 use Rattle.law_log.proofs.Entries.{same-issued}
 use Rattle.law_log.proofs.Values.{shown-long}
 use Rattle.law_log.proofs.Written.{log_shows_settled}
 use Rattle.law_headline.proofs.All.{whole-always}
 use Rattle.law_headline.proofs.Promises.{stands-always}
-use Rattle.group_eras.specs.Eras.{Eras}
-use Rattle.group_eras.specs.Items.{Load, load_from, loads, loads_in, loads_of, settled_items}
+use Rattle.group_eras.specs.Items.{load_from, loads, loads_in, loads_of, settled_items}
 use Rattle.group_eras.specs.Moments.{CountsAreLow, LoadsAreFew}
-use Rattle.group_eras.specs.Refusal.{IsAtRest}
 use Rattle.group_eras.proofs.Carrying as carrying
 use Rattle.group_eras.proofs.Draining.{each-both, each-weak, shape-after}
 use Rattle.group_eras.proofs.Finding as finding

@@ -26,3 +26,4 @@ pub mod Promises
 pub mod Ranging
 pub mod Counting
 pub mod Weighing
+pub mod Short

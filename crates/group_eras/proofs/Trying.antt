@@ -248,7 +248,7 @@ module _ (s : Dimensions) (es : List Event) (rests : Rests s es) (d : ℕ) (belo
               let short = own-drain gs still now in
               let few-rest = rest.few in
               let same : block_waits (of_rank d r) (turns_from (after s (es ++ (gs ++ get ∷ draining (step (after s (es ++ gs)) get).world))) (get_with tries get (step (drained (step (after s (es ++ gs)) get).world) get)).events)
-                  ≡ block_waits (of_rank d r) (turns_from (drained (step (after s (es ++ gs)) get).world) (get_with tries get (step (drained (step (after s (es ++ gs)) get).world) get)).events)
+              ≡ block_waits (of_rank d r) (turns_from (drained (step (after s (es ++ gs)) get).world) (get_with tries get (step (drained (step (after s (es ++ gs)) get).world) get)).events)
               = ap (λ (w : World). block_waits (of_rank d r) (turns_from w (get_with tries get (step (drained (step (after s (es ++ gs)) get).world) get)).events)) world-next in
               omega (arith, long, both, one, short, few-rest, same);
         }

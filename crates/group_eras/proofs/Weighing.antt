@@ -1,39 +1,32 @@
 -- How many deliveries a drain has: no more than the weight of what is on its way.
-use Rattle.std.proofs.Common.{ℕ, ℤ, zero, suc, ◌≡◌, ◌≢◌, ◌<◌, ◌≤◌, ◌+◌, ◌*◌, nat_le, Bool, true, false, cond, not, ◌&&◌, List, [], ◌∷◌, ◌++◌, length, map, Option, Some, None, if◌then◌else◌, ◌⊎◌, inl, inr, refl, sym, ap, subst, ◌∙◌, arith}
+use Rattle.std.proofs.Common.{ℕ, zero, suc, ◌≡◌, ◌≢◌, ◌<◌, ◌≤◌, ◌+◌, ◌*◌, nat_le, Bool, true, false, cond, not, ◌&&◌, List, [], ◌∷◌, length, Option, Some, None, if◌then◌else◌, ◌⊎◌, inl, inr, refl, sym, ap, subst, ◌∙◌, arith}
 use Rattle.std.specs.Prelude.{filter}
 use Rattle.std.specs.List.{range_with_len}
-use Rattle.std.proofs.lemmas.List.FromFn.{length-map-range_with_len}
 use Rattle.group_types.specs.Dimensions.{Dimensions, space_of}
-use Rattle.group_types.specs.Each.{Each}
 use Rattle.group_types.specs.Hash.{home_of}
-use Rattle.group_types.specs.Lists.{at}
-use Rattle.group_types.specs.Names.{IsProcess, index_of, same_process}
+use Rattle.group_types.specs.Names.{IsProcess, same_process}
 use Rattle.group_types.specs.declared.process.ProcessId.{ProcessId}
 use Rattle.group_types.specs.declared.process.ProcessId.TheVariants.{DataNode, ParityNode}
 use Rattle.group_types.proofs.Names.{same-cases}
 use Rattle.group_message.specs.declared.message.Message.{Message}
 use Rattle.group_message.specs.declared.message.Message.TheVariants as tells
-use Rattle.group_message.specs.declared.update.Outcome.TheVariants as ends
 use Rattle.group_message.specs.declared.update.Update.{Update}
-use Rattle.group_calls.specs.Turns.{CallName}
 use Rattle.group_calls.specs.declared.decision.Decision.{Decision}
 use Rattle.group_calls.specs.declared.event.Event.{Event}
-use Rattle.group_calls.specs.declared.event.Event.TheVariants.{Ask}
-use Rattle.erasure_code.specs.Spaces.{bytes_at}
 use Rattle.membership.specs.Members.{knows_dead}
-use Rattle.group_run.specs.Applying.{ProcessStep, Sent, head_at, replica_of, with_replica}
+use Rattle.group_run.specs.Applying.{ProcessStep, head_at, replica_of, with_replica}
 use Rattle.group_run.specs.Asking.{CallStep, act_on, ask_head, ask_process, issue, issued, ticketed}
 use Rattle.group_run.specs.Draining.{drain_events, next_delivery}
 use Rattle.group_run.specs.Heading.{judge, judge_head, other_parities, partition, rank, to_others, to_parities}
-use Rattle.group_run.specs.Headline.{IsRun, MayCome}
+use Rattle.group_run.specs.Headline.{MayCome}
 use Rattle.group_run.specs.Meaning.{is_dead, link, process_of}
 use Rattle.group_run.specs.Process.{Head, Node, Process}
 use Rattle.group_run.specs.Progress.{load_of, weight_of}
-use Rattle.group_run.specs.Replica.{items_after, with_update}
-use Rattle.group_run.specs.World.{World, after, group_step, if_up, next_name, node_after, node_in, node_of, opening, sent_to, step, treated, with_node}
+use Rattle.group_run.specs.Replica.{with_update}
+use Rattle.group_run.specs.World.{World, after, if_up, next_name, node_after, node_in, node_of, opening, sent_to, step, treated, with_node}
 use Rattle.law_moves.specs.State.{State, state_from}
 use Rattle.law_moves.proofs.Reading.{node-back}
-use Rattle.law_bytes.proofs.Tokens.{everyone, sum_of}
+use Rattle.law_bytes.proofs.Tokens.{everyone}
 use Rattle.law_bytes.proofs.Sums.{everyone-inside, sum-zero}
 use Rattle.law_progress.proofs.Alone.{alone-after}
 use Rattle.law_progress.proofs.Drained.{ready-after}
@@ -45,10 +38,8 @@ use Rattle.group_eras.specs.Eras.{carrier}
 use Rattle.group_eras.proofs.Draining.{shape-after}
 use Rattle.group_eras.proofs.Issues as issues
 use Rattle.group_eras.proofs.Issues.{IsReadyAt}
-use Rattle.group_eras.proofs.Piling.{Piled}
 use Rattle.group_eras.proofs.Resting.{Rests, settled_of}
-use Rattle.group_eras.proofs.Served.{AllLive, FirstHeads, first-heads}
-use Rattle.group_eras.proofs.Sets.{put_op}
+use Rattle.group_eras.proofs.Served.{FirstHeads, first-heads}
 use Rattle.group_eras.proofs.Setup.{ComesNext, SetUp, op_of, weight}
 use Rattle.group_eras.specs.Carry.{Parcel, expiry_of, set_of}
 

@@ -1,4 +1,4 @@
-ghost use Rattle.group_eras.specs.Moments.{ItemsAreGot, ReadsMayCome, SetsMayCome, UntilsAreLow};
+ghost use Rattle.group_eras.specs.Moments.{CarriesAreShort, CountsAreLow, ItemsAreGot, LoadsAreFew, ReadsMayCome, SetsMayCome, UntilsAreLow};
 ghost use Rattle.group_eras.specs.Promise.{CarriesKeep, ErasAreRuns};
 
 /// Whatever happens over eras, the log of all is legal, and the current era is a run of its own, with the whole
@@ -31,4 +31,19 @@ pub fn sets_may_come()
 /// An item's until is one that an exptime of 64 bits can ask for.
 pub fn untils_are_low()
     ensures { UntilsAreLow }
+{}
+
+/// No partition has more updates in the era's log than events were made.
+pub fn counts_are_low()
+    ensures { CountsAreLow }
+{}
+
+/// No more items are carried than events were made.
+pub fn loads_are_few()
+    ensures { LoadsAreFew }
+{}
+
+/// Where fewer than 2^58 events were made before, a carry makes fewer than 2^62 in each of the two groups.
+pub fn carries_are_short()
+    ensures { CarriesAreShort }
 {}
