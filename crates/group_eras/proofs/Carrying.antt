@@ -35,6 +35,7 @@ use Rattle.law_moves.proofs.Reading.{some-same}
 use Rattle.group_eras.specs.Carry.{Parcel, begun, carried, expiry_of, read_era, reading, setting}
 use Rattle.group_eras.specs.Eras.{EraEntry, Eras, eras_after, next_bases, next_era}
 use Rattle.group_eras.specs.Items.{Load, bytes_in, load_from, loads, loads_in, loads_of, settled_items}
+use Rattle.group_eras.specs.Moments.{AreGot}
 use Rattle.group_eras.specs.Promise.{AreTold, HasCarried, IsEra, IsKept, one_log, table_over}
 use Rattle.group_eras.specs.Refusal.{CanCarry, IsAtRest, IsSuccessor}
 use Rattle.group_eras.specs.Told.{with_base}
@@ -129,17 +130,23 @@ module _ (e : Eras) (stands : Stands e) (rest : IsAtRest e.world) where
   abbrev w : World
   w = after e.world.shape stands.era.events
 
-  well : ReadWell s es rests es (loads w) (reading w)
+  pub well : ReadWell e.world.shape stands.era.events rests stands.era.events (loads (after e.world.shape stands.era.events)) (reading (after e.world.shape stands.era.events))
   well = reads s es rests
 
-  still : Each IsStill (reading e.world).events
+  pub still : Each IsStill (reading e.world).events
   still = subst (λ (v : World). Each IsStill (reading v).events) (sym world) well.still
 
-  same : Each IsSame (reading e.world).events
+  pub same : Each IsSame (reading e.world).events
   same = each-weak s IsStill IsSame still-same (reading e.world).events still
 
+  pub run-reading : IsRunFrom (after e.world.shape stands.era.events) (reading (after e.world.shape stands.era.events)).events
+  run-reading = run-behind (opening s) es (reading w).events well.rests_then.run.1
+
   pub run-read : IsRunFrom e.world (reading e.world).events
-  run-read = subst (λ (v : World). IsRunFrom v (reading v).events) (sym world) (run-behind (opening s) es (reading w).events well.rests_then.run.1)
+  run-read = subst (λ (v : World). IsRunFrom v (reading v).events) (sym world) run-reading
+
+  pub all-got : AreGot e.world (loads e.world)
+  all-got = subst (λ (v : World). AreGot v (loads v)) (sym world) well.are_got
 
   -- want of memory leaves the old group
   pub begun-stands : (many : ℕ) → Stands (begun e many)
@@ -186,7 +193,7 @@ module _ (e : Eras) (stands : Stands e) (rest : IsAtRest e.world) where
   abbrev pub parcels : List Parcel
   parcels = map (parcel_for e.world.shape stands.era.events rests) (loads (after e.world.shape stands.era.events))
 
-  parcels-are : (reading e.world).parcels ≡ parcels
+  pub parcels-are : (reading e.world).parcels ≡ parcels
   parcels-are = ap (λ (v : World). (reading v).parcels) world ∙ well.parcels
 
   -- a key whose item is carried
@@ -244,13 +251,13 @@ module _ (e : Eras) (stands : Stands e) (rest : IsAtRest e.world) where
         let is = weight-is s es rests d below ∙ ap (λ (v : World). bytes_in v d) (sym world) in
         omega (arith, most, is)
 
-    all-set : AllSet s' parcels [] [] parcels
+    pub all-set : AllSet s' parcels [] [] parcels
     all-set = set-all s' parcels [] [] parcels (each-self parcels) (opens-setup s' successor.shape) (all-come s' [] parcels of-group apart tt room)
 
     abbrev sets : List Event
     sets = setting (opening s') parcels
 
-    setup : SetUp s' (setting (opening s') parcels) parcels
+    pub setup : SetUp s' (setting (opening s') parcels) parcels
     setup = all-set.setup
 
     run-sets : IsRunFrom (opening s') (setting (opening s') parcels)
@@ -378,14 +385,17 @@ module _ (e : Eras) (stands : Stands e) (rest : IsAtRest e.world) where
       item many key (inl both) = inl both
       item many key (inr free) = absurd (cc (appeared free.0.0 free.0.1, ap (λ (k : List ℕ). is_some ((own_table e3).items k)) free.0.2, ap is_some free.1))
 
+    pub run-set : IsRunFrom (opening s') (setting (opening s') (reading e.world).parcels)
+    run-set = subst (λ (ps : List Parcel). IsRunFrom (opening s') (setting (opening s') ps)) (sym parcels-are) run-sets
+
     pub carried-stands : Stands (carried e s')
     carried-stands = subst Stands (sym carried-is) stands3
 
     -- of the new group
-    world3 : (carried e s').world ≡ after s' (setting (opening s') parcels)
+    pub world3 : (carried e s').world ≡ after s' (setting (opening s') parcels)
     world3 = ap (λ (x : Eras). x.world) carried-is ∙ follows3.world_is
 
-    shape3 : (carried e s').world.shape ≡ s'
+    pub shape3 : (carried e s').world.shape ≡ s'
     shape3 = ap (λ (v : World). v.shape) world3 ∙ shape-after (opening s') sets
 
     -- the numbers of the next era are above all earlier ones

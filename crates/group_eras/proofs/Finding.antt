@@ -94,10 +94,10 @@ module _ (s : Dimensions) (es : List Event) (rests : Rests s es) (d : ℕ) (belo
   pub head-in : IsProcess w.shape (of_rank d rank)
   head-in = rank-in w.shape d rank (subst (λ (t : Dimensions). d < t.k) (sym shape) below) heads.within
 
-  abbrev us : List Update
+  abbrev pub us : List Update
   us = settled_of s es d
 
-  items-are : settled_items w d ≡ items_after [] us
+  pub items-are : settled_items w d ≡ items_after [] us
   items-are = ap (λ (p : ProcessId). (replica_of (process_of w p) d).items) head ∙ (rests-items s es rests d below).3
 
   keeps : KeepsAll w d (replica_of (process_of w (of_rank d rank)) d)

@@ -68,10 +68,10 @@ fresh-slot key us new = keep-slot key [] us new
 
 module _ (w : World) (d : ℕ) (us : List Update) (ready : IsReadyAt w d us) (total : ℕ) (piled : Piled total (items_after [] us))
     (key : List ℕ) (flags : ℕ) (expiry : ℤ) (value : List ℕ) (new : Each (λ u. u.key ≢ key) us) (fits : total + length value ≤ space_of w.shape) where
-  abbrev p : Process
+  abbrev pub p : Process
   p = process_of w (DataNode d)
 
-  abbrev r : Replica
+  abbrev pub r : Replica
   r = replica_of (process_of w (DataNode d)) d
 
   pub piled-here : Piled total (replica_of (process_of w (DataNode d)) d).items
@@ -80,7 +80,7 @@ module _ (w : World) (d : ℕ) (us : List Update) (ready : IsReadyAt w d us) (to
   pub new-here : slot_in (replica_of (process_of w (DataNode d)) d).items key ≡ None
   new-here = ap (λ (items : Items). slot_in items key) ready.items ∙ fresh-slot key us new
 
-  placed : (run : Run) × (place_for (space_of w.shape) (replica_of (process_of w (DataNode d)) d) (length value) ≡ Some run) × IsOnTop total (length value) run
+  pub placed : (run : Run) × (place_for (space_of w.shape) (replica_of (process_of w (DataNode d)) d) (length value) ≡ Some run) × IsOnTop total (length value) run
   placed = placed-on-top (space_of w.shape) total r piled-here ready.quiet (length value) fits
 
   abbrev run : Run
@@ -94,7 +94,7 @@ module _ (w : World) (d : ℕ) (us : List Update) (ready : IsReadyAt w d us) (to
   unfolding issued-put
   put-key = refl
 
-  decided : (inherited : ℕ) → decide (space_of w.shape) inherited r (put_op key flags expiry value) (found_at w.shape d p p.name)
+  pub decided : (inherited : ℕ) → decide (space_of w.shape) inherited r (put_op key flags expiry value) (found_at w.shape d p p.name)
       ≡ decides.Issue (body_with key flags expiry value placed.0 (bytes_at placed.0.at placed.0.len p.space)) ends.Stored
   decided inherited = decide-put key flags expiry value (space_of w.shape) inherited r (found_at w.shape d p p.name) placed.0 (bytes_at placed.0.at placed.0.len p.space) ready.quiet new-here placed.1
       (ap (λ (y : ProcessId). found_at w.shape d p y placed.0) ready.name)

@@ -23,3 +23,7 @@ pub mod SetTables
 pub mod Following
 pub mod Carrying
 pub mod Promises
+pub mod Ranging
+pub mod Counting
+pub mod Weighing
+pub mod Short

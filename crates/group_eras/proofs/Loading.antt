@@ -32,7 +32,7 @@ two-of R (x ∷ xs) all = (first xs (λ i d low. all 0 (suc i) d (omega arith) (
   first [] each = tt
   first (y ∷ ys) each = (each 0 y (omega arith), first ys (λ i d low. each (suc i) d (omega (arith, low))))
 
-two-both : {X : Type 0} (R : X → X → Type 0) (xs ys : List X) → EachTwo R xs → EachTwo R ys → Each (λ x. Each (R x) ys) xs → EachTwo R (xs ++ ys)
+pub two-both : {X : Type 0} (R : X → X → Type 0) (xs ys : List X) → EachTwo R xs → EachTwo R ys → Each (λ x. Each (R x) ys) xs → EachTwo R (xs ++ ys)
 two-both R [] ys one two cross = two
 two-both R (x ∷ xs) ys one two cross = (both xs one.0, two-both R xs ys one.1 two cross.1) where
   both : (zs : List _) → Each (R x) zs → Each (R x) (zs ++ ys)

@@ -2,8 +2,9 @@
 use Rattle.std.proofs.Common.{List, [], ◌∷◌, sym, subst}
 use Rattle.group_run.specs.World.{opening}
 use Rattle.group_eras.specs.Eras.{Eras, first_era}
+use Rattle.group_eras.specs.Moments.{ItemsAreGot, ReadsMayCome, SetsMayCome}
 use Rattle.group_eras.specs.Promise.{Begins, Carries, CarriesKeep, Deed, ErasAreRuns, IsLed, Makes, MayAllBeDone, MayBeDone, all_done, done}
-use Rattle.group_eras.proofs.Carrying.{begun-stands, carried-stands, has-carried}
+use Rattle.group_eras.proofs.Carrying.{all-got, begun-stands, carried-stands, has-carried, run-read, run-set}
 use Rattle.group_eras.proofs.Standing.{Stands, has-promise, stands-first, stands-next}
 
 pub deed-stands : (e : Eras) (deed : Deed) → Stands e → MayBeDone e deed → Stands (done e deed)
@@ -23,3 +24,12 @@ eras_are_runs e led = has-promise e (led-stands e led)
 
 pub carries_keep : CarriesKeep
 carries_keep e s led successor can = has-carried e (led-stands e led) can.rest s successor can
+
+pub items_are_got : ItemsAreGot
+items_are_got e led rest = all-got e (led-stands e led) rest
+
+pub reads_may_come : ReadsMayCome
+reads_may_come e led rest = run-read e (led-stands e led) rest
+
+pub sets_may_come : SetsMayCome
+sets_may_come e s led successor can = run-set e (led-stands e led) can.rest s successor can

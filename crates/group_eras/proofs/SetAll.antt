@@ -1,8 +1,8 @@
 -- All parcels are set in a fresh group, one after the other.
-use Rattle.std.proofs.Common.{ℕ, ◌≡◌, ◌≢◌, ◌<◌, ◌≤◌, ◌+◌, ◌==◌, Bool, List, [], ◌∷◌, ◌++◌, length, refl, sym, ap, subst, ◌∙◌, arith}
+use Rattle.std.proofs.Common.{ℕ, ◌≡◌, ◌≢◌, ◌<◌, ◌≤◌, ◌+◌, ◌*◌, ◌==◌, Bool, List, [], ◌∷◌, ◌++◌, length, refl, sym, ap, subst, ◌∙◌, arith}
 use Rattle.std.specs.Prelude.{All, Contains}
 use Rattle.std.proofs.lemmas.Bool.{eq-eqb}
-use Rattle.std.proofs.lemmas.List.{append_assoc, append-nil}
+use Rattle.std.proofs.lemmas.List.{append_assoc, append-nil, length-append}
 use Rattle.group_types.specs.Dimensions.{Dimensions, space_of}
 use Rattle.group_types.specs.Each.{Each, EachTwo}
 use Rattle.group_types.specs.Hash.{home_of}
@@ -27,6 +27,7 @@ use Rattle.group_eras.proofs.Piling.{Piled, none-piled}
 use Rattle.group_eras.proofs.Resting.{Rests, settled_of}
 use Rattle.group_eras.proofs.Served.{AllLive}
 use Rattle.group_eras.proofs.Setup.{ComesNext, SetUp, deliveries, op_of, set-next, weight, weight-both, weight_if}
+use Rattle.group_eras.proofs.Weighing.{set-drain}
 
 -- no message is on its way at the start
 opens-drained : (s : Dimensions) → IsDrained (opening s)
@@ -78,11 +79,13 @@ delivery-plain all (Trace caller call d p) is = absurd is
 pub record AllSet (s : Dimensions) (all : List Parcel) (es : List Event) (ps qs : List Parcel) : Type 0 where
   pub setup : SetUp s (es ++ setting (after s es) qs) (ps ++ qs)
   pub plain : Each (IsPlain all) (setting (after s es) qs)
+  pub short : length (setting (after s es) qs) ≤ length qs * 9
 
 pub set-all : (s : Dimensions) (all : List Parcel) (es : List Event) (ps qs : List Parcel) → Each (Contains all) qs → SetUp s es ps → AllCome s ps qs → AllSet s all es ps qs
 set-all s all es ps [] inside up come = record {
   setup = subst (λ (xs : List Event). SetUp s xs (ps ++ [])) (sym (append-nil es)) (subst (SetUp s es) (sym (append-nil ps)) up);
   plain = tt;
+  short = omega arith;
 }
 set-all s all es ps (x ∷ xs) inside up come =
     let drain : List Event = draining (step (after s es) (set_of x)).world in
@@ -97,6 +100,13 @@ set-all s all es ps (x ∷ xs) inside up come =
       plain = each-both s (IsPlain all) (set_of x ∷ drain) (setting (drained (step (after s es) (set_of x)).world) xs)
           ((x, inside.0, refl), each-weak s IsDelivery (IsPlain all) (delivery-plain all) drain (deliveries s es ps up x come.0))
           (subst (λ (w : World). Each (IsPlain all) (setting w xs)) world rest.plain);
+      short =
+          let both = length-append (set_of x ∷ drain) (setting (drained (step (after s es) (set_of x)).world) xs) in
+          let one = set-drain s es ps up x come.0 in
+          let few = up.rests.run.0.m in
+          let later = rest.short in
+          let same : length (setting (after s (es ++ set_of x ∷ draining (step (after s es) (set_of x)).world)) xs) ≡ length (setting (drained (step (after s es) (set_of x)).world) xs) = ap (λ (w : World). length (setting w xs)) world in
+          omega (arith, both, one, few, later, same);
     }
 
 -- a parcel that is of the group

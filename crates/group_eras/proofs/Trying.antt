@@ -1,6 +1,6 @@
 -- A get that is asked again after each wait is answered in the end: there are no more waits than blocks.
-use Rattle.std.proofs.Common.{ℕ, zero, suc, ◌≡◌, ◌<◌, ◌≤◌, ◌+◌, Bool, true, List, [], ◌∷◌, ◌++◌, Some, if◌then◌else◌, refl, sym, ap, subst, ◌∙◌, arith}
-use Rattle.std.proofs.lemmas.List.{append_assoc, append-nil}
+use Rattle.std.proofs.Common.{ℕ, zero, suc, ◌≡◌, ◌<◌, ◌≤◌, ◌+◌, ◌*◌, Bool, true, List, [], ◌∷◌, ◌++◌, length, Some, if◌then◌else◌, refl, sym, ap, subst, ◌∙◌, arith}
+use Rattle.std.proofs.lemmas.List.{append_assoc, append-nil, length-append}
 use Rattle.std.proofs.lemmas.List.Sums.{sum_by-cons}
 use Rattle.group_types.specs.Dimensions.{Dimensions}
 use Rattle.group_types.specs.Each.{Each}
@@ -29,6 +29,7 @@ use Rattle.group_eras.specs.Eras.{carrier}
 use Rattle.group_eras.proofs.Draining.{NoFailure, after-is, dead-after, delivers, delivery-still, drained-rests, each-both, each-weak, more-run, more-up, shape-after, still-none}
 use Rattle.group_eras.proofs.Getting as getting
 use Rattle.group_eras.proofs.Getting.{get_op}
+use Rattle.group_eras.proofs.Weighing.{event-drain}
 use Rattle.group_eras.proofs.Resting.{IsStill, Rests, same-items, still-settled, table_after_run}
 
 -- waits of more events
@@ -57,7 +58,7 @@ deliveries-wait p w (e ∷ es) all =
     none (Trace caller call d q) a is = absurd is
 
 -- asks of a drained group, and more
-asked-both : (w : World) (es fs : List Event) → AskedDrained w es → AskedDrained (world_after w es) fs → AskedDrained w (es ++ fs)
+pub asked-both : (w : World) (es fs : List Event) → AskedDrained w es → AskedDrained (world_after w es) fs → AskedDrained w (es ++ fs)
 asked-both w [] fs asked more = more
 asked-both w (e ∷ es) fs asked more = (asked.0, asked.1, asked-both (step w e).world es fs asked.2 more)
 
@@ -103,6 +104,8 @@ module _ (s : Dimensions) (es : List Event) (rests : Rests s es) (d : ℕ) (belo
     pub still : Each IsStill g.events
     pub world : g.world ≡ after s (fs ++ g.events)
     pub answer : g.answer ≡ says.Reply (reply.Value h.item)
+    pub asked : AskedDrained (after s fs) g.events
+    pub few : length g.events ≤ 1 + block_waits (of_rank d r) (turns_from (after s fs) g.events) * 131073
 
   module _ (gs : List Event) (still : Each IsStill gs) (now : Rests s (es ++ gs)) where
     abbrev fs : List Event
@@ -132,7 +135,21 @@ module _ (s : Dimensions) (es : List Event) (rests : Rests s es) (d : ℕ) (belo
       still = (tt, tt);
       world = sym (after-more (opening s) fs get);
       answer = is;
+      asked = (tt, now.drained, tt);
+      few = omega arith;
     }
+
+    -- the wait itself
+    pub own-wait : (b : ℕ) → (step (after s (es ++ gs)) get).turn.answer ≡ says.Retry (cause.Block b) → (rest : List Event) → Each IsDelivery rest
+        → block_waits (of_rank d r) (turns_from (after s (es ++ gs)) (get ∷ rest)) ≡ 1
+    own-wait b is rest all =
+        let cons = sum_by-cons (λ (turn : Turn). waits_here p turn.event turn.answer) (step v get).turn (turns_from (step v get).world rest) in
+        let one : waits_here p get (step v get).turn.answer ≡ 1 = ap (waits_here p get) is ∙ ap (λ (t : Bool). if t then 1 else 0) (same-refl p) in
+        let none = deliveries-wait p (step v get).world rest all in
+        omega (arith, cons, one, none)
+
+    pub own-drain : length (draining (step (after s (es ++ gs)) get).world) ≤ 131072
+    own-drain = event-drain s (es ++ gs) get now may-now
 
     -- one wait more
     one-wait : (b : ℕ) → (step v get).turn.answer ≡ says.Retry (cause.Block b) → (rest : List Event) → Each IsDelivery rest
@@ -221,6 +238,19 @@ module _ (s : Dimensions) (es : List Event) (rests : Rests s es) (d : ℕ) (belo
           still = each-both s IsStill (get ∷ draining (step (after s (es ++ gs)) get).world) (get_with tries get (step (drained (step (after s (es ++ gs)) get).world) get)).events (tt, each-weak s IsDelivery IsStill delivery-still (draining (step (after s (es ++ gs)) get).world) deliveries) rest.still;
           world = rest.world ∙ ap (after s) events;
           answer = rest.answer;
+          asked = asked-both (after s (es ++ gs)) (get ∷ draining (step (after s (es ++ gs)) get).world) (get_with tries get (step (drained (step (after s (es ++ gs)) get).world) get)).events
+              (tt, now.drained, asked-deliveries (step (after s (es ++ gs)) get).world (draining (step (after s (es ++ gs)) get).world) deliveries)
+              (subst (λ (w : World). AskedDrained w (get_with tries get (step (drained (step (after s (es ++ gs)) get).world) get)).events) world-next rest.asked);
+          few =
+              let long = length-append (get ∷ draining (step (after s (es ++ gs)) get).world) (get_with tries get (step (drained (step (after s (es ++ gs)) get).world) get)).events in
+              let both = waits-both (of_rank d r) (after s (es ++ gs)) (get ∷ draining (step (after s (es ++ gs)) get).world) (get_with tries get (step (drained (step (after s (es ++ gs)) get).world) get)).events in
+              let one = own-wait gs still now b is (draining (step (after s (es ++ gs)) get).world) deliveries in
+              let short = own-drain gs still now in
+              let few-rest = rest.few in
+              let same : block_waits (of_rank d r) (turns_from (after s (es ++ (gs ++ get ∷ draining (step (after s (es ++ gs)) get).world))) (get_with tries get (step (drained (step (after s (es ++ gs)) get).world) get)).events)
+              ≡ block_waits (of_rank d r) (turns_from (drained (step (after s (es ++ gs)) get).world) (get_with tries get (step (drained (step (after s (es ++ gs)) get).world) get)).events)
+              = ap (λ (w : World). block_waits (of_rank d r) (turns_from w (get_with tries get (step (drained (step (after s (es ++ gs)) get).world) get)).events)) world-next in
+              omega (arith, long, both, one, short, few-rest, same);
         }
 
   -- so a get comes to its item

@@ -1,6 +1,7 @@
 pub mod Carry
 pub mod Eras
 pub mod Items
+pub mod Moments
 pub mod Promise
 pub mod Range
 pub mod Refusal

