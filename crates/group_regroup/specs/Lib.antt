@@ -1,0 +1,4 @@
+pub mod Fitting
+pub mod Kept
+pub mod Laws
+pub mod Parts

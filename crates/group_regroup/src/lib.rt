@@ -1,0 +1,12 @@
+//! A group over eras as a value: one world at a time, whose numbers are told with a base, and whose items a carry
+//! puts into a fresh world. The contract of each call is one equation with the eras' machine; so what is proved of
+//! every history of eras holds of it. Scripts over eras are left to others.
+#![tactic(auto)]
+
+mod changing;
+mod drain;
+mod regroup;
+mod stepping;
+mod telling;
+
+pub use regroup::Regroup;
