@@ -27,3 +27,5 @@ pub mod Ranging
 pub mod Counting
 pub mod Weighing
 pub mod Short
+pub mod Worked
+pub mod Numbers
