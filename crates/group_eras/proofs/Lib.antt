@@ -29,3 +29,4 @@ pub mod Weighing
 pub mod Short
 pub mod Worked
 pub mod Numbers
+pub mod Telling

@@ -113,7 +113,7 @@ no-items : (k : ℕ) → AllHaveCas (empty_table k)
 no-items k key = tt
 
 module _ (e : Eras) (era : IsEra e) (event : Event) (may : MayCome e.world event) where
-  abbrev s : Dimensions
+  abbrev pub s : Dimensions
   s = e.world.shape
 
   abbrev k : ℕ
@@ -137,13 +137,13 @@ module _ (e : Eras) (era : IsEra e) (event : Event) (may : MayCome e.world event
   may-come : MayCome e.world came
   may-come = may-in e.bases k e.world event may
 
-  run : IsRun s events
+  pub run : IsRun s events
   run = (era.run.0, run-more (opening s) era.events came era.run.1 (subst (λ (w : World). MayCome w came) era.stands may-come))
 
   stands : (step e.world came).world ≡ after s events
   stands = ap (λ (w : World). (step w came).world) era.stands ∙ sym (after-more (opening s) era.events came)
 
-  headline : Headline s events
+  pub headline : Headline s events
   headline = headline_always s events run
 
   long : length era.events ≡ length era.asked
@@ -153,7 +153,7 @@ module _ (e : Eras) (era : IsEra e) (event : Event) (may : MayCome e.world event
     map-long (x ∷ xs) = ap suc (map-long xs)
 
   -- the event's turn
-  last-turn : slice_get (turns_of s events) (length era.events) ≡ Some (step e.world came).turn
+  pub last-turn : slice_get (turns_of s events) (length era.events) ≡ Some (step e.world came).turn
   last-turn =
       ap (λ (turns : List Turn). slice_get turns (length era.events)) (turns-more (opening s) era.events came)
       ∙ ap (slice_get (turns_of s era.events ++ (step (after s era.events) came).turn ∷ [])) (sym (turns-long (opening s) era.events))

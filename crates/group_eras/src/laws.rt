@@ -1,5 +1,5 @@
 ghost use Rattle.group_eras.specs.Moments.{CarriesAreShort, CountsAreLow, ItemsAreGot, LoadsAreFew, ReadsMayCome, SetsMayCome, UntilsAreLow};
-ghost use Rattle.group_eras.specs.Numbers.{OthersTellNone};
+ghost use Rattle.group_eras.specs.Numbers.{OthersTellNone, RepliesAreLogged, TicketsAreNew};
 ghost use Rattle.group_eras.specs.Promise.{CarriesKeep, ErasAreRuns};
 ghost use Rattle.group_eras.specs.Worked.{LogIsAsWorked, MayBeWorked};
 
@@ -53,6 +53,16 @@ pub fn carries_are_short()
 /// Only an ask is answered with numbers of a partition, so that no base is left out.
 pub fn others_tell_none()
     ensures { OthersTellNone }
+{}
+
+/// The reply to an ask, as it is told, is that of its entry in the log over all eras.
+pub fn replies_are_logged()
+    ensures { RepliesAreLogged }
+{}
+
+/// A ticket's number is above those of all updates that the log over all eras has of its partition.
+pub fn tickets_are_new()
+    ensures { TicketsAreNew }
 {}
 
 /// A carry over the loss of a process, worked out: all of it may happen.
