@@ -3,6 +3,9 @@
 #![tactic(auto)]
 
 #[cfg(test)]
+#[cfg(test)]
+mod calls;
+#[cfg(test)]
 mod counting;
 #[cfg(test)]
 mod row;
