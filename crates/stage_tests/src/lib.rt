@@ -3,7 +3,6 @@
 #![tactic(auto)]
 
 #[cfg(test)]
-#[cfg(test)]
 mod calls;
 #[cfg(test)]
 mod counting;
