@@ -23,6 +23,7 @@ use Rattle.scenario_text.specs.declared.verb.StoreMode.TheVariants.{Set, Add, Re
 use Rattle.scenario_text.specs.declared.verb.Verb.{Verb}
 use Rattle.scenario_text.specs.declared.verb.Verb.TheVariants as verb
 use Rattle.group_eras.specs.Range.{HasLowExpiry, IsLow}
+use Rattle.regroup_run.specs.Meaning.{IsLowLine}
 
 negative-low : (n : ℕ) → IsLow (neg_ℤ (pos n))
 negative-low zero = omega arith
@@ -123,11 +124,6 @@ act_of-low : (words : List (List ℕ)) (a : Act) → act_of words ≡ Some a →
 act_of-low [] a is = cc is
 act_of-low (name ∷ []) a is = cc is
 act_of-low (name ∷ key ∷ words) a is = let v = bound (verb_of name) _ a is in act_by-low v.0 key words a v.2
-
--- an ask asks for nothing else
-abbrev pub IsLowLine : Line → Type 0
-IsLowLine (Ask caller at act) = HasLowExpiry act
-IsLowLine _ = Unit {0}
 
 low_as : (a l : Line) → Some a ≡ Some l → IsLowLine a → IsLowLine l
 low_as a l is h = let same : a ≡ l = cc is in subst IsLowLine same h

@@ -34,11 +34,11 @@ use Rattle.group_eras.specs.Eras.{Eras, MayMake, carrier, era_step, eras_after, 
 use Rattle.group_eras.specs.Items.{bytes_in}
 use Rattle.group_eras.specs.Promise.{Deed, Carries, Makes}
 use Rattle.group_eras.specs.Refusal.{CanCarry}
-use Rattle.regroup_run.specs.Meaning.{regroup_line, shape_of_numbers, shape_unless, shape_within}
+use Rattle.regroup_run.specs.Meaning.{IsLowLine, regroup_line, shape_of_numbers, shape_unless, shape_within}
 use Rattle.regroup_run.specs.Playing.{EraNext, EraPlay, by_call, by_carry, by_event, by_regroup, by_trace, first_by, has_space, next_by, next_of, refuses, regroup_by, regroups, then_by}
 use Rattle.regroup_run.proofs.Draining.{drains}
 use Rattle.regroup_run.proofs.Leading.{IsLedTo, Leads, makes-lead, world-led}
-use Rattle.regroup_run.proofs.Ranges.{IsLowLine, line_of-low}
+use Rattle.regroup_run.proofs.Ranges.{line_of-low}
 
 -- a script may go on from here
 pub record IsReady (s : Dimensions) (p : EraPlay) : Type 0 where

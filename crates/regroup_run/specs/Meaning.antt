@@ -3,8 +3,11 @@ use Rattle.std.specs.Prelude.{ℕ, ◌^◌, Bool, false, List, [], ◌∷◌, co
 use Rattle.std.specs.Str.{bytes_eq}
 use Rattle.group_types.specs.Dimensions.{Dimensions}
 use Rattle.group_types.specs.declared.shape.Field.{Field}
+use Rattle.group_eras.specs.Range.{HasLowExpiry}
 use Rattle.scenario_text.specs.Meaning.{first_out_of_range}
 use Rattle.scenario_text.specs.Words.{number_below}
+use Rattle.scenario_text.specs.declared.line.Line.{Line}
+use Rattle.scenario_text.specs.declared.line.Line.TheVariants.{Ask}
 use Rattle.scenario_text.specs.declared.line.LineFault.{LineFault}
 use Rattle.scenario_text.specs.declared.line.LineFault.TheVariants.{BadLine, BadShape}
 
@@ -30,3 +33,8 @@ shape_of_numbers k _ _ _ = Err BadLine
 abbrev pub regroup_line : ℕ → List (List ℕ) → Result Dimensions LineFault
 regroup_line k (name ∷ m ∷ blocks ∷ block ∷ []) = shape_of_numbers k (number_below (2 ^ 32) m) (number_below (2 ^ 32) blocks) (number_below (2 ^ 32) block)
 regroup_line k _ = Err BadLine
+
+-- the exptime of an ask, where it brings one, is one of 64 bits
+abbrev pub IsLowLine : Line → Type 0
+IsLowLine (Ask caller at act) = HasLowExpiry act
+IsLowLine _ = Unit {0}
