@@ -1,9 +1,0 @@
-pub mod Asked
-pub mod Counted
-pub mod Draining
-pub mod Fitting
-pub mod Keys
-pub mod Moving
-pub mod Numbers
-pub mod Replied
-pub mod Stepped

@@ -1,4 +1,0 @@
-pub mod Fitting
-pub mod Kept
-pub mod Laws
-pub mod Parts
