@@ -3,7 +3,7 @@ use group_types::{Key, Payload};
 use memc_proto::CallEnd;
 use memc_table::{Act, Op, Reply};
 use stage_caller::StageCaller;
-use std::alloc::Global;
+use std::alloc::{AllocError, Global};
 
 /// Whether a set of a value on a key is acknowledged.
 pub(crate) fn stores(
@@ -15,7 +15,12 @@ pub(crate) fn stores(
     let Some(op) = set(alloc, key, value) else {
         return false;
     };
-    matches!(caller.call(&op), Ok(CallEnd::Reply(Reply::Stored)))
+    is_stored(&caller.call(&op))
+}
+
+/// Whether a call ended as stored.
+pub(crate) fn is_stored(end: &Result<CallEnd, AllocError>) -> bool {
+    matches!(end, Ok(CallEnd::Reply(Reply::Stored)))
 }
 
 /// Whether a get of a key finds this value.
@@ -23,7 +28,11 @@ pub(crate) fn reads(alloc: Global, caller: &mut StageCaller<'_>, key: &[u8], val
     let Some(op) = get(alloc, key) else {
         return false;
     };
-    match caller.call(&op) {
+    is_found(&caller.call(&op), value)
+}
+
+fn is_found(end: &Result<CallEnd, AllocError>, value: &[u8]) -> bool {
+    match end {
         Ok(CallEnd::Reply(Reply::Value(item))) => item.value.bytes() == value,
         _ => false,
     }

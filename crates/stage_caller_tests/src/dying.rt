@@ -3,12 +3,11 @@
 ghost use Rattle.std.specs.Prelude.{◌<◌, IfSome};
 ghost use Rattle.group_stage.specs.Seated.{IsOf, shape_of};
 
-use crate::acts::{reads, set};
+use crate::acts::{is_stored, reads, set};
 use group_calls::Answer;
 use group_stage::{Seat, Stage, StageAnswer};
 use group_types::{ProcessId, Shape, home};
-use memc_proto::CallEnd;
-use memc_table::{Op, Reply};
+use memc_table::Op;
 use stage_caller::StageCaller;
 use std::alloc::{AllocError, Global};
 use std::test::Fail;
@@ -112,10 +111,6 @@ fn ends(stage: &Stage, seat: Seat, op: &Op, call: u64, again: bool) -> bool
     let mut caller = StageCaller::new(stage, seat, false);
     let stored = is_stored(&caller.resume(op, call));
     stored && (1 < caller.into_seat().asks()) == again
-}
-
-fn is_stored(end: &Result<CallEnd, AllocError>) -> bool {
-    matches!(end, Ok(CallEnd::Reply(Reply::Stored)))
 }
 
 // Whether the head dies after so many steps of its update: received by each parity process, and acknowledged to it.
