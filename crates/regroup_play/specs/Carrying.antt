@@ -1,5 +1,5 @@
 -- What a line `regroup` writes.
-use Rattle.std.specs.Prelude.{ℕ, ◌≡◌, ⊤, ⊥, List, [], ◌∷◌, ◌++◌, codes, drop, Option, Some, None, Result, Ok, Err}
+use Rattle.std.specs.Prelude.{ℕ, ◌≡◌, ⊤, List, [], ◌∷◌, ◌++◌, codes, drop, Option, Some, None, Result, Ok, Err}
 use Rattle.std.specs.Fmt.{decimal}
 use Rattle.scenario_run.specs.Marks.{marked_entries}
 use Rattle.scenario_text.specs.declared.line.LineFault.{LineFault}

@@ -1,10 +1,7 @@
 -- What doing a line comes to, and when a line may come.
 use Rattle.std.specs.Prelude.{ℕ, ◌≡◌, ◌≤◌, ◌^◌, ⊤, List, [], ◌∷◌, length, Option, Some, None, Result, Ok, Err}
 use Rattle.group_eras.specs.Promise.{IsLed}
-use Rattle.group_eras.specs.Range.{HasLowExpiry}
 use Rattle.scenario_run.specs.Course.{Ends, Goes, Refused}
-use Rattle.scenario_text.specs.declared.line.Line.{Line}
-use Rattle.scenario_text.specs.declared.line.Line.TheVariants.{Ask}
 use Rattle.scenario_text.specs.declared.line.LineFault.{LineFault}
 use Rattle.scenario_text.specs.declared.line.LineFault.TheVariants.{Want}
 use Rattle.regroup_run.specs.Playing.{EraNext, EraPlay, next_of}
@@ -28,11 +25,6 @@ end_in play (line ∷ lines) = elim (next_of play line) [ Goes next turns text �
 abbrev pub log_len : Option EraPlay → ℕ
 log_len None = 0
 log_len (Some p) = length p.eras.log
-
--- the exptime that a line brings, if it brings one, is of 64 bits
-abbrev pub IsLowLine : Line → Type 0
-IsLowLine (Ask caller at act) = HasLowExpiry act
-IsLowLine _ = Unit {0}
 
 -- the group line, or a line before it, was treated
 abbrev pub HasBegun : EraNext → Result (Option EraPlay) LineFault → Type 0

@@ -1,14 +1,10 @@
-ghost use Rattle.std.specs.Prelude.{◌≡◌, ◌≤◌, ◌<◌, ◌^◌, ◌++◌, ◌∷◌, [], codes, drop, Some, All, IsTrue, IfOk};
-ghost use Rattle.std.specs.Fmt.{decimal};
-ghost use Rattle.group_eras.specs.Eras.{Eras};
+ghost use Rattle.std.specs.Prelude.{◌≤◌, ◌<◌, ◌^◌, Some, All, IsTrue};
 ghost use Rattle.group_eras.specs.Promise.{IsLed};
 ghost use Rattle.group_eras.specs.Refusal.{IsSuccessor};
-ghost use Rattle.group_regroup.specs.Last.{entries_of};
-ghost use Rattle.scenario_run.specs.Marks.{marked_entries};
+ghost use Rattle.group_regroup.specs.Carrying.{IsCarried};
 ghost use Rattle.scenario_play.specs.Player.{text_in};
 ghost use Rattle.regroup_run.specs.Playing.{by_regroup};
-ghost use Rattle.regroup_run.specs.Texts.{era_mark};
-ghost use Rattle.regroup_play.specs.Carrying.{IsCarried, refusal_text};
+ghost use Rattle.regroup_play.specs.Carrying.{HasToldRefusal, IsWrittenAs, carried_text};
 ghost use Rattle.regroup_play.specs.Doing.{HasDone};
 
 use crate::playing::EraPlay;

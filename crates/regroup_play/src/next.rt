@@ -1,25 +1,29 @@
-ghost use Rattle.std.specs.Prelude.{◌≡◌, ◌++◌, ◌∷◌, ◌<◌, ◌≤◌, ◌+◌, [], codes, Some, None, IfSome, IfOk, OnOk};
+ghost use Rattle.std.specs.Prelude.{◌≡◌, ◌++◌, ◌<◌, ◌≤◌, ◌+◌, ◌^◌, codes, Some, None, IfSome, IfOk, OnOk};
 ghost use Rattle.std.specs.Fmt.{decimal};
 ghost use Rattle.group_types.specs.Dimensions.{space_of};
 ghost use Rattle.group_types.specs.Names.{IsProcess};
 ghost use Rattle.group_eras.specs.Eras.{MayMake, carrier};
 ghost use Rattle.group_eras.specs.Promise.{IsLed};
+ghost use Rattle.group_eras.specs.Range.{HasLowExpiry};
 ghost use Rattle.scenario_text.specs.Meaning.{IsLineOf};
 ghost use Rattle.scenario_text.specs.Words as text;
+ghost use Rattle.scenario_text.specs.declared.line.Line.TheVariants as line;
 ghost use Rattle.scenario_run.specs.Playing.{draining};
 ghost use Rattle.scenario_play.specs.Player.{text_in};
 ghost use Rattle.regroup_run.specs.Meaning.{regroup_line};
 ghost use Rattle.regroup_run.specs.Playing.{by_call, by_drain, by_event, by_show, first_by, next_of, regroup_by, regroups, then_by};
-ghost use Rattle.regroup_play.specs.Doing.{HasBegun, HasDone, IsLowLine};
+ghost use Rattle.regroup_run.proofs.Ranges.{IsLowLine};
+ghost use Rattle.regroup_play.specs.Doing.{HasBegun, HasDone};
 
 use crate::carrying::follow_regroup;
 use crate::deliveries::{drain, make};
 use crate::playing::EraPlay;
 use crate::reading::{is_regroup, is_skipped, read_regroup, words_of};
-use crate::showing::write_look;
+use crate::showing::write_look_line;
 use crate::writing::{write_answer_line, write_since};
 use group_calls::Event;
-use group_types::{ProcessId, Run};
+use group_types::{Partition, ProcessId, Run};
+use memc_table::Act;
 use scenario_text::read_line::read_line;
 use scenario_text::{Line, LineFault};
 use std::alloc::{AllocError, Global};
@@ -66,7 +70,7 @@ fn follow(alloc: Global, play: &mut EraPlay, line: &[u8]) -> Result<Option<Vec<u
         follow_words(alloc, play, line)
     } else {
         let line = read_line(alloc, Some(play.shape()), line)?;
-        follow_line(alloc, play, line)
+        follow_line(alloc, play, &line)
     }
 }
 
@@ -97,51 +101,136 @@ fn follow_words(
 fn follow_line(
     alloc: Global,
     play: &mut EraPlay,
-    line: Line,
+    line: &Line,
 ) -> Result<Option<Vec<u8>>, LineFault>
-    requires line { IsLineOf (Some play.old.eras.world.shape) line }
-    requires low { IsLowLine line }
+    requires line { IsLineOf (Some play.old.eras.world.shape) line.now }
+    requires low { IsLowLine line.now }
     requires led { IsLed play.old.eras }
-    ensures { HasDone (Some play.old) (then_by play.old line) (Some play.new) (text_in result) }
+    ensures { HasDone (Some play.old) (then_by play.old line.now) (Some play.new) (text_in result) }
 {
     match line {
         Line::Skipped => Ok(Some(Vec::new(alloc))),
         Line::Group { .. } => Err(LineFault::BadLine),
-        Line::Ask { caller, at, act } => {
-            let op = play.op(act);
-            follow_call(alloc, play, caller, &Event::Ask { caller, op, at })
-        }
-        Line::Collect { caller, call, at } => {
-            follow_call(alloc, play, caller, &Event::Collect { caller, call, at })
-        }
-        Line::Deliver { from, to } => follow_event(alloc, play, &Event::Deliver { from, to }),
-        Line::Fail { at, keep } => follow_event(alloc, play, &Event::Fail { at, keep }),
-        Line::Flush { at } => follow_event(alloc, play, &Event::Flush { at }),
+        Line::Ask { caller, at, act } => follow_ask(alloc, play, *caller, *at, act),
+        Line::Collect { caller, call, at } => follow_collect(alloc, play, *caller, *call, *at),
+        Line::Deliver { from, to } => follow_deliver(alloc, play, *from, *to),
+        Line::Fail { at, keep } => follow_fail(alloc, play, *at, *keep),
+        Line::Flush { at } => follow_flush(alloc, play, *at),
         Line::Trace {
             caller,
             call,
             partition,
             at,
-        } => {
-            if play.regroup.world().asks(caller) <= call {
-                return Err(LineFault::BadLine);
-            }
-            let event = Event::Trace {
-                caller,
-                call,
-                partition,
-                at,
-            };
-            follow_call(alloc, play, caller, &event)
-        }
+        } => follow_trace(alloc, play, *caller, *call, *partition, *at),
         Line::Drain => follow_drain(alloc, play),
-        Line::Show { at, run } => follow_show(alloc, play, at, run),
-        Line::Time { moment } => {
-            play.set_moment(moment);
-            Ok(Some(Vec::new(alloc)))
-        }
+        Line::Show { at, run } => follow_show(alloc, play, *at, *run),
+        Line::Time { moment } => follow_time(alloc, play, *moment),
         Line::Stop => Ok(None),
     }
+}
+
+fn follow_ask(
+    alloc: Global,
+    play: &mut EraPlay,
+    caller: u32,
+    at: ProcessId,
+    act: &Act,
+) -> Result<Option<Vec<u8>>, LineFault>
+    requires line { IsLineOf (Some play.old.eras.world.shape) (line.Ask caller at act.now) }
+    requires low { HasLowExpiry act.now }
+    requires led { IsLed play.old.eras }
+    ensures { HasDone (Some play.old) (then_by play.old (line.Ask caller at act.now)) (Some play.new) (text_in result) }
+{
+    let op = play.op(act.clone()?);
+    follow_call(alloc, play, caller, &Event::Ask { caller, op, at })
+}
+
+fn follow_collect(
+    alloc: Global,
+    play: &mut EraPlay,
+    caller: u32,
+    call: u64,
+    at: ProcessId,
+) -> Result<Option<Vec<u8>>, LineFault>
+    requires line { IsLineOf (Some play.old.eras.world.shape) (line.Collect caller call at) }
+    requires led { IsLed play.old.eras }
+    ensures { HasDone (Some play.old) (then_by play.old (line.Collect caller call at)) (Some play.new) (text_in result) }
+{
+    follow_call(alloc, play, caller, &Event::Collect { caller, call, at })
+}
+
+fn follow_deliver(
+    alloc: Global,
+    play: &mut EraPlay,
+    from: ProcessId,
+    to: ProcessId,
+) -> Result<Option<Vec<u8>>, LineFault>
+    requires line { IsLineOf (Some play.old.eras.world.shape) (line.Deliver from to) }
+    requires led { IsLed play.old.eras }
+    ensures { HasDone (Some play.old) (then_by play.old (line.Deliver from to)) (Some play.new) (text_in result) }
+{
+    follow_event(alloc, play, &Event::Deliver { from, to })
+}
+
+fn follow_fail(
+    alloc: Global,
+    play: &mut EraPlay,
+    at: ProcessId,
+    keep: u32,
+) -> Result<Option<Vec<u8>>, LineFault>
+    requires line { IsLineOf (Some play.old.eras.world.shape) (line.Fail at keep) }
+    requires led { IsLed play.old.eras }
+    ensures { HasDone (Some play.old) (then_by play.old (line.Fail at keep)) (Some play.new) (text_in result) }
+{
+    follow_event(alloc, play, &Event::Fail { at, keep })
+}
+
+fn follow_flush(
+    alloc: Global,
+    play: &mut EraPlay,
+    at: ProcessId,
+) -> Result<Option<Vec<u8>>, LineFault>
+    requires line { IsLineOf (Some play.old.eras.world.shape) (line.Flush at) }
+    requires led { IsLed play.old.eras }
+    ensures { HasDone (Some play.old) (then_by play.old (line.Flush at)) (Some play.new) (text_in result) }
+{
+    follow_event(alloc, play, &Event::Flush { at })
+}
+
+fn follow_trace(
+    alloc: Global,
+    play: &mut EraPlay,
+    caller: u32,
+    call: u64,
+    partition: Partition,
+    at: ProcessId,
+) -> Result<Option<Vec<u8>>, LineFault>
+    requires line { IsLineOf (Some play.old.eras.world.shape) (line.Trace caller call partition at) }
+    requires led { IsLed play.old.eras }
+    ensures { HasDone (Some play.old) (then_by play.old (line.Trace caller call partition at)) (Some play.new) (text_in result) }
+{
+    if play.regroup.world().asks(caller) <= call {
+        return Err(LineFault::BadLine);
+    }
+    let event = Event::Trace {
+        caller,
+        call,
+        partition,
+        at,
+    };
+    follow_call(alloc, play, caller, &event)
+}
+
+fn follow_time(
+    alloc: Global,
+    play: &mut EraPlay,
+    moment: u64,
+) -> Result<Option<Vec<u8>>, LineFault>
+    requires { moment ≤ 2 ^ 62 }
+    ensures { HasDone (Some play.old) (then_by play.old (line.Time moment)) (Some play.new) (text_in result) }
+{
+    play.set_moment(moment);
+    Ok(Some(Vec::new(alloc)))
 }
 
 /// Treats a call of a caller, which is refused of the one that carries.
@@ -209,7 +298,5 @@ fn follow_show(
     requires run { run.at + run.len ≤ space_of play.now.eras.world.shape }
     ensures { HasDone (Some play.now) (by_show play.now at run) (Some play.now) (text_in result) }
 {
-    let mut text = write_look(alloc, &play.regroup, at, run)?;
-    text.push(b'\n')?;
-    Ok(Some(text))
+    Ok(Some(write_look_line(alloc, &play.regroup, at, run)?))
 }

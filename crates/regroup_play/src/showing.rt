@@ -1,4 +1,4 @@
-ghost use Rattle.std.specs.Prelude.{◌≡◌, ◌≤◌, ◌+◌, ◌<◌, length, IfOk};
+ghost use Rattle.std.specs.Prelude.{◌≡◌, ◌≤◌, ◌+◌, ◌<◌, ◌++◌, ◌∷◌, [], length, IfOk};
 ghost use Rattle.group_types.specs.Dimensions.{space_of};
 ghost use Rattle.group_types.specs.Names.{IsProcess};
 ghost use Rattle.group_eras.specs.Eras.{stamp_from, stamp_in};
@@ -11,9 +11,25 @@ use group_types::{Partition, ProcessId, Run};
 use scenario_text::write_shown::write_shown;
 use std::alloc::{AllocError, Global};
 
+/// What a process shows, on a line.
+pub(crate) fn write_look_line(
+    alloc: Global,
+    regroup: &Regroup,
+    at: ProcessId,
+    run: Run,
+) -> Result<Vec<u8>, AllocError>
+    requires process { IsProcess regroup.now.world.shape at }
+    requires run { run.at + run.len ≤ space_of regroup.now.world.shape }
+    ensures { IfOk result (λ text. text.items ≡ look regroup.now at (held regroup.now.world at run) ++ 10 ∷ []) }
+{
+    let mut text = write_look(alloc, regroup, at, run)?;
+    text.push(b'\n')?;
+    Ok(text)
+}
+
 /// The bytes of a run of a process's space, with its stamp as it is told; or that the group is down, or the process
 /// lost.
-pub(crate) fn write_look(
+fn write_look(
     alloc: Global,
     regroup: &Regroup,
     at: ProcessId,
@@ -64,9 +80,10 @@ fn raised(
     ensures { IfOk result (λ told. told.items ≡ told_stamp regroup.now.bases first numbers.now) }
 {
     let mut told = Vec::new(alloc);
+    let mut partition = first;
     'numbers: for number in numbers {
-        let partition = first + told.len() as u32;
         told.push(with_base(regroup, partition, *number)?)?;
+        partition += 1;
     }
     Ok(told)
 }

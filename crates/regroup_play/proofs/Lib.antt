@@ -1,0 +1,3 @@
+pub mod Lines
+pub mod Shapes
+pub mod Whole
