@@ -1,3 +1,8 @@
+pub mod Bases
+pub mod Delivering
+pub mod Judging
 pub mod Lines
+pub mod Logged
 pub mod Shapes
 pub mod Whole
+pub mod Written

@@ -1,12 +1,14 @@
 -- What a line `regroup` writes.
 use Rattle.std.specs.Prelude.{ℕ, ◌≡◌, ⊤, List, [], ◌∷◌, ◌++◌, codes, drop, Option, Some, None, Result, Ok, Err}
 use Rattle.std.specs.Fmt.{decimal}
+use Rattle.group_types.specs.Dimensions.{Dimensions}
 use Rattle.scenario_run.specs.Marks.{marked_entries}
 use Rattle.scenario_text.specs.declared.line.LineFault.{LineFault}
 use Rattle.scenario_text.specs.declared.line.LineFault.TheVariants as line
 use Rattle.group_eras.specs.Eras.{Eras}
 use Rattle.group_eras.specs.declared.fault.CarryFault.{CarryFault}
 use Rattle.group_eras.specs.declared.fault.CarryFault.TheVariants.{Down, NoSpace, NotDrained, Want}
+use Rattle.group_regroup.specs.Carrying.{IsCarried}
 use Rattle.group_regroup.specs.Last.{entries_of}
 use Rattle.regroup_run.specs.Texts.{era_mark}
 
@@ -35,3 +37,8 @@ abbrev pub HasToldRefusal : CarryFault → Result (Option (List ℕ)) LineFault 
 HasToldRefusal Want (Err line.Want) = ⊤
 HasToldRefusal Want _ = ⊥
 HasToldRefusal fault result = IsWrittenAs (refusal_text fault) result
+
+-- a carry came to what it should, or there was no memory
+abbrev pub MayHaveCarried : Eras → Eras → Dimensions → Result ℕ CarryFault → Type 0
+MayHaveCarried before now s (Err Want) = ⊤
+MayHaveCarried before now s result = IsCarried before now s result

@@ -79,6 +79,7 @@ fn raised(
     requires { first + length numbers.now ≤ regroup.now.world.shape.k }
     ensures { IfOk result (λ told. told.items ≡ told_stamp regroup.now.bases first numbers.now) }
 {
+    regroup.world().run();
     let mut told = Vec::new(alloc);
     let mut partition = first;
     'numbers: for number in numbers {
