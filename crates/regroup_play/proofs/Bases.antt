@@ -1,5 +1,5 @@
 -- There is a base for each partition.
-use Rattle.std.proofs.Common.{ℕ, suc, ◌≡◌, ◌<◌, ◌+◌, List, [], ◌∷◌, length, refl, sym, ap, subst, ◌∙◌, arith}
+use Rattle.std.proofs.Common.{ℕ, suc, ◌≡◌, ◌<◌, ◌+◌, List, [], ◌∷◌, length, take, refl, sym, ap, subst, ◌∙◌, arith}
 use Rattle.std.specs.Prelude.{All}
 use Rattle.std.proofs.lemmas.List.{length-replicate}
 use Rattle.std.proofs.lemmas.List.Elements.{All-cons, All-nil}
@@ -35,7 +35,7 @@ carried-sized e s same =
 done-sized : (e : Eras) (deed : Deed) → MayBeDone e deed → IsSized e → IsSized (done e deed)
 done-sized e (Makes x) may sized = sized
 done-sized e (Carries s) may sized = carried-sized e s may.0.partitions
-done-sized e (Begins many) may sized = after-sized e _ sized
+done-sized e (Begins many) may sized = after-sized e (take many (reading e.world).events) sized
 
 all-sized : (e : Eras) (deeds : List Deed) → MayAllBeDone e deeds → IsSized e → IsSized (all_done e deeds)
 all-sized e [] may sized = sized

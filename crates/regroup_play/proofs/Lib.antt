@@ -4,5 +4,6 @@ pub mod Judging
 pub mod Lines
 pub mod Logged
 pub mod Shapes
+pub mod Stamps
 pub mod Whole
 pub mod Written
