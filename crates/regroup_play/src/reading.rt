@@ -1,6 +1,6 @@
 ghost use Rattle.std.specs.Prelude.{◌≡◌, ◌==◌, map, IfOk};
 ghost use Rattle.std.specs.List.{slice_split};
-ghost use Rattle.group_eras.specs.Refusal.{IsSuccessor};
+ghost use Rattle.group_types.specs.Shape.{IsShape};
 ghost use Rattle.scenario_text.specs.Meaning.{is_skipped};
 ghost use Rattle.scenario_text.specs.Reads.{IsMeaning};
 ghost use Rattle.regroup_run.specs.Meaning.{is_regroup, regroup_line, shape_within};
@@ -39,7 +39,8 @@ pub(crate) fn is_regroup(words: &[&[u8]]) -> bool
 
 /// The shape that the words `regroup <m> <blocks> <block>` name, for a group of so many partitions.
 pub(crate) fn read_regroup(k: u32, words: &[&[u8]]) -> Result<Shape, LineFault>
-    ensures { IsMeaning result (regroup_line k (map (λ word. word.now) words.now)) }
+    ensures meaning { IsMeaning result (regroup_line k (map (λ word. word.now) words.now)) }
+    ensures named { IfOk result (λ shape. (IsShape shape) × (shape.k ≡ k)) }
 {
     match words {
         [_, m, blocks, block] => {
@@ -51,7 +52,8 @@ pub(crate) fn read_regroup(k: u32, words: &[&[u8]]) -> Result<Shape, LineFault>
 }
 
 fn shape_of(k: u32, m: u32, blocks: u32, block: u32) -> Result<Shape, LineFault>
-    ensures { IsMeaning result (shape_within (record { k = k; m = m; blocks = blocks; block = block })) }
+    ensures meaning { IsMeaning result (shape_within (record { k = k; m = m; blocks = blocks; block = block })) }
+    ensures named { IfOk result (λ shape. (IsShape shape) × (shape.k ≡ k)) }
 {
     match Shape::new(k, m, blocks, block) {
         Ok(shape) => Ok(shape),
