@@ -23,11 +23,10 @@ use Rattle.group_eras.specs.Refusal.{CanCarry, IsFirstTooLong}
 use Rattle.group_eras.specs.declared.fault.CarryFault.{CarryFault}
 use Rattle.group_eras.specs.declared.fault.CarryFault.TheVariants.{Down, NoSpace, NotDrained, Want}
 use Rattle.group_eras.proofs.Promises.{eras_are_runs}
-use Rattle.group_regroup.specs.Carrying.{IsCarried}
 use Rattle.scenario_run.specs.Course.{Ends, Goes, Refused}
 use Rattle.regroup_run.specs.Playing.{EraNext, EraPlay, by_carry, by_regroup, has_space, logged_since, refuses}
 use Rattle.regroup_run.specs.Texts.{era_entries_text}
-use Rattle.regroup_play.specs.Carrying.{HasToldRefusal, IsWrittenAs, MayHaveCarried, carried_text}
+use Rattle.regroup_play.specs.Carrying.{HasCarriedOn, HasToldRefusal, IsWrittenAs, carried_text}
 use Rattle.regroup_play.specs.Doing.{HasDone}
 use Rattle.regroup_play.proofs.Logged.{carried-era, carry-written}
 
@@ -91,16 +90,8 @@ too-long w s d long =
     let there = long.partition in
     one-false (λ x. nat_le (bytes_in w x) (space_of s)) 0 w.shape.k d (omega arith) (omega (arith, there)) (above (bytes_in w d) (space_of s) long.long)
 
--- a carry of this crate's, by one of the eras'
-pub may-carried : (e f : Eras) (s : Dimensions) (r : Result ℕ CarryFault) → IsCarried e f s r → MayHaveCarried e f s r
-may-carried e f s (Ok n) carried = carried
-may-carried e f s (Err Down) carried = carried
-may-carried e f s (Err NotDrained) carried = carried
-may-carried e f s (Err (NoSpace d)) carried = carried
-may-carried e f s (Err Want) carried = tt
-
 -- the era goes on
-pub era-low : (e f : Eras) (s : Dimensions) (n era : ℕ) → IsCarried e f s (Ok n) → era ≡ e.era → era ≤ f.era
+pub era-low : (e f : Eras) (s : Dimensions) (n era : ℕ) → HasCarriedOn e f s (Ok n) → era ≡ e.era → era ≤ f.era
 era-low e f s n era (can, is, many) same = let later = ap (λ (g : Eras). g.era) is ∙ carried-era e s in omega (arith, same, later)
 
 module _ (p : EraPlay) (s : Dimensions) where
@@ -129,7 +120,7 @@ module _ (p : EraPlay) (s : Dimensions) where
     by (Err line.BadLine) written = absurd written
     by (Err (line.BadShape field)) written = absurd written
 
-  pub carry-done : (f : Eras) (n era from : ℕ) (r : Result (Option (List ℕ)) LineFault) → IsLed p.eras → IsCarried p.eras f s (Ok n) → era ≡ p.eras.era → from ≡ length p.eras.world.log
+  pub carry-done : (f : Eras) (n era from : ℕ) (r : Result (Option (List ℕ)) LineFault) → IsLed p.eras → HasCarriedOn p.eras f s (Ok n) → era ≡ p.eras.era → from ≡ length p.eras.world.log
       → IsWrittenAs (carried_text f era from n) r → HasDone (Some p) (by_regroup p s) (Some (record { eras = f; moment = p.moment })) r
   carry-done f n era from r led (can, is, many) era_is from_is written =
       written-done (by_regroup p s) (record { eras = f; moment = p.moment }) (Carries s ∷ []) wanted (carried_text f era from n) r
@@ -147,7 +138,7 @@ module _ (p : EraPlay) (s : Dimensions) where
   refusal-at text f wanted r next same is written =
       subst (λ (g : Eras). HasDone (Some p) (by_regroup p s) (Some (record { eras = g; moment = p.moment })) r) (sym same) (written-done (by_regroup p s) p [] (text ++ 10 ∷ []) wanted r next is written)
 
-  pub refusal-done : (f : Eras) (fault : CarryFault) (r : Result (Option (List ℕ)) LineFault) → IsLed p.eras → MayHaveCarried p.eras f s (Err fault) → HasToldRefusal fault r
+  pub refusal-done : (f : Eras) (fault : CarryFault) (r : Result (Option (List ℕ)) LineFault) → IsLed p.eras → HasCarriedOn p.eras f s (Err fault) → HasToldRefusal fault r
       → HasDone (Some p) (by_regroup p s) (Some (record { eras = f; moment = p.moment })) r
   refusal-done f Down r led (down, same) told = refusal-at (codes "down") f (codes "down\n") r (asked true _ _ (is-down p.eras.world down) refl refl) same refl told
   refusal-done f NotDrained r led (moving, same) told =

@@ -5,10 +5,11 @@ use Rattle.group_types.specs.Dimensions.{Dimensions}
 use Rattle.scenario_run.specs.Marks.{marked_entries}
 use Rattle.scenario_text.specs.declared.line.LineFault.{LineFault}
 use Rattle.scenario_text.specs.declared.line.LineFault.TheVariants as line
+use Rattle.group_eras.specs.Carry.{carried, many_carried}
 use Rattle.group_eras.specs.Eras.{Eras}
+use Rattle.group_eras.specs.Refusal.{CanCarry, IsRefused}
 use Rattle.group_eras.specs.declared.fault.CarryFault.{CarryFault}
 use Rattle.group_eras.specs.declared.fault.CarryFault.TheVariants.{Down, NoSpace, NotDrained, Want}
-use Rattle.group_regroup.specs.Carrying.{IsCarried}
 use Rattle.group_regroup.specs.Last.{entries_of}
 use Rattle.regroup_run.specs.Texts.{era_mark}
 
@@ -38,7 +39,8 @@ HasToldRefusal Want (Err line.Want) = ⊤
 HasToldRefusal Want _ = ⊥
 HasToldRefusal fault result = IsWrittenAs (refusal_text fault) result
 
--- a carry came to what it should, or there was no memory
-abbrev pub MayHaveCarried : Eras → Eras → Dimensions → Result ℕ CarryFault → Type 0
-MayHaveCarried before now s (Err Want) = ⊤
-MayHaveCarried before now s result = IsCarried before now s result
+-- items were carried, where that could be; or nothing was, for this reason; or there was no memory
+abbrev pub HasCarriedOn : Eras → Eras → Dimensions → Result ℕ CarryFault → Type 0
+HasCarriedOn before now s (Ok n) = CanCarry before.world s × (now ≡ carried before s) × (n ≡ many_carried before)
+HasCarriedOn before now s (Err Want) = ⊤
+HasCarriedOn before now s (Err fault) = IsRefused before.world s fault × (now ≡ before)

@@ -3,7 +3,7 @@ ghost use Rattle.group_eras.specs.Promise.{IsLed};
 ghost use Rattle.group_eras.specs.Refusal.{IsSuccessor};
 ghost use Rattle.scenario_play.specs.Player.{text_in};
 ghost use Rattle.regroup_run.specs.Playing.{by_regroup};
-ghost use Rattle.regroup_play.specs.Carrying.{HasToldRefusal, IsWrittenAs, MayHaveCarried, carried_text};
+ghost use Rattle.regroup_play.specs.Carrying.{HasCarriedOn, HasToldRefusal, IsWrittenAs, carried_text};
 ghost use Rattle.regroup_play.specs.Doing.{HasDone};
 
 use crate::playing::EraPlay;
@@ -42,7 +42,7 @@ pub(crate) fn follow_regroup(
 fn carry(regroup: &mut Regroup, shape: Shape) -> Result<u64, CarryFault>
     requires led { IsLed regroup.old }
     requires successor { IsSuccessor regroup.old.world shape }
-    ensures { MayHaveCarried regroup.old regroup.new shape result }
+    ensures { HasCarriedOn regroup.old regroup.new shape result }
 {
     if MOST_EVENTS <= regroup.world().events() || !has_low_bases(regroup) {
         return Err(CarryFault::Want);
