@@ -2,6 +2,7 @@ pub mod Asked
 pub mod Counted
 pub mod Draining
 pub mod Fitting
+pub mod Tries
 pub mod Keys
 pub mod Moving
 pub mod Numbers

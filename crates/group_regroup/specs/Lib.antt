@@ -2,3 +2,4 @@ pub mod Fitting
 pub mod Kept
 pub mod Laws
 pub mod Parts
+pub mod Reading

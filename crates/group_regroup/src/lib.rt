@@ -5,6 +5,7 @@
 
 mod changing;
 mod drain;
+mod getting;
 mod regroup;
 mod stepping;
 mod telling;
