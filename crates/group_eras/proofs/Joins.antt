@@ -1,5 +1,5 @@
 -- The table over all eras and that of the current one, op by op.
-use Rattle.std.proofs.Common.{ℕ, suc, ◌≡◌, ◌≢◌, ◌<◌, ◌≤◌, ◌+◌, ◌==◌, nat_le, Bool, true, false, List, [], ◌∷◌, ◌++◌, length, map, Option, Some, None, if◌then◌else◌, ◌⊎◌, inl, inr, refl, sym, ap, ap₂, subst, ◌∙◌, arith}
+use Rattle.std.proofs.Common.{ℕ, ◌≡◌, ◌≢◌, ◌<◌, ◌≤◌, ◌+◌, ◌==◌, nat_le, Bool, true, false, List, [], ◌∷◌, ◌++◌, length, map, Option, Some, None, if◌then◌else◌, ◌⊎◌, inl, inr, refl, sym, ap, subst, ◌∙◌, arith}
 use Rattle.std.specs.Prelude.{slice_index, slice_set}
 use Rattle.std.proofs.lemmas.Bool.{cases_eq}
 use Rattle.std.proofs.lemmas.List.{get_or-set_other, get_or-set_same, length-set}
@@ -8,7 +8,7 @@ use Rattle.group_types.specs.Hash.{home_of}
 use Rattle.group_types.specs.Lists.{at, same_key}
 use Rattle.memc_table.specs.Act.{key_of}
 use Rattle.memc_table.specs.Asked.{Asked}
-use Rattle.memc_table.specs.Contents.{Contents, after_ruling, count_of, holding_at, partition_of, reply_in, reply_of, ruling_on, table_after}
+use Rattle.memc_table.specs.Contents.{Contents, after_ruling, count_of, partition_of, reply_in, reply_of, ruling_on, table_after}
 use Rattle.memc_table.specs.Expiry.{live_at}
 use Rattle.memc_table.specs.Numeral.{number_of}
 use Rattle.memc_table.specs.Ruling.{changed, joined, longest_value, lowered, raised, ruling_of}
@@ -168,7 +168,7 @@ module _ (bases : Bases) (k : ℕ) (some : 1 ≤ k) (Free : List ℕ → Type 0)
 
         by : (r : Ruling) → Tells r → reply_in (shift_ruling bases (home key) r) ≡ told_reply bases (home key) (reply_in r)
         by (Refused reply) tells = refl
-        by (Accepted reply leaves) tells = sym (tells bases (home key))
+        by (Accepted reply left) tells = sym (tells bases (home key))
 
     after : (key : List ℕ) (r : Ruling) → LeavesCas r → Joined (after_ruling all key (shift_ruling bases (home key) r)) (after_ruling own key r)
     after key (Refused reply) has = joined
@@ -207,7 +207,7 @@ module _ (bases : Bases) (k : ℕ) (some : 1 ≤ k) (Free : List ℕ → Type 0)
       item other true is =
           let here : key ≡ other = key-eq key other is in
           inl (Alike (ap (λ (t : Bool). if t then shift bases (home key) left else all.items other) is
-              ∙ ap (λ (q : List ℕ). shift bases (home q) left) here ∙ ap (λ (t : Bool). shift bases (home other) (if t then left else own.items other)) (sym is))
+          ∙ ap (λ (q : List ℕ). shift bases (home q) left) here ∙ ap (λ (t : Bool). shift bases (home other) (if t then left else own.items other)) (sym is))
           (subst (λ (t : Bool). HasCas (if t then left else own.items other)) (sym is) has))
       item other false is = subst (λ (t : Bool). Meets other (if t then shift bases (home key) left else all.items other) (if t then left else own.items other)) (sym is) (joined.items other)
 

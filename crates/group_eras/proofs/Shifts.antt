@@ -1,10 +1,10 @@
 -- An op on an item whose cas number is told with a base comes to what it comes to in the era, told with the base.
-use Rattle.std.proofs.Common.{ℕ, zero, suc, ◌≡◌, ◌≢◌, ◌<◌, ◌≤◌, ◌+◌, ◌-◌, ◌==◌, nat_le, nat_lt, Bool, true, false, List, [], ◌∷◌, ◌++◌, length, Option, Some, None, if◌then◌else◌, ◌⊎◌, inl, inr, refl, sym, ap, ap₂, subst, ◌∙◌, arith}
+use Rattle.std.proofs.Common.{ℕ, ◌≡◌, ◌≢◌, ◌≤◌, ◌==◌, nat_le, nat_lt, Bool, true, false, List, ◌++◌, length, Option, Some, None, if◌then◌else◌, ◌⊎◌, inl, inr, refl, sym, ap, ◌∙◌, arith}
 use Rattle.std.proofs.lemmas.Bool.{cases_eq, eq-eqb, ne_eqb}
 use Rattle.std.proofs.lemmas.Grind.{common_steps}
 use Rattle.memc_table.specs.Expiry.{is_live, live_at}
 use Rattle.memc_table.specs.Numeral.{number_of}
-use Rattle.memc_table.specs.Ruling.{counted, joined, longest_value, lowered, raised, ruling_of}
+use Rattle.memc_table.specs.Ruling.{joined, longest_value, lowered, raised, ruling_of}
 use Rattle.memc_table.specs.declared.act.Act.{Act}
 use Rattle.memc_table.specs.declared.act.Act.TheVariants.{Add, Append, Cas, Decr, Delete, Get, Incr, Prepend, Replace, Set, Touch}
 use Rattle.memc_table.specs.declared.holding.Holding.{Holding}

@@ -1,7 +1,10 @@
 pub mod Carry
 pub mod Eras
 pub mod Items
+pub mod Moments
+pub mod Numbers
 pub mod Promise
 pub mod Range
 pub mod Refusal
 pub mod Told
+pub mod Worked

@@ -129,12 +129,18 @@ pub record HasPromise (e : Eras) : Type 0 where
   pub era : IsEra e
   pub legal : IsLegal e.world.shape.k (one_log e)
 
+-- eras to which deeds led, from a group in which no event was made
+pub record IsLed (e : Eras) : Type 0 where
+  pub s : Dimensions
+  pub limits : IsShape s
+  pub deeds : List Deed
+  pub may : MayAllBeDone (first_era (opening s)) deeds
+  pub is : e ≡ all_done (first_era (opening s)) deeds
+
 -- so it is whatever happens
 abbrev pub ErasAreRuns : Type 0
-ErasAreRuns = (s : Dimensions) (deeds : List Deed) → IsShape s → MayAllBeDone (first_era (opening s)) deeds → HasPromise (all_done (first_era (opening s)) deeds)
+ErasAreRuns = (e : Eras) → IsLed e → HasPromise e
 
 -- and nothing is lost in a carry
 abbrev pub CarriesKeep : Type 0
-CarriesKeep = (s next : Dimensions) (deeds : List Deed) → IsShape s → MayAllBeDone (first_era (opening s)) deeds
-    → IsSuccessor (all_done (first_era (opening s)) deeds).world next → CanCarry (all_done (first_era (opening s)) deeds).world next
-    → HasCarried (all_done (first_era (opening s)) deeds) next
+CarriesKeep = (e : Eras) (s : Dimensions) → IsLed e → IsSuccessor e.world s → CanCarry e.world s → HasCarried e s

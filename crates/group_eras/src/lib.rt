@@ -5,5 +5,6 @@
 #![tactic(auto)]
 
 pub mod fault;
+pub mod laws;
 
 pub use fault::CarryFault;

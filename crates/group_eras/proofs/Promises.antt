@@ -1,0 +1,35 @@
+-- What is promised over eras, whatever happens.
+use Rattle.std.proofs.Common.{List, [], ◌∷◌, sym, subst}
+use Rattle.group_run.specs.World.{opening}
+use Rattle.group_eras.specs.Eras.{Eras, first_era}
+use Rattle.group_eras.specs.Moments.{ItemsAreGot, ReadsMayCome, SetsMayCome}
+use Rattle.group_eras.specs.Promise.{Begins, Carries, CarriesKeep, Deed, ErasAreRuns, IsLed, Makes, MayAllBeDone, MayBeDone, all_done, done}
+use Rattle.group_eras.proofs.Carrying.{all-got, begun-stands, carried-stands, has-carried, run-read, run-set}
+use Rattle.group_eras.proofs.Standing.{Stands, has-promise, stands-first, stands-next}
+
+pub deed-stands : (e : Eras) (deed : Deed) → Stands e → MayBeDone e deed → Stands (done e deed)
+deed-stands e (Makes event) stands may = stands-next e stands event may.may
+deed-stands e (Carries s) stands may = carried-stands e stands may.1.rest s may.0 may.1
+deed-stands e (Begins many) stands may = begun-stands e stands may many
+
+pub all-stand : (e : Eras) (deeds : List Deed) → Stands e → MayAllBeDone e deeds → Stands (all_done e deeds)
+all-stand e [] stands may = stands
+all-stand e (deed ∷ deeds) stands may = all-stand (done e deed) deeds (deed-stands e deed stands may.0) may.1
+
+pub led-stands : (e : Eras) → IsLed e → Stands e
+led-stands e led = subst Stands (sym led.is) (all-stand (first_era (opening led.s)) led.deeds (stands-first led.s led.limits) led.may)
+
+pub eras_are_runs : ErasAreRuns
+eras_are_runs e led = has-promise e (led-stands e led)
+
+pub carries_keep : CarriesKeep
+carries_keep e s led successor can = has-carried e (led-stands e led) can.rest s successor can
+
+pub items_are_got : ItemsAreGot
+items_are_got e led rest = all-got e (led-stands e led) rest
+
+pub reads_may_come : ReadsMayCome
+reads_may_come e led rest = run-read e (led-stands e led) rest
+
+pub sets_may_come : SetsMayCome
+sets_may_come e s led successor can = run-set e (led-stands e led) can.rest s successor can
