@@ -6,5 +6,7 @@ pub mod Tries
 pub mod Keys
 pub mod Moving
 pub mod Numbers
+pub mod Readings
 pub mod Replied
+pub mod SetAll
 pub mod Stepped

@@ -68,7 +68,7 @@ module _ (w : World) (d : ℕ) where
   pub ranks-none : (i : ℕ) → w.shape.m ≤ i → head_of w d ≡ of_rank d (first_living w d (range_with_len (suc i) (w.shape.m - i))) → head_of w d ≡ DataNode d
   ranks-none i high so-far = let none : w.shape.m - i ≡ 0 = omega (arith, high) in so-far ∙ ap (λ (n : ℕ). of_rank d (first_living w d (range_with_len (suc i) n))) none
 
-after-append : (w : World) (es fs : List Event) → world_after w (es ++ fs) ≡ world_after (world_after w es) fs
+pub after-append : (w : World) (es fs : List Event) → world_after w (es ++ fs) ≡ world_after (world_after w es) fs
 after-append w [] fs = refl
 after-append w (e ∷ es) fs = after-append (step w e).world es fs
 
@@ -135,19 +135,19 @@ module _ (w v : World) (get : Event) (value : Option (List ℕ)) (tries : ℕ) (
   pub Trying-part : IsPart w (tried w get).events v
   Trying-part = subst (λ (es : List Event). IsPart w es v) (sym (ap (λ (x : Getting). x.events) t.whole ∙ front tries t.last))
       (part-front w v (t.before ++ get ∷ []) (behind tries t.last) (part-whole w v (t.before ++ get ∷ []) t.after)) where
-    behind : ℕ → WorldStep → List Event
-    behind n s = drop 1 (get_with n get s).events
+        behind : ℕ → WorldStep → List Event
+        behind n s = drop 1 (get_with n get s).events
 
-    begins : (n : ℕ) (s : WorldStep) → (get_with n get s).events ≡ get ∷ drop 1 (get_with n get s).events
-    begins zero s = refl
-    begins (suc n) s = by (is_retry s.turn.answer) where
-      by : (b : Bool) → (if b then got_behind (get ∷ draining s.world) (get_with n get (step (drained s.world) get)) else only_got get s).events
-          ≡ get ∷ drop 1 (if b then got_behind (get ∷ draining s.world) (get_with n get (step (drained s.world) get)) else only_got get s).events
-      by true = refl
-      by false = refl
+        begins : (n : ℕ) (s : WorldStep) → (get_with n get s).events ≡ get ∷ drop 1 (get_with n get s).events
+        begins zero s = refl
+        begins (suc n) s = by (is_retry s.turn.answer) where
+          by : (b : Bool) → (if b then got_behind (get ∷ draining s.world) (get_with n get (step (drained s.world) get)) else only_got get s).events
+              ≡ get ∷ drop 1 (if b then got_behind (get ∷ draining s.world) (get_with n get (step (drained s.world) get)) else only_got get s).events
+          by true = refl
+          by false = refl
 
-    front : (n : ℕ) (s : WorldStep) → (got_behind t.before (get_with n get s)).events ≡ (t.before ++ get ∷ []) ++ drop 1 (get_with n get s).events
-    front n s = ap (λ (es : List Event). t.before ++ es) (begins n s) ∙ sym (append_assoc t.before (get ∷ []) (drop 1 (get_with n get s).events))
+        front : (n : ℕ) (s : WorldStep) → (got_behind t.before (get_with n get s)).events ≡ (t.before ++ get ∷ []) ++ drop 1 (get_with n get s).events
+        front n s = ap (λ (es : List Event). t.before ++ es) (begins n s) ∙ sym (append_assoc t.before (get ∷ []) (drop 1 (get_with n get s).events))
 
   module _ (n : ℕ) (more : tries ≡ suc n) (none : value ≡ None) where
     now : List Event
@@ -173,16 +173,16 @@ module _ (w v : World) (get : Event) (value : Option (List ℕ)) (tries : ℕ) (
     pub again-part : (u : World) → IsPart (drained v) (get ∷ []) u → IsPart w (tried w get).events u
     again-part u part = subst (λ (es : List Event). IsPart w es u) (sym (ap (λ (x : Getting). x.events) whole-next ∙ begins-next))
         (part-front w u ((t.before ++ get ∷ draining v) ++ get ∷ []) (drop 1 (get_with n get (step (drained v) get)).events) (part-back w (drained v) u (t.before ++ get ∷ draining v) (get ∷ []) led-now part)) where
-      begins : (n : ℕ) (s : WorldStep) → (get_with n get s).events ≡ get ∷ drop 1 (get_with n get s).events
-      begins zero s = refl
-      begins (suc n) s = by (is_retry s.turn.answer) where
-        by : (b : Bool) → (if b then got_behind (get ∷ draining s.world) (get_with n get (step (drained s.world) get)) else only_got get s).events
-            ≡ get ∷ drop 1 (if b then got_behind (get ∷ draining s.world) (get_with n get (step (drained s.world) get)) else only_got get s).events
-        by true = refl
-        by false = refl
+          begins : (n : ℕ) (s : WorldStep) → (get_with n get s).events ≡ get ∷ drop 1 (get_with n get s).events
+          begins zero s = refl
+          begins (suc n) s = by (is_retry s.turn.answer) where
+            by : (b : Bool) → (if b then got_behind (get ∷ draining s.world) (get_with n get (step (drained s.world) get)) else only_got get s).events
+                ≡ get ∷ drop 1 (if b then got_behind (get ∷ draining s.world) (get_with n get (step (drained s.world) get)) else only_got get s).events
+            by true = refl
+            by false = refl
 
-      begins-next : (t.before ++ get ∷ draining v) ++ (get_with n get (step (drained v) get)).events ≡ ((t.before ++ get ∷ draining v) ++ get ∷ []) ++ drop 1 (get_with n get (step (drained v) get)).events
-      begins-next = ap (λ (es : List Event). (t.before ++ get ∷ draining v) ++ es) (begins n (step (drained v) get)) ∙ sym (append_assoc (t.before ++ get ∷ draining v) (get ∷ []) _)
+          begins-next : (t.before ++ get ∷ draining v) ++ (get_with n get (step (drained v) get)).events ≡ ((t.before ++ get ∷ draining v) ++ get ∷ []) ++ drop 1 (get_with n get (step (drained v) get)).events
+          begins-next = ap (λ (es : List Event). (t.before ++ get ∷ draining v) ++ es) (begins n (step (drained v) get)) ∙ sym (append_assoc (t.before ++ get ∷ draining v) (get ∷ []) _)
 
     pub Trying-next : (u x : World) (found : Option (List ℕ)) → u ≡ drained v → ¬ (IsDown x) → x ≡ (step u get).world → IsFound (step u get).turn.answer found → Trying w get x found n
     Trying-next u x found drained_is up is found_is = record {

@@ -1,4 +1,5 @@
 pub mod Fitting
+pub mod Items
 pub mod Kept
 pub mod Laws
 pub mod Parts

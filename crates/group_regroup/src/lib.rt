@@ -6,7 +6,10 @@
 mod changing;
 mod drain;
 mod getting;
+mod items;
+mod reading;
 mod regroup;
+mod setting;
 mod stepping;
 mod telling;
 
