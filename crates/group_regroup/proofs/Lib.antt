@@ -6,6 +6,7 @@ pub mod Tries
 pub mod Keys
 pub mod Moving
 pub mod Numbers
+pub mod Places
 pub mod Readings
 pub mod Replied
 pub mod SetAll

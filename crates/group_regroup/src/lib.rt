@@ -5,8 +5,10 @@
 
 mod changing;
 mod drain;
+mod entries;
 mod getting;
 mod items;
+mod log;
 mod reading;
 mod regroup;
 mod setting;

@@ -33,8 +33,7 @@ fn set(world: &mut World, parcel: Parcel) -> Result<(), AllocError>
     ensures up { OnOk result (¬ (IsDown world.new)) }
     ensures world { OnOk result (world.new ≡ drained (step world.old (set_of (parcel_as parcel))).world) }
 {
-    let expiry = expiry(parcel.item.until)?;
-    let event = event_of(parcel, expiry);
+    let event = event_of(parcel)?;
     set_event(world, event)
 }
 
@@ -49,11 +48,12 @@ fn set_event(world: &mut World, event: Event) -> Result<(), AllocError>
     drain(world)
 }
 
-/// The set of an item with this exptime, at its data process.
-fn event_of(parcel: Parcel, expiry: i64) -> Event
-    ensures event { expiry ≡ expiry_of parcel.item.until → result ≡ set_of (parcel_as parcel) }
-    ensures bytes { All (λ b. b < 256) parcel.value }
+/// The set of an item at its data process.
+fn event_of(parcel: Parcel) -> Result<Event, AllocError>
+    ensures event { IfOk result (λ event. event ≡ set_of (parcel_as parcel)) }
+    ensures bytes { IfOk result (λ _. All (λ b. b < 256) parcel.value) }
 {
+    let expiry = expiry(parcel.item.until)?;
     let Parcel { item, value } = parcel;
     let act = Act::Set {
         key: item.key,
@@ -62,11 +62,11 @@ fn event_of(parcel: Parcel, expiry: i64) -> Event
         value,
     };
     values_are_bytes(&act);
-    Event::Ask {
+    Ok(Event::Ask {
         caller: CARRIER,
         op: Op::new(0, act),
         at: ProcessId::DataNode(item.partition.0),
-    }
+    })
 }
 
 /// The exptime with which an item has this until at the moment 0.
