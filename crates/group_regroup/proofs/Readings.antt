@@ -1,11 +1,10 @@
 -- How items are read, one after the other.
-use Rattle.std.proofs.Common.{◌≡◌, ℕ, zero, suc, ◌<◌, Bool, true, false, if◌then◌else◌, List, [], ◌∷◌, ◌++◌, map, take, refl, sym, ap, subst, ◌∙◌, append_assoc, append-nil}
-use Rattle.std.specs.Prelude.{All}
+use Rattle.std.proofs.Common.{◌≡◌, ℕ, zero, suc, ◌<◌, Bool, true, false, if◌then◌else◌, List, [], ◌∷◌, ◌++◌, refl, sym, ap, subst, ◌∙◌, append_assoc, append-nil}
 use Rattle.std.proofs.lemmas.List.Elements.{All-head, All-tail}
 use Rattle.group_types.specs.Dimensions.{Dimensions}
 use Rattle.group_calls.specs.declared.event.Event.{Event}
 use Rattle.group_run.specs.Meaning.{IsDown}
-use Rattle.group_run.specs.World.{World, WorldStep, step, world_after}
+use Rattle.group_run.specs.World.{World, step, world_after}
 use Rattle.group_eras.specs.Carry.{Getting, bytes_of, drained, draining, get_with, got, got_behind, is_retry, only_got, parcel_of, read_all}
 use Rattle.group_eras.specs.Carry as carry
 use Rattle.scenario_run.proofs.Leading.{keeps-shape}

@@ -1,9 +1,8 @@
 -- How items are set, one after the other.
-use Rattle.std.proofs.Common.{◌≡◌, ℕ, ◌<◌, List, [], ◌∷◌, ◌++◌, refl, sym, ap, subst, ◌∙◌, arith}
+use Rattle.std.proofs.Common.{◌≡◌, ◌<◌, List, ◌∷◌, refl, sym, ap, subst, ◌∙◌, arith}
 use Rattle.std.specs.Prelude.{All}
 use Rattle.std.proofs.lemmas.List.Elements.{All-head, All-tail}
 use Rattle.group_types.specs.Dimensions.{Dimensions}
-use Rattle.group_calls.specs.declared.event.Event.{Event}
 use Rattle.group_run.specs.Meaning.{IsDown}
 use Rattle.group_run.specs.World.{World, step, world_after}
 use Rattle.group_eras.specs.Carry.{drained, draining, set_of, setting}

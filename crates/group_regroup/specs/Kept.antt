@@ -1,5 +1,5 @@
 -- What a group over eras keeps, and the eras that it stands for.
-use Rattle.std.specs.Prelude.{ℕ, suc, ◌<◌, ◌≤◌, ◌≡◌, ◌+◌, ◌==◌, ◌^◌, nat_lt, nat_le, Bool, false, ◌&&◌, List, [], ◌∷◌, ◌++◌, length, map, All, Option, Some, None, if◌then◌else◌}
+use Rattle.std.specs.Prelude.{ℕ, suc, ◌<◌, ◌≤◌, ◌≡◌, ◌==◌, nat_lt, nat_le, Bool, false, ◌&&◌, List, [], ◌∷◌, ◌++◌, length, map, All, Option, Some, None, if◌then◌else◌}
 use Rattle.std.specs.Option.{unwrap_or}
 use Rattle.group_types.specs.Hash.{home_of}
 use Rattle.group_types.specs.Lists.{at}
@@ -75,3 +75,8 @@ pub record AreKept (w : World) (bases : Bases) (lowered : List Lowered) : Type 0
   pub many : length bases ≡ w.shape.k
   pub low : All IsLowBase bases
   pub within : All (λ x. x.until ≤ length w.log) lowered
+
+-- the entries from a place on, as they are told, without their era
+abbrev pub entries_from : Bases → ℕ → List Lowered → ℕ → List Entry → List Entry
+entries_from bases k lowered place [] = []
+entries_from bases k lowered place (x ∷ xs) = told_at bases k lowered place x ∷ entries_from bases k lowered (suc place) xs

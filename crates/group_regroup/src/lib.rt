@@ -5,6 +5,7 @@
 
 mod changing;
 mod drain;
+mod ending;
 mod entries;
 mod getting;
 mod items;

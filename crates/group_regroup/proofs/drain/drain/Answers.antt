@@ -1,7 +1,7 @@
 use Rattle.std.proofs.Common.{◌<◌, sym, subst}
 use Rattle.group_calls.specs.declared.event.Event.TheVariants.{Deliver}
 use Rattle.group_run.specs.Progress.{load_of}
-use Rattle.group_run.specs.World.{World, step}
+use Rattle.group_run.specs.World.{World}
 use Rattle.group_eras.specs.Carry.{draining}
 use Rattle.group_regroup.specs.Parts.{IsPart}
 use Rattle.group_regroup.proofs.Draining.{Delivering, Delivering-more, Delivering-none, all-made, next-lightens, on-err, part-made}

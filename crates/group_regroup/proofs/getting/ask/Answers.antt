@@ -1,6 +1,5 @@
-use Rattle.std.proofs.Common.{◌≡◌, ℕ, suc, ◌+◌, ◌-◌, ◌<◌, [], ◌∷◌, sym, ap, subst, ◌∙◌, arith}
+use Rattle.std.proofs.Common.{◌≡◌, suc, ◌+◌, ◌-◌, [], ◌∷◌, sym, ap, subst, ◌∙◌, arith}
 use Rattle.group_types.specs.Dimensions.{Dimensions}
-use Rattle.group_calls.specs.declared.event.Event.{Event}
 use Rattle.group_run.specs.World.{World}
 use Rattle.group_eras.specs.Carry.{draining}
 use Rattle.scenario_run.proofs.Leading.{keeps-shape}

@@ -1,4 +1,4 @@
-use Rattle.std.proofs.Common.{◌≡◌, ◌-◌, ◌≤◌, suc}
+use Rattle.std.proofs.Common.{◌≡◌, ◌-◌, suc}
 use Rattle.std.specs.List.{range_with_len}
 use Rattle.group_types.specs.Names.{of_rank}
 use Rattle.group_eras.specs.Items.{first_living, head_of}

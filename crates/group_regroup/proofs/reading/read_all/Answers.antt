@@ -1,4 +1,4 @@
-use Rattle.std.proofs.Common.{◌≡◌, List, [], ◌∷◌, refl, sym, ap, subst, ◌∙◌}
+use Rattle.std.proofs.Common.{List, ◌∷◌, refl, sym, subst}
 use Rattle.group_regroup.specs.declared.items.Item.{Item}
 use Rattle.group_regroup.specs.declared.items.Parcel.{Parcel}
 use Rattle.group_regroup.proofs.Draining.{on-err}

@@ -1,5 +1,4 @@
-use Rattle.std.proofs.Common.{◌≡◌, List, ◌∷◌, sym, subst}
-use Rattle.group_regroup.specs.declared.items.Parcel.{Parcel}
+use Rattle.std.proofs.Common.{sym, subst}
 use Rattle.group_regroup.proofs.SetAll.{Sets, Sets-next, Sets-none, set-within}
 use Rattle.group_regroup.proofs.setting.set_all.Goals as goal
 
