@@ -4,6 +4,8 @@ pub mod Finding
 pub mod Fronts
 pub mod Getting
 pub mod Joins
+pub mod Living
+pub mod Lists
 pub mod Logging
 pub mod Making
 pub mod Resting

@@ -1,5 +1,6 @@
 -- An era stays a run of its own when an event is made in it.
 use Rattle.std.proofs.Common.{ℕ, suc, ◌≡◌, ◌<◌, ◌≤◌, Bool, true, false, List, [], ◌∷◌, ◌++◌, length, map, take, Some, if◌then◌else◌, ◌⊎◌, inl, inr, refl, sym, ap, subst, ◌∙◌, arith}
+use Rattle.group_eras.proofs.Lists.{get-front, map-more, take-front, take-whole}
 use Rattle.std.specs.Prelude.{All, Contains, slice_get}
 use Rattle.std.proofs.lemmas.Option.{slice_get_within}
 use Rattle.std.proofs.lemmas.Bool.{cases_lt}
@@ -32,7 +33,7 @@ use Rattle.law_answers.proofs.Entries.{after-more, run-more, turns-more}
 use Rattle.group_eras.specs.Eras.{EraEntry, Eras, era_step, logged_in_era}
 use Rattle.group_eras.specs.Promise.{AreTold, IsAskOf, IsEra, IsTold, asks_among}
 use Rattle.group_eras.specs.Told.{Bases, event_in, op_in, op_out, told_entry, told_op, told_reply, with_base, with_cas, without_base}
-use Rattle.group_eras.proofs.Asking.{WasAsked, among-all, among-before, among-in, among-map, get-front, map-more, take-front, take-whole, turn-event, turns-asks, turns-long, was-asked}
+use Rattle.group_eras.proofs.Asking.{WasAsked, among-all, among-before, among-in, among-map, turn-event, turns-asks, turns-long, was-asked}
 use Rattle.group_eras.proofs.Joins.{key-cas}
 use Rattle.group_eras.proofs.Logging.{AllHaveCas, BringsCas, accepted-brings, own-or-accepted}
 

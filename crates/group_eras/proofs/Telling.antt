@@ -1,5 +1,6 @@
 -- What an ask is told is what the log over all eras has.
 use Rattle.std.proofs.Common.{ℕ, zero, suc, ◌≡◌, ◌<◌, Bool, false, List, [], ◌∷◌, length, map, Some, if◌then◌else◌, refl, sym, ap, ap₂, subst, ◌∙◌, arith}
+use Rattle.group_eras.proofs.Lists.{contains-map, take-front, take-whole}
 use Rattle.std.specs.Prelude.{Contains, slice_index}
 use Rattle.group_types.specs.Dimensions.{Dimensions}
 use Rattle.group_types.specs.Hash.{home_of}
@@ -38,18 +39,13 @@ use Rattle.group_eras.specs.Eras.{EraEntry, Eras, era_step, turn_in}
 use Rattle.group_eras.specs.Numbers.{RepliesAreLogged, TicketsAreNew}
 use Rattle.group_eras.specs.Promise.{asks_among, table_over}
 use Rattle.group_eras.specs.Told.{Bases, op_in, op_out, told_answer, told_entry, told_reply, with_base, without_base}
-use Rattle.group_eras.proofs.Asking.{take-front, take-whole, turns-asks}
+use Rattle.group_eras.proofs.Asking.{turns-asks}
 use Rattle.group_eras.proofs.Joins.{key-cas}
 use Rattle.group_eras.proofs.Making as making
 use Rattle.group_eras.proofs.Making.{asked-among, may-in}
 use Rattle.group_eras.proofs.Promises.{led-stands}
 use Rattle.group_eras.proofs.Resting.{settled_of, ties-of}
 use Rattle.group_eras.proofs.Standing.{Stands, own_table}
-
-contains-map : {X Y : Type 0} (f : X → Y) (xs : List X) (x : X) → Contains xs x → Contains (map f xs) (f x)
-contains-map f [] x there = absurd (let low = there.1 in omega (arith, low))
-contains-map f (y ∷ ys) x (zero, low, is) = (0, omega arith, ap f is)
-contains-map f (y ∷ ys) x (suc i, low, is) = let rest = contains-map f ys x (i, omega (arith, low), is) in (suc rest.0, (let less = rest.1 in omega (arith, less)), rest.2)
 
 -- what is told as a reply was one, and what is told as a ticket
 told-replied : (bases : Bases) (d : ℕ) (a : Answer) (r : Reply) → told_answer bases d a ≡ says.Reply r → (x : Reply) × (a ≡ says.Reply x) × (told_reply bases d x ≡ r)
