@@ -1,4 +1,5 @@
 pub mod Asked
+pub mod CarriedOver
 pub mod Counted
 pub mod Draining
 pub mod Fitting
@@ -7,7 +8,9 @@ pub mod Keys
 pub mod Moving
 pub mod Numbers
 pub mod Places
+pub mod Plain
 pub mod Readings
+pub mod Renewed
 pub mod Replied
 pub mod SetAll
 pub mod Stepped

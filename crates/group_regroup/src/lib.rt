@@ -9,6 +9,7 @@ mod ending;
 mod entries;
 mod getting;
 mod items;
+mod loading;
 mod log;
 mod reading;
 mod regroup;
