@@ -13,6 +13,7 @@ use Rattle.group_calls.specs.declared.event.Event.{Event}
 use Rattle.group_calls.specs.declared.event.Event.TheVariants.{Ask}
 use Rattle.group_run.specs.World.{World}
 use Rattle.group_eras.specs.Eras.{EraEntry, Eras}
+use Rattle.group_eras.specs.Promise.{IsLed}
 use Rattle.group_eras.specs.Told.{Bases, op_out, told_reply}
 use Rattle.group_regroup.specs.declared.changing.Lowered.{Lowered}
 
@@ -80,3 +81,8 @@ pub record AreKept (w : World) (bases : Bases) (lowered : List Lowered) : Type 0
 abbrev pub entries_from : Bases → ℕ → List Lowered → ℕ → List Entry → List Entry
 entries_from bases k lowered place [] = []
 entries_from bases k lowered place (x ∷ xs) = told_at bases k lowered place x ∷ entries_from bases k lowered (suc place) xs
+
+-- what is kept stands for eras to which deeds led
+pub record AreLed (w : World) (bases : Bases) (past : List (List Entry)) (lowered : List Lowered) : Type 0 where
+  pub kept : AreKept w bases lowered
+  pub led : IsLed (eras_of w bases past lowered)
