@@ -1,12 +1,13 @@
 -- Events of a run and its turns, place by place, and events as they were asked of eras.
-use Rattle.std.proofs.Common.{ℕ, zero, suc, ◌≡◌, ◌<◌, ◌≤◌, ◌+◌, List, [], ◌∷◌, ◌++◌, length, map, take, Some, refl, sym, ap, ◌∙◌, arith}
+use Rattle.std.proofs.Common.{ℕ, zero, suc, ◌≡◌, ◌<◌, ◌+◌, List, [], ◌∷◌, ◌++◌, length, map, take, Some, refl, sym, ap, ◌∙◌, arith}
 use Rattle.std.specs.Prelude.{slice_get}
 use Rattle.group_types.specs.declared.process.ProcessId.{ProcessId}
 use Rattle.memc_table.specs.Asked.{Asked}
 use Rattle.group_calls.specs.Turns.{Turn, asks_in, asks_of}
 use Rattle.group_calls.specs.declared.event.Event.{Event}
 use Rattle.group_calls.specs.declared.event.Event.TheVariants.{Ask, Collect, Deliver, Fail, Flush, Trace}
-use Rattle.group_run.specs.World.{World, step, turns_from}
+use Rattle.group_run.specs.Headline.{IsRunFrom}
+use Rattle.group_run.specs.World.{World, step, turns_from, world_after}
 use Rattle.law_moves.proofs.Reading.{some-same}
 use Rattle.law_log.proofs.Turnings.{asks-self}
 use Rattle.group_eras.specs.Promise.{asks_among}
@@ -38,29 +39,9 @@ among-before caller zero (e ∷ es) op p is =
     let one : asks_in caller e ≡ 1 = ap (asks_in caller) (some-same e (Ask caller op p) is) ∙ asks-self caller op p in omega (arith, one)
 among-before caller (suc j) (e ∷ es) op p is = let rest = among-before caller j es op p is in omega (arith, rest)
 
-pub get-front : {X : Type 0} (xs ys : List X) (j : ℕ) → j < length xs → slice_get (xs ++ ys) j ≡ slice_get xs j
-get-front [] ys j low = absurd (omega (arith, low))
-get-front (x ∷ xs) ys zero low = refl
-get-front (x ∷ xs) ys (suc j) low = get-front xs ys j (omega (arith, low))
-
-pub take-front : {X : Type 0} (xs ys : List X) (j : ℕ) → j ≤ length xs → take j (xs ++ ys) ≡ take j xs
-take-front xs ys zero low = refl
-take-front [] ys (suc j) low = absurd (omega (arith, low))
-take-front (x ∷ xs) ys (suc j) low = ap (λ (zs : List _). x ∷ zs) (take-front xs ys j (omega (arith, low)))
-
-pub take-whole : {X : Type 0} (xs : List X) (j : ℕ) → length xs ≤ j → take j xs ≡ xs
-take-whole [] zero low = refl
-take-whole [] (suc j) low = refl
-take-whole (x ∷ xs) zero low = absurd (omega (arith, low))
-take-whole (x ∷ xs) (suc j) low = ap (λ (zs : List _). x ∷ zs) (take-whole xs j (omega (arith, low)))
-
-pub map-more : {X Y : Type 0} (f : X → Y) (xs : List X) (x : X) → map f (xs ++ x ∷ []) ≡ map f xs ++ f x ∷ []
-map-more f [] x = refl
-map-more f (y ∷ ys) x = ap (λ (zs : List _). f y ∷ zs) (map-more f ys x)
-
-pub map-both : {X Y : Type 0} (f : X → Y) (xs ys : List X) → map f (xs ++ ys) ≡ map f xs ++ map f ys
-map-both f [] ys = refl
-map-both f (x ∷ xs) ys = ap (λ (zs : List _). f x ∷ zs) (map-both f xs ys)
+pub run-behind : (w : World) (xs ys : List Event) → IsRunFrom w (xs ++ ys) → IsRunFrom (world_after w xs) ys
+run-behind w [] ys run = run
+run-behind w (x ∷ xs) ys run = run-behind (step w x).world xs ys run.1
 
 module _ (bases : Bases) (k : ℕ) where
   asks-in-era : (caller : ℕ) (e : Event) → asks_in caller (event_in bases k e) ≡ asks_in caller e

@@ -1,11 +1,10 @@
 -- A carry: the old era is read and stays legal, and the next one stands behind it.
-use Rattle.std.proofs.Common.{ℕ, zero, suc, ◌≡◌, ◌<◌, ◌≤◌, ◌+◌, ◌==◌, nat_le, nat_lt, Bool, true, false, cond, List, [], ◌∷◌, ◌++◌, map, take, replicate, Option, Some, None, is_some, if◌then◌else◌, ◌⊎◌, inl, inr, refl, sym, ap, subst, ◌∙◌, arith}
-use Rattle.std.specs.Prelude.{Contains, filter, slice_index}
+use Rattle.std.proofs.Common.{ℕ, zero, suc, ◌≡◌, ◌<◌, ◌≤◌, ◌+◌, Bool, true, false, List, [], ◌∷◌, ◌++◌, map, take, replicate, Option, Some, None, is_some, inl, inr, refl, sym, ap, subst, ◌∙◌, arith}
+use Rattle.group_types.proofs.Eaches.{each-map, each-take, each-weaker}
+use Rattle.group_eras.proofs.Lists.{contains-map, each-self, two-map}
+use Rattle.std.specs.Prelude.{Contains, slice_index}
 use Rattle.std.specs.List.{range_with_len}
-use Rattle.std.proofs.lemmas.Bool.{cases_lt}
-use Rattle.std.proofs.lemmas.Grind.{common_steps}
 use Rattle.std.proofs.lemmas.List.{append-nil, length-replicate}
-use Rattle.std.proofs.lemmas.List.Elements.{Contains-append_left, Contains-append_right}
 use Rattle.erasure_code.proofs.Lists.{get_or-zeros}
 use Rattle.group_types.specs.Dimensions.{Dimensions, space_of}
 use Rattle.group_types.specs.Each.{Each, EachTwo}
@@ -14,15 +13,14 @@ use Rattle.group_types.specs.Lists.{at}
 use Rattle.group_types.proofs.Lists.{at-map-range}
 use Rattle.item_index.specs.declared.slot.Slot.{Slot}
 use Rattle.memc_table.specs.Contents.{Contents, count_of, empty_table}
-use Rattle.memc_table.specs.Expiry.{is_live, longest_offset, until_of}
+use Rattle.memc_table.specs.Expiry.{is_live, until_of}
 use Rattle.memc_table.specs.declared.holding.Holding.{Holding}
 use Rattle.group_calls.specs.Log.{IsLegal, table_of}
 use Rattle.group_calls.specs.declared.entry.Entry.{Entry}
 use Rattle.group_calls.specs.declared.event.Event.{Event}
 use Rattle.group_run.specs.Headline.{IsRunFrom}
 use Rattle.group_run.specs.Meaning.{IsDown, IsDrained, count_logged, is_dead, updates_of}
-use Rattle.group_run.specs.Replica.{Items}
-use Rattle.group_run.specs.World.{World, after, opening, step, world_after}
+use Rattle.group_run.specs.World.{World, after, opening, world_after}
 use Rattle.law_updates.specs.Store.{no_store}
 use Rattle.law_log.proofs.Calls.{each-contained}
 use Rattle.law_log.proofs.Tables.{home-below}
@@ -34,85 +32,25 @@ use Rattle.law_headline.proofs.Promises.{stands-always}
 use Rattle.law_moves.proofs.Reading.{some-same}
 use Rattle.group_eras.specs.Carry.{Parcel, begun, carried, expiry_of, read_era, reading, setting}
 use Rattle.group_eras.specs.Eras.{EraEntry, Eras, eras_after, next_bases, next_era}
-use Rattle.group_eras.specs.Items.{Load, bytes_in, load_from, loads, loads_in, loads_of, settled_items}
+use Rattle.group_eras.specs.Items.{Load, bytes_in, loads, loads_of, settled_items}
 use Rattle.group_eras.specs.Moments.{AreGot}
-use Rattle.group_eras.specs.Promise.{AreTold, HasCarried, IsEra, IsKept, one_log, table_over}
+use Rattle.group_eras.specs.Promise.{AreTold, HasCarried, IsEra, IsKept, WasThere, one_log, table_over}
 use Rattle.group_eras.specs.Refusal.{CanCarry, IsAtRest, IsSuccessor}
 use Rattle.group_eras.specs.Told.{with_base}
-use Rattle.group_eras.proofs.Draining.{after-is, each-weak, shape-after}
+use Rattle.group_eras.proofs.Draining.{after-is, shape-after}
 use Rattle.group_eras.proofs.Finding as finding
-use Rattle.group_eras.proofs.Following.{Follows, IsSame, each-first, follows, plain-same, run-first, sets-along, stands-along, still-same}
+use Rattle.group_eras.proofs.Following.{Follows, IsSame, follows, plain-same, run-first, sets-along, stands-along, still-same}
 use Rattle.group_eras.proofs.Joins.{Joined, Meets}
 use Rattle.group_eras.proofs.Loading.{keys-differ, weight-is}
-use Rattle.group_eras.proofs.Readings.{IsLoad, ReadWell, are-loads, parcel_for, reads}
+use Rattle.group_eras.proofs.Readings.{IsLoad, ReadWell, are-loads, item_of, parcel_for, reads}
 use Rattle.group_eras.proofs.Resting.{IsStill, Rests, same-counts, same-items, settled_of, still-settled, table_after_run, ties-of}
 use Rattle.group_eras.proofs.SetAll.{AllSet, Apart, IsOfGroup, IsPlain, all-come, opens-setup, set-all}
 use Rattle.group_eras.proofs.SetTables.{NoItem, OfSet, SetItem, SetsOne, appears, log-sets, one-parcel, sets-items}
 use Rattle.group_eras.proofs.Setup.{HasSet, SetUp, weight}
 use Rattle.group_eras.proofs.Shifts.{Alike, Gone, shift, shifted}
 use Rattle.group_eras.proofs.Standing.{NoKey, Standing, Stands, own_table}
-
-run-behind : (w : World) (xs ys : List Event) → IsRunFrom w (xs ++ ys) → IsRunFrom (world_after w xs) ys
-run-behind w [] ys run = run
-run-behind w (x ∷ xs) ys run = run-behind (step w x).world xs ys run.1
-
-contains-map : {X Y : Type 0} (f : X → Y) (xs : List X) (x : X) → Contains xs x → Contains (map f xs) (f x)
-contains-map f [] x there = absurd (let low = there.1 in omega (arith, low))
-contains-map f (y ∷ ys) x (zero, low, is) = (0, omega arith, ap f is)
-contains-map f (y ∷ ys) x (suc i, low, is) = let rest = contains-map f ys x (i, omega (arith, low), is) in (suc rest.0, (let less = rest.1 in omega (arith, less)), rest.2)
-
-each-self : {X : Type 0} (xs : List X) → Each (Contains xs) xs
-each-self xs = inside xs (λ x there. there) where
-  inside : (ys : List _) → ((y : _) → Contains ys y → Contains xs y) → Each (Contains xs) ys
-  inside [] within = tt
-  inside (y ∷ ys) within = (within y (0, omega arith, refl), inside ys (λ z there. within z (suc there.0, (let low = there.1 in omega (arith, low)), there.2)))
-
-each-map : {X Y : Type 0} (P : Y → Type 0) (f : X → Y) (xs : List X) → Each (λ x. P (f x)) xs → Each P (map f xs)
-each-map P f [] all = tt
-each-map P f (x ∷ xs) all = (all.0, each-map P f xs all.1)
-
-two-map : {X Y : Type 0} (R : Y → Y → Type 0) (f : X → Y) (xs : List X) → EachTwo (λ x y. R (f x) (f y)) xs → EachTwo R (map f xs)
-two-map R f [] two = tt
-two-map R f (x ∷ xs) two = (each-map (R (f x)) f xs two.0, two-map R f xs two.1)
-
--- an item that lives is carried
-live-load : (d : ℕ) (items : Items) (x : List ℕ × Slot) → Contains items x → is_live 0 x.1.until ≡ true → Contains (map (load_from d) (filter (λ y. is_live 0 y.1.until) items)) (load_from d x)
-live-load d [] x there live = absurd (let low = there.1 in omega (arith, low))
-live-load d (y ∷ ys) x there live = by there (is_live 0 y.1.until) refl (λ rest. live-load d ys x rest live) where
-  tail : List Load
-  tail = map (load_from d) (filter (λ z. is_live 0 z.1.until) ys)
-
-  by : Contains (y ∷ ys) x → (b : Bool) → is_live 0 y.1.until ≡ b → (Contains ys x → Contains (map (load_from d) (filter (λ z. is_live 0 z.1.until) ys)) (load_from d x))
-      → Contains (map (load_from d) (cond b (y ∷ filter (λ z. is_live 0 z.1.until) ys) (filter (λ z. is_live 0 z.1.until) ys))) (load_from d x)
-  by (zero, low, is) true same later = (0, omega arith, ap (load_from d) is)
-  by (zero, low, is) false same later = absurd (cc (same, is, live))
-  by (suc i, low, is) true same later = let rest = later (i, omega (arith, low), is) in (suc rest.0, (let less = rest.1 in omega (arith, less)), rest.2)
-  by (suc i, low, is) false same later = later (i, omega (arith, low), is)
-
-in-loads : (w : World) (n a d : ℕ) (x : Load) → a ≤ d → d < a + n → Contains (loads_in w d) x → Contains (loads_of w (range_with_len a n)) x
-in-loads w zero a d x from to there = absurd (omega (arith, from, to))
-in-loads w (suc n) a d x from to there = by (cases_lt a d) (λ above. in-loads w n (a + 1) d x above (omega (arith, to)) there) where
-  by : (a < d) ⊎ (d ≤ a) → (a + 1 ≤ d → Contains (loads_of w (range_with_len (a + 1) n)) x) → Contains (loads_in w a ++ loads_of w (range_with_len (a + 1) n)) x
-  by (inl less) later = Contains-append_right (loads_in w a) (loads_of w (range_with_len (a + 1) n)) x (later (omega (arith, less)))
-  by (inr same) later =
-      let here : d ≡ a = omega (arith, same, from) in
-      Contains-append_left (loads_in w a) (loads_of w (range_with_len (a + 1) n)) x (subst (λ (e : ℕ). Contains (loads_in w e) x) here there)
-
--- an until of 0 is the only one at which an item lives at no moment
-dead-until : (until : Option ℕ) → is_live 0 until ≡ false → until ≡ Some 0
-dead-until None is = absurd (cc is)
-dead-until (Some u) is = ap Some (zero-is u is) where
-  zero-is : (u : ℕ) → nat_lt 0 u ≡ false → u ≡ 0
-  zero-is u is = grind (arith, common_steps)
-
--- an item that is set lives until what it was
-until-back : (until : Option ℕ) → is_live 0 until ≡ true → until_of (expiry_of until) 0 ≡ until
-until-back None live = refl
-until-back (Some u) live = by (u == 0) refl (nat_le u longest_offset) where
-  by : (b : Bool) → (u == 0) ≡ b → (c : Bool) → (if b then None else (if c then Some (0 + u) else Some u)) ≡ Some u
-  by true is c = absurd (let none : u ≡ 0 = grind (arith, common_steps) in cc (live, none))
-  by false is true = ap Some (omega arith)
-  by false is false = refl
+use Rattle.group_eras.proofs.Living.{dead-until, in-loads, live-load, until-back}
+use Rattle.group_eras.proofs.Asking.{run-behind}
 
 module _ (e : Eras) (stands : Stands e) (rest : IsAtRest e.world) where
   abbrev pub s : Dimensions
@@ -137,7 +75,7 @@ module _ (e : Eras) (stands : Stands e) (rest : IsAtRest e.world) where
   still = subst (λ (v : World). Each IsStill (reading v).events) (sym world) well.still
 
   pub same : Each IsSame (reading e.world).events
-  same = each-weak s IsStill IsSame still-same (reading e.world).events still
+  same = each-weaker IsStill IsSame still-same (reading e.world).events still
 
   pub run-reading : IsRunFrom (after e.world.shape stands.era.events) (reading (after e.world.shape stands.era.events)).events
   run-reading = run-behind (opening s) es (reading w).events well.rests_then.run.1
@@ -150,7 +88,7 @@ module _ (e : Eras) (stands : Stands e) (rest : IsAtRest e.world) where
 
   -- want of memory leaves the old group
   pub begun-stands : (many : ℕ) → Stands (begun e many)
-  begun-stands many = stands-along e stands (take many (reading e.world).events) (each-first IsSame many (reading e.world).events same) (run-first many e.world (reading e.world).events run-read)
+  begun-stands many = stands-along e stands (take many (reading e.world).events) (each-take IsSame many (reading e.world).events same) (run-first many e.world (reading e.world).events run-read)
 
   abbrev e1 : Eras
   e1 = read_era e
@@ -233,7 +171,7 @@ module _ (e : Eras) (stands : Stands e) (rest : IsAtRest e.world) where
     loads-are = are-loads s w (shape-after (opening s) es)
 
     of-group : Each (IsOfGroup s') parcels
-    of-group = each-map (IsOfGroup s') (parcel_for s es rests) (loads w) (each-weak s (IsLoad s w) (λ x. IsOfGroup s' (parcel_for s es rests x)) (λ x load.
+    of-group = each-map (IsOfGroup s') (parcel_for s es rests) (loads w) (each-weaker (IsLoad s w) (λ x. IsOfGroup s' (parcel_for s es rests x)) (λ x load.
         let table = finding.in-table s es rests x.partition load.below (x.key, x.slot) load.there in
         record {
           below = subst (λ (k : ℕ). x.partition < k) (sym successor.partitions) load.below;
@@ -346,7 +284,7 @@ module _ (e : Eras) (stands : Stands e) (rest : IsAtRest e.world) where
     carried-is = ap (λ (ps : List Parcel). eras_after (next_era (read_era e) s') (setting (opening s') ps)) parcels-are
 
     follows3 : Follows (next_era (read_era e) s') (eras_after (next_era (read_era e) s') (setting (opening s') parcels)) (world_after (opening s') (setting (opening s') parcels))
-    follows3 = follows e2 sets (each-weak s' (IsPlain parcels) IsSame (plain-same parcels) sets all-set.plain)
+    follows3 = follows e2 sets (each-weaker (IsPlain parcels) IsSame (plain-same parcels) sets all-set.plain)
 
     abbrev e3 : Eras
     e3 = eras_after (next_era (read_era e) s') (setting (opening s') parcels)
@@ -513,10 +451,73 @@ module _ (e : Eras) (stands : Stands e) (rest : IsAtRest e.world) where
         by (inl (Gone x is ends none)) = absurd (cc (now.own, none))
         by (inr both) = absurd both.0
 
+    -- each parcel is of an item of the old era that lives
+    pub record OfOld (x : Parcel) : Type 0 where
+      pub old : Holding
+      pub there : (table_after_run e.world.shape stands.era.events).items x.key ≡ Some old
+      pub flags : old.item.flags ≡ x.flags
+      pub value : old.item.value ≡ x.value
+      pub until : old.until ≡ x.until
+      pub live : is_live 0 x.until ≡ true
+
+    of-old : Each OfOld parcels
+    of-old = each-map OfOld (parcel_for s es rests) (loads w) (each-weaker (IsLoad s w) (λ x. OfOld (parcel_for s es rests x)) (λ x load. record {
+      old = item_of s es rests x;
+      there = (finding.in-table s es rests x.partition load.below (x.key, x.slot) load.there).there;
+      flags = refl;
+      value = refl;
+      until = refl;
+      live = load.live;
+    }) (loads w) loads-are)
+
+    -- an item of the new era that lives was there
+    module _ (key : List ℕ) (h : Holding) (there : (table_over e3).items key ≡ Some h) (live : is_live 0 h.until ≡ true) where
+      -- as it was in the whole table, from what it was in the old era's
+      before : (old : Holding) → (own_table e).items key ≡ Some old → old.item.flags ≡ h.item.flags → old.item.value ≡ h.item.value → old.until ≡ h.until
+          → WasThere (table_over e) key h
+      before old own flags value until = by ((stands.joined rests.run.0.k.0).items key) where
+        by : Meets e.bases s.k rests.run.0.k.0 NoKey key ((table_over e).items key) ((own_table e).items key) → WasThere (table_over e) key h
+        by (inl (Alike is has)) = record {
+          holding = shifted e.bases (home_of key s.k) old;
+          there = is ∙ ap (shift e.bases (home_of key s.k)) own;
+          flags = flags;
+          value = value;
+          until = until;
+        }
+        by (inl (Gone x is ends none)) = absurd (cc (own, none))
+        by (inr both) = absurd both.0
+
+      from-set : (x : Holding) → (own_table e3).items key ≡ Some x → shifted e3.bases (home_of key e3.world.shape.k) x ≡ h → WasThere (table_over e) key h
+      from-set x own same = by (sets-items parcels (empty_table s'.k) (after s' sets).log key log-all (NoItem refl)) where
+        by : SetItem parcels key ((table_after_run s' (setting (opening s') parcels)).items key) → WasThere (table_over e) key h
+        by (NoItem none) = absurd (cc (own, ap (λ (t : Contents). t.items key) own3-is, none))
+        by (OfSet y new in-parcels key_is is of) =
+            let new-is : new ≡ x = some-same new x (sym is ∙ ap (λ (t : Contents). t.items key) (sym own3-is) ∙ own) in
+            let was : OfOld y = each-contained OfOld parcels y of-old in-parcels in
+            before was.old (ap (λ (t : Contents). t.items key) own-is ∙ ap (λ (k : List ℕ). (table_after_run s es).items k) (sym key_is) ∙ was.there)
+            (was.flags ∙ sym of.flags ∙ ap (λ (z : Holding). z.item.flags) new-is ∙ ap (λ (z : Holding). z.item.flags) same)
+            (was.value ∙ sym of.value ∙ ap (λ (z : Holding). z.item.value) new-is ∙ ap (λ (z : Holding). z.item.value) same)
+            (was.until ∙ sym (until-back y.until was.live) ∙ sym of.until ∙ ap (λ (z : Holding). z.until) new-is ∙ ap (λ (z : Holding). z.until) same)
+
+      was3 : WasThere (table_over e) key h
+      was3 = by ((stands3.joined stands3.era.run.0.k.0).items key) where
+        alike : (o : Option Holding) → (own_table e3).items key ≡ o → (table_over e3).items key ≡ shift e3.bases (home_of key e3.world.shape.k) o → WasThere (table_over e) key h
+        alike None own is = absurd (cc (is, there))
+        alike (Some x) own is = from-set x own (some-same (shifted e3.bases (home_of key e3.world.shape.k) x) h (sym is ∙ there))
+
+        by : Meets e3.bases e3.world.shape.k stands3.era.run.0.k.0 NoKey key ((table_over e3).items key) ((own_table e3).items key) → WasThere (table_over e) key h
+        by (inl (Alike is has)) = alike ((own_table e3).items key) refl is
+        by (inl (Gone x is ends none)) =
+            let same : x ≡ h = some-same x h (sym is ∙ there) in
+            let dead : is_live 0 h.until ≡ false = ap (λ (y : Holding). is_live 0 y.until) (sym same) ∙ ap (is_live 0) ends in
+            absurd (cc (dead, live))
+        by (inr both) = absurd both.0
+
     pub has-carried : HasCarried e s'
     has-carried = record {
       shape = shape3;
       whole = λ p pin. ap (λ (v : World). is_dead v p) world3 ∙ setup.live p;
       drained = subst IsDrained (sym world3) setup.rests.drained;
       kept = λ key h there live. subst (λ (x : Eras). IsKept (table_over e) key h (table_over x)) (sym carried-is) (kept3 key h there live);
+      none_new = λ key h there live. was3 key h (ap (λ (x : Eras). (table_over x).items key) (sym carried-is) ∙ there) live;
     }

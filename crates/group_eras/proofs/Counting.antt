@@ -1,5 +1,7 @@
 -- How many updates are settled, and how many items are carried: no more than events were made.
 use Rattle.std.proofs.Common.{ℕ, zero, suc, ◌≡◌, ◌≢◌, ◌<◌, ◌≤◌, ◌+◌, Bool, true, false, cond, not, List, [], ◌∷◌, ◌++◌, length, map, Option, Some, None, ◌⊎◌, inl, inr, refl, sym, ap, subst, ◌∙◌, arith}
+use Rattle.group_types.proofs.Eaches.{each-append, each-map, each-weaker}
+use Rattle.group_eras.proofs.Lists.{two-map}
 use Rattle.std.specs.Prelude.{Contains, filter}
 use Rattle.std.specs.List.{range_with_len}
 use Rattle.std.specs.Cmp.Lexicographic.{slice_cmp}
@@ -38,7 +40,7 @@ use Rattle.law_headline.proofs.Promises.{stands-always}
 use Rattle.group_eras.specs.Items.{load_from, loads, loads_in, loads_of, settled_items}
 use Rattle.group_eras.specs.Moments.{CountsAreLow, LoadsAreFew}
 use Rattle.group_eras.proofs.Carrying as carrying
-use Rattle.group_eras.proofs.Draining.{each-both, each-weak, shape-after}
+use Rattle.group_eras.proofs.Draining.{shape-after}
 use Rattle.group_eras.proofs.Finding as finding
 use Rattle.group_eras.proofs.Loading.{two-both}
 use Rattle.group_eras.proofs.Promises.{led-stands}
@@ -98,17 +100,6 @@ no-more (x ∷ xs) ys two among =
     kept [] apart all = tt
     kept (z ∷ zs) apart all = ((without ys x among.0).others z all.0 (λ same. apart.0 (sym same)), kept zs apart.1 all.1)
 
-two-map : {X Y : Type 0} (R : Y → Y → Type 0) (f : X → Y) (xs : List X) → EachTwo (λ x y. R (f x) (f y)) xs → EachTwo R (map f xs)
-two-map R f [] two = tt
-two-map R f (x ∷ xs) two = (mapped xs two.0, two-map R f xs two.1) where
-  mapped : (ys : List _) → Each (λ y. R (f x) (f y)) ys → Each (R (f x)) (map f ys)
-  mapped [] all = tt
-  mapped (y ∷ ys) all = (all.0, mapped ys all.1)
-
-each-map : {X Y : Type 0} (P : Y → Type 0) (f : X → Y) (xs : List X) → Each (λ x. P (f x)) xs → Each P (map f xs)
-each-map P f [] all = tt
-each-map P f (x ∷ xs) all = (all.0, each-map P f xs all.1)
-
 two-weak : {X : Type 0} (R T : X → X → Type 0) → ((x y : X) → R x y → T x y) → (xs : List X) → EachTwo R xs → EachTwo T xs
 two-weak R T weak [] two = tt
 two-weak R T weak (x ∷ xs) two = (each xs two.0, two-weak R T weak xs two.1) where
@@ -163,22 +154,22 @@ module _ (s : Dimensions) (es : List Event) (run : IsRun s es) where
   are-from : (n a : ℕ) → a + n ≤ s.k → Each (FromOn a) (all-names a n)
   unfolding all-names
   are-from zero a low = tt
-  are-from (suc n) a low = each-both s (FromOn a) (names a) (all-names (a + 1) n)
-      (each-weak s (OfCall a) (FromOn a) (λ name of. (a, omega arith, of)) (names a) (of-calls a (omega (arith, low))))
-      (each-weak s (FromOn (a + 1)) (FromOn a) (λ name of. (of.0, (let from = of.1 in omega (arith, from)), of.2)) (all-names (a + 1) n) (are-from n (a + 1) (omega (arith, low))))
+  are-from (suc n) a low = each-append (FromOn a) (names a) (all-names (a + 1) n)
+      (each-weaker (OfCall a) (FromOn a) (λ name of. (a, omega arith, of)) (names a) (of-calls a (omega (arith, low))))
+      (each-weaker (FromOn (a + 1)) (FromOn a) (λ name of. (of.0, (let from = of.1 in omega (arith, from)), of.2)) (all-names (a + 1) n) (are-from n (a + 1) (omega (arith, low))))
 
   all-differ : (n a : ℕ) → a + n ≤ s.k → EachTwo (λ x y. x ≢ y) (all-names a n)
   unfolding all-names
   all-differ zero a low = tt
   all-differ (suc n) a low = two-both (λ x y. x ≢ y) (names a) (all-names (a + 1) n) (names-differ a (omega (arith, low))) (all-differ n (a + 1) (omega (arith, low)))
-      (each-weak s (OfCall a) (λ x. Each (λ y. x ≢ y) (all-names (a + 1) n)) (λ x of. each-weak s (FromOn (a + 1)) (λ y. x ≢ y)
+      (each-weaker (OfCall a) (λ x. Each (λ y. x ≢ y) (all-names (a + 1) n)) (λ x of. each-weaker (FromOn (a + 1)) (λ y. x ≢ y)
       (λ y from same. let one = homes-differ a from.0 x y of from.2 same in let above = from.1 in omega (arith, one, above)) (all-names (a + 1) n) (are-from n (a + 1) (omega (arith, low))))
       (names a) (of-calls a (omega (arith, low))))
 
   few-names : length (all-names 0 s.k) ≤ length es
   few-names =
       let most = no-more (all-names 0 s.k) (map (λ (c : Call). c.name) calls) (all-differ s.k 0 (omega arith))
-      (each-weak s (FromOn 0) (Contains (map (λ (c : Call). c.name) calls)) (λ name of. subst (Contains (map (λ (c : Call). c.name) calls)) of.2.named (in-names calls of.2.call of.2.there)) (all-names 0 s.k) (are-from s.k 0 (omega arith))) in
+      (each-weaker (FromOn 0) (Contains (map (λ (c : Call). c.name) calls)) (λ name of. subst (Contains (map (λ (c : Call). c.name) calls)) of.2.named (in-names calls of.2.call of.2.there)) (all-names 0 s.k) (are-from s.k 0 (omega arith))) in
       let long = length-map calls (λ (c : Call). c.name) in
       let few = issued-few (no_book s) es in
       omega (arith, most, long, few)

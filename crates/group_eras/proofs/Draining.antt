@@ -1,6 +1,7 @@
 -- A drain is a list of deliveries that may come, after which the group is at rest; and who is dead stays so where no
 -- process fails.
 use Rattle.std.proofs.Common.{ℕ, zero, suc, ◌≡◌, ◌<◌, List, [], ◌∷◌, ◌++◌, Option, Some, None, refl, sym, ap, subst, ◌∙◌, arith}
+use Rattle.group_types.proofs.Eaches.{each-weaker}
 use Rattle.group_types.specs.Dimensions.{Dimensions}
 use Rattle.group_types.specs.Each.{Each}
 use Rattle.group_types.specs.Names.{index_of}
@@ -121,13 +122,5 @@ module _ (s : Dimensions) where
         up = subst (λ (w : World). ¬ (IsDown w)) (sym same) all.up;
       }
 
-  pub each-weak : {X : Type 0} (P Q : X → Type 0) → ((x : X) → P x → Q x) → (xs : List X) → Each P xs → Each Q xs
-  each-weak P Q weak [] all = tt
-  each-weak P Q weak (x ∷ xs) all = (weak x all.0, each-weak P Q weak xs all.1)
-
-  pub each-both : {X : Type 0} (P : X → Type 0) (xs ys : List X) → Each P xs → Each P ys → Each P (xs ++ ys)
-  each-both P [] ys all more = more
-  each-both P (x ∷ xs) ys all more = (all.0, each-both P xs ys all.1 more)
-
   pub drain-still : (es : List Event) → IsRun s es → ¬ (IsDown (after s es)) → Each IsStill (draining (after s es))
-  drain-still es run up = each-weak IsDelivery IsStill delivery-still (draining (after s es)) (delivers es run up).deliveries
+  drain-still es run up = each-weaker IsDelivery IsStill delivery-still (draining (after s es)) (delivers es run up).deliveries

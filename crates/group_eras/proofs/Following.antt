@@ -81,12 +81,6 @@ stands-along e stands (x ∷ xs) same run =
     stands-along (era_step e x).eras (stands-next e stands x run.0) xs same.1
     (subst (λ (y : Event). IsRunFrom (step e.world y).world xs) (sym (same.0 e.bases e.world.shape.k)) run.1)
 
--- the first events of those
-pub each-first : {X : Type 0} (P : X → Type 0) (n : ℕ) (xs : List X) → Each P xs → Each P (take n xs)
-each-first P zero xs all = tt
-each-first P (suc n) [] all = tt
-each-first P (suc n) (x ∷ xs) all = (all.0, each-first P n xs all.1)
-
 pub run-first : (n : ℕ) (w : World) (xs : List Event) → IsRunFrom w xs → IsRunFrom w (take n xs)
 run-first zero w xs run = tt
 run-first (suc n) w [] run = tt

@@ -4,6 +4,8 @@ pub mod Finding
 pub mod Fronts
 pub mod Getting
 pub mod Joins
+pub mod Living
+pub mod Lists
 pub mod Logging
 pub mod Making
 pub mod Resting
@@ -27,3 +29,6 @@ pub mod Ranging
 pub mod Counting
 pub mod Weighing
 pub mod Short
+pub mod Worked
+pub mod Numbers
+pub mod Telling

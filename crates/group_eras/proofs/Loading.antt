@@ -1,5 +1,7 @@
 -- The items that are carried have different keys, and their values are as long as their slots say.
 use Rattle.std.proofs.Common.{ℕ, zero, suc, ◌≡◌, ◌≢◌, ◌<◌, ◌≤◌, ◌+◌, ◌==◌, Bool, true, false, cond, List, [], ◌∷◌, ◌++◌, length, map, AllPairs, ◌⊎◌, inl, inr, refl, sym, ap, subst, ◌∙◌, arith}
+use Rattle.group_types.proofs.Eaches.{each-append, each-weaker}
+use Rattle.group_eras.proofs.Lists.{map-both}
 use Rattle.std.specs.Prelude.{Contains, filter}
 use Rattle.std.specs.List.{range_with_len, sum_by}
 use Rattle.std.proofs.lemmas.Bool.{cases_eq, eq-eqb, ne_eqb}
@@ -15,8 +17,7 @@ use Rattle.group_run.specs.Replica.{Items}
 use Rattle.group_run.specs.World.{World, after, opening}
 use Rattle.group_eras.specs.Carry.{Parcel}
 use Rattle.group_eras.specs.Items.{Load, bytes_in, load_from, loads, loads_in, loads_of, settled_items}
-use Rattle.group_eras.proofs.Asking.{map-both}
-use Rattle.group_eras.proofs.Draining.{each-both, each-weak, shape-after}
+use Rattle.group_eras.proofs.Draining.{shape-after}
 use Rattle.group_eras.proofs.Finding as finding
 use Rattle.group_eras.proofs.Readings.{IsLoad, parcel_for, some-loads}
 use Rattle.group_eras.proofs.Resting.{Rests}
@@ -83,17 +84,17 @@ module _ (s : Dimensions) (es : List Event) (rests : Rests s es) where
 
   homes-from : (n a : ℕ) → a + n ≤ s.k → Each (HomeFrom a) (loads_of w (range_with_len a n))
   homes-from zero a low = tt
-  homes-from (suc n) a low = each-both s (HomeFrom a) (loads_in w a) (loads_of w (range_with_len (a + 1) n))
-      (each-weak s (OfPartition a) (HomeFrom a) (λ x of. let home = of.1 in omega (arith, home)) (loads_in w a) (of-partition a (omega (arith, low))))
-      (each-weak s (HomeFrom (a + 1)) (HomeFrom a) (λ x from. omega (arith, from)) (loads_of w (range_with_len (a + 1) n)) (homes-from n (a + 1) (omega (arith, low))))
+  homes-from (suc n) a low = each-append (HomeFrom a) (loads_in w a) (loads_of w (range_with_len (a + 1) n))
+      (each-weaker (OfPartition a) (HomeFrom a) (λ x of. let home = of.1 in omega (arith, home)) (loads_in w a) (of-partition a (omega (arith, low))))
+      (each-weaker (HomeFrom (a + 1)) (HomeFrom a) (λ x from. omega (arith, from)) (loads_of w (range_with_len (a + 1) n)) (homes-from n (a + 1) (omega (arith, low))))
 
   two-loads : (n a : ℕ) → a + n ≤ s.k → EachTwo KeysApart (loads_of w (range_with_len a n))
   two-loads zero a low = tt
   two-loads (suc n) a low = two-both KeysApart (loads_in w a) (loads_of w (range_with_len (a + 1) n))
       (kept-two a (settled_items w a) (two-of (λ x y. x.0 ≢ y.0) (settled_items w a) (finding.settled s es rests a (omega (arith, low))).once))
       (two-loads n (a + 1) (omega (arith, low)))
-      (each-weak s (OfPartition a) (λ x. Each (KeysApart x) (loads_of w (range_with_len (a + 1) n)))
-      (λ x of. each-weak s (HomeFrom (a + 1)) (KeysApart x) (λ y from same.
+      (each-weaker (OfPartition a) (λ x. Each (KeysApart x) (loads_of w (range_with_len (a + 1) n)))
+      (λ x of. each-weaker (HomeFrom (a + 1)) (KeysApart x) (λ y from same.
       let home = of.1 in let one : home_of x.key s.k ≡ home_of y.key s.k = ap (λ (key : List ℕ). home_of key s.k) same in omega (arith, home, one, from))
       (loads_of w (range_with_len (a + 1) n)) (homes-from n (a + 1) (omega (arith, low))))
       (loads_in w a) (of-partition a (omega (arith, low))))

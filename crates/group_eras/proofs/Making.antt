@@ -1,5 +1,6 @@
 -- An era stays a run of its own when an event is made in it.
 use Rattle.std.proofs.Common.{ℕ, suc, ◌≡◌, ◌<◌, ◌≤◌, Bool, true, false, List, [], ◌∷◌, ◌++◌, length, map, take, Some, if◌then◌else◌, ◌⊎◌, inl, inr, refl, sym, ap, subst, ◌∙◌, arith}
+use Rattle.group_eras.proofs.Lists.{get-front, map-more, take-front, take-whole}
 use Rattle.std.specs.Prelude.{All, Contains, slice_get}
 use Rattle.std.proofs.lemmas.Option.{slice_get_within}
 use Rattle.std.proofs.lemmas.Bool.{cases_lt}
@@ -32,7 +33,7 @@ use Rattle.law_answers.proofs.Entries.{after-more, run-more, turns-more}
 use Rattle.group_eras.specs.Eras.{EraEntry, Eras, era_step, logged_in_era}
 use Rattle.group_eras.specs.Promise.{AreTold, IsAskOf, IsEra, IsTold, asks_among}
 use Rattle.group_eras.specs.Told.{Bases, event_in, op_in, op_out, told_entry, told_op, told_reply, with_base, with_cas, without_base}
-use Rattle.group_eras.proofs.Asking.{WasAsked, among-all, among-before, among-in, among-map, get-front, map-more, take-front, take-whole, turn-event, turns-asks, turns-long, was-asked}
+use Rattle.group_eras.proofs.Asking.{WasAsked, among-all, among-before, among-in, among-map, turn-event, turns-asks, turns-long, was-asked}
 use Rattle.group_eras.proofs.Joins.{key-cas}
 use Rattle.group_eras.proofs.Logging.{AllHaveCas, BringsCas, accepted-brings, own-or-accepted}
 
@@ -113,7 +114,7 @@ no-items : (k : ℕ) → AllHaveCas (empty_table k)
 no-items k key = tt
 
 module _ (e : Eras) (era : IsEra e) (event : Event) (may : MayCome e.world event) where
-  abbrev s : Dimensions
+  abbrev pub s : Dimensions
   s = e.world.shape
 
   abbrev k : ℕ
@@ -137,13 +138,13 @@ module _ (e : Eras) (era : IsEra e) (event : Event) (may : MayCome e.world event
   may-come : MayCome e.world came
   may-come = may-in e.bases k e.world event may
 
-  run : IsRun s events
+  pub run : IsRun s events
   run = (era.run.0, run-more (opening s) era.events came era.run.1 (subst (λ (w : World). MayCome w came) era.stands may-come))
 
   stands : (step e.world came).world ≡ after s events
   stands = ap (λ (w : World). (step w came).world) era.stands ∙ sym (after-more (opening s) era.events came)
 
-  headline : Headline s events
+  pub headline : Headline s events
   headline = headline_always s events run
 
   long : length era.events ≡ length era.asked
@@ -153,7 +154,7 @@ module _ (e : Eras) (era : IsEra e) (event : Event) (may : MayCome e.world event
     map-long (x ∷ xs) = ap suc (map-long xs)
 
   -- the event's turn
-  last-turn : slice_get (turns_of s events) (length era.events) ≡ Some (step e.world came).turn
+  pub last-turn : slice_get (turns_of s events) (length era.events) ≡ Some (step e.world came).turn
   last-turn =
       ap (λ (turns : List Turn). slice_get turns (length era.events)) (turns-more (opening s) era.events came)
       ∙ ap (slice_get (turns_of s era.events ++ (step (after s era.events) came).turn ∷ [])) (sym (turns-long (opening s) era.events))

@@ -1,5 +1,6 @@
 -- Entries of a run by the names of their calls: an entry has the op of the one ask of its name.
 use Rattle.std.proofs.Common.{ℕ, zero, suc, ◌≡◌, ◌<◌, ◌≤◌, ◌+◌, List, [], ◌∷◌, ◌++◌, length, take, Some, ◌⊎◌, inl, inr, refl, sym, ap, subst, ◌∙◌, arith}
+use Rattle.group_eras.proofs.Lists.{get-front, take-front}
 use Rattle.std.specs.Prelude.{Contains, slice_get}
 use Rattle.std.proofs.lemmas.Bool.{cases_lt}
 use Rattle.std.proofs.lemmas.List.Elements.{Contains-append_cases, Contains-append_left}
@@ -18,7 +19,7 @@ use Rattle.law_moves.proofs.Reading.{grown-is, some-same}
 use Rattle.law_log.proofs.Turnings.{asks-self}
 use Rattle.law_headline.proofs.Headlines.{headline_always}
 use Rattle.group_eras.specs.Promise.{asks_among}
-use Rattle.group_eras.proofs.Asking.{among-before, get-front, take-front, turn-event, turns-asks}
+use Rattle.group_eras.proofs.Asking.{among-before, turn-event, turns-asks}
 use Rattle.group_eras.proofs.Making.{asked-among}
 
 -- an entry of the log is one that a turn logged

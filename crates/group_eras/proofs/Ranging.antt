@@ -1,5 +1,6 @@
 -- Untils of items are those that exptimes of 64 bits ask for.
-use Rattle.std.proofs.Common.{ℕ, ℤ, pos, negsuc, suc, ◌≡◌, ◌≤◌, ◌+◌, ◌^◌, ◌==◌, nat_le, Bool, true, false, List, [], ◌∷◌, ◌++◌, length, map, take, Option, Some, None, if◌then◌else◌, refl, sym, ap, subst, ◌∙◌, arith}
+use Rattle.std.proofs.Common.{ℕ, ℤ, pos, negsuc, suc, ◌≡◌, ◌≤◌, ◌+◌, ◌^◌, ◌==◌, nat_le, Bool, true, false, List, [], ◌∷◌, ◌++◌, length, take, Option, Some, None, if◌then◌else◌, refl, sym, ap, subst, ◌∙◌, arith}
+use Rattle.group_types.proofs.Eaches.{each-append, each-map, each-take, each-weaker}
 use Rattle.std.specs.Prelude.{Contains, slice_get}
 use Rattle.std.proofs.lemmas.Grind.{common_steps}
 use Rattle.group_types.specs.Dimensions.{Dimensions}
@@ -39,9 +40,9 @@ use Rattle.group_eras.specs.Refusal.{CanCarry, IsAtRest, IsSuccessor}
 use Rattle.group_eras.specs.Told.{Bases, event_in, with_cas}
 use Rattle.group_eras.proofs.Asking.{turn-event}
 use Rattle.group_eras.proofs.Carrying as carrying
-use Rattle.group_eras.proofs.Draining.{each-both, each-weak, shape-after}
+use Rattle.group_eras.proofs.Draining.{shape-after}
 use Rattle.group_eras.proofs.Finding as finding
-use Rattle.group_eras.proofs.Following.{IsSame, each-first, run-first}
+use Rattle.group_eras.proofs.Following.{IsSame, run-first}
 use Rattle.group_eras.proofs.Making.{may-in}
 use Rattle.group_eras.proofs.Naming.{logged-turn}
 use Rattle.group_eras.proofs.Promises.{deed-stands}
@@ -234,7 +235,7 @@ low-loads e ranged rest =
     let es : List Event = ranged.events in
     let rests : Rests e.world.shape ranged.events = record { run = ranged.run; drained = subst IsDrained ranged.stands rest.drained; up = λ down. rest.up (subst IsDown (sym ranged.stands) down) } in
     subst (λ (v : World). Each (λ x. IsLowUntil x.slot.until) (loads v)) (sym ranged.stands)
-    (each-weak s (IsLoad s (after s es)) (λ x. IsLowUntil x.slot.until)
+    (each-weaker (IsLoad s (after s es)) (λ x. IsLowUntil x.slot.until)
     (λ x load. subst HeldLow (finding.in-table s es rests x.partition load.below (x.key, x.slot) load.there).there (items-low s es ranged.run ranged.low x.key))
     (loads (after s es)) (are-loads s (after s es) (shape-after (opening s) es)))
 
@@ -245,7 +246,7 @@ ranged-next e ranged event may low =
       events = ranged.events ++ came ∷ [];
       run = (ranged.run.0, run-more (opening e.world.shape) ranged.events came ranged.run.1 (subst (λ (w : World). MayCome w came) ranged.stands (may-in e.bases e.world.shape.k e.world event may)));
       stands = ap (λ (w : World). (step w came).world) ranged.stands ∙ sym (after-more (opening e.world.shape) ranged.events came);
-      low = each-both e.world.shape IsLowEvent ranged.events (came ∷ []) ranged.low (in-low e.bases e.world.shape.k event low, tt);
+      low = each-append IsLowEvent ranged.events (came ∷ []) ranged.low (in-low e.bases e.world.shape.k event low, tt);
     }
 
 ranged-along : (e : Eras) → Ranged e → (events : List Event) → Each IsSame events → IsRunFrom e.world events → Each IsLowEvent events → Ranged (eras_after e events)
@@ -266,17 +267,13 @@ plain-low all low (Fail p keep) plain = absurd plain
 plain-low all low (Flush p) plain = absurd plain
 plain-low all low (Trace caller call d p) plain = absurd plain
 
-each-map : {X Y : Type 0} (P : Y → Type 0) (f : X → Y) (xs : List X) → Each (λ x. P (f x)) xs → Each P (map f xs)
-each-map P f [] all = tt
-each-map P f (x ∷ xs) all = (all.0, each-map P f xs all.1)
-
 module _ (e : Eras) (stands : Stands e) (ranged : Ranged e) (rest : IsAtRest e.world) where
   reads-low : Each IsLowEvent (reading e.world).events
-  reads-low = each-weak e.world.shape IsStill IsLowEvent still-low (reading e.world).events (carrying.still e stands rest)
+  reads-low = each-weaker IsStill IsLowEvent still-low (reading e.world).events (carrying.still e stands rest)
 
   begun-ranged : (many : ℕ) → Ranged (begun e many)
-  begun-ranged many = ranged-along e ranged (take many (reading e.world).events) (each-first IsSame many (reading e.world).events (carrying.same e stands rest))
-      (run-first many e.world (reading e.world).events (carrying.run-read e stands rest)) (each-first IsLowEvent many (reading e.world).events reads-low)
+  begun-ranged many = ranged-along e ranged (take many (reading e.world).events) (each-take IsSame many (reading e.world).events (carrying.same e stands rest))
+      (run-first many e.world (reading e.world).events (carrying.run-read e stands rest)) (each-take IsLowEvent many (reading e.world).events reads-low)
 
   parcels-low : Each (λ x. IsLowUntil x.until) (carrying.parcels e stands rest)
   parcels-low = each-map (λ (x : Parcel). IsLowUntil x.until) (parcel_for e.world.shape stands.era.events (carrying.rests e stands rest)) (loads (after e.world.shape stands.era.events))
@@ -290,7 +287,7 @@ module _ (e : Eras) (stands : Stands e) (ranged : Ranged e) (rest : IsAtRest e.w
         events = sets;
         run = subst (λ (t : Dimensions). IsRun t (setting (opening s) (carrying.parcels e stands rest))) (sym shape) (carrying.setup e stands rest s successor can).rests.run;
         stands = carrying.world3 e stands rest s successor can ∙ ap (λ (t : Dimensions). after t (setting (opening s) (carrying.parcels e stands rest))) (sym shape);
-        low = each-weak s (IsPlain (carrying.parcels e stands rest)) IsLowEvent (plain-low (carrying.parcels e stands rest) parcels-low) sets (carrying.all-set e stands rest s successor can).plain;
+        low = each-weaker (IsPlain (carrying.parcels e stands rest)) IsLowEvent (plain-low (carrying.parcels e stands rest) parcels-low) sets (carrying.all-set e stands rest s successor can).plain;
       }
 
 deed-ranged : (e : Eras) (deed : Deed) → Stands e → Ranged e → MayBeDone e deed → Ranged (done e deed)

@@ -1,5 +1,6 @@
 -- All items of a group at rest are read, one after the other, and nothing more is settled.
 use Rattle.std.proofs.Common.{ℕ, zero, suc, ◌≡◌, ◌<◌, ◌≤◌, ◌+◌, ◌*◌, Bool, true, false, cond, List, [], ◌∷◌, ◌++◌, length, map, Some, ◌⊎◌, inl, inr, refl, sym, ap, ap₂, subst, ◌∙◌, arith}
+use Rattle.group_types.proofs.Eaches.{each-append}
 use Rattle.std.specs.Prelude.{Contains, filter}
 use Rattle.std.specs.List.{range_with_len}
 use Rattle.std.proofs.lemmas.Bool.{cases_lt}
@@ -27,7 +28,7 @@ use Rattle.group_eras.specs.Carry.{Getting, Parcel, Reading, get_with, got, parc
 use Rattle.group_eras.specs.Eras.{carrier}
 use Rattle.group_eras.specs.Items.{Load, load_from, loads, loads_in, loads_of, settled_items}
 use Rattle.group_eras.specs.Moments.{AreGot, HasItem}
-use Rattle.group_eras.proofs.Draining.{after-is, each-both, shape-after}
+use Rattle.group_eras.proofs.Draining.{after-is, shape-after}
 use Rattle.group_eras.proofs.Finding as finding
 use Rattle.group_eras.proofs.Resting.{IsStill, Rests, same-items, settled_of, still-settled, table_after_run}
 use Rattle.group_eras.proofs.Trying as trying
@@ -66,7 +67,7 @@ module _ (s : Dimensions) (w : World) where
 
   all-loads : (n a : ℕ) → a + n ≤ s.k → Each (IsLoad s w) (loads_of w (range_with_len a n))
   all-loads zero a low = tt
-  all-loads (suc n) a low = each-both s (IsLoad s w) (loads_in w a) (loads_of w (range_with_len (a + 1) n)) (some-loads a (omega (arith, low)) (settled_items w a) (λ x there. there)) (all-loads n (a + 1) (omega (arith, low)))
+  all-loads (suc n) a low = each-append (IsLoad s w) (loads_in w a) (loads_of w (range_with_len (a + 1) n)) (some-loads a (omega (arith, low)) (settled_items w a) (λ x there. there)) (all-loads n (a + 1) (omega (arith, low)))
 
   pub are-loads : w.shape ≡ s → Each (IsLoad s w) (loads w)
   are-loads shape = subst (λ (k : ℕ). Each (IsLoad s w) (loads_of w (range_with_len 0 k))) (sym (ap (λ (t : Dimensions). t.k) shape)) (all-loads s.k 0 (omega arith))
@@ -121,7 +122,7 @@ module _ (s : Dimensions) (es : List Event) (rests : Rests s es) where
     one-rests = subst (Rests s) (append_assoc es gs (got (after s fs) x).events) came-load.rests_then
 
     pub one-still : Each IsStill (gs ++ (got (after s (es ++ gs)) x).events)
-    one-still = each-both s IsStill gs (got (after s fs) x).events still came-load.still
+    one-still = each-append IsStill gs (got (after s fs) x).events still came-load.still
 
     pub one-world : (got (after s (es ++ gs)) x).world ≡ after s (es ++ (gs ++ (got (after s (es ++ gs)) x).events))
     one-world = came-load.world ∙ ap (after s) (append_assoc es gs (got (after s fs) x).events)
@@ -167,7 +168,7 @@ module _ (s : Dimensions) (es : List Event) (rests : Rests s es) where
       let events : (es ++ hs) ++ more ≡ (es ++ gs) ++ (g.events ++ more) = append_assoc es hs more ∙ ap (λ (ys : List Event). es ++ ys) (append_assoc gs g.events more) ∙ sym (append_assoc es gs (g.events ++ more)) in
       record {
         rests_then = subst (Rests s) events rest.rests_then;
-        still = each-both s IsStill g.events more (trying.Came.still (came-load gs still now x all.0)) rest.still;
+        still = each-append IsStill g.events more (trying.Came.still (came-load gs still now x all.0)) rest.still;
         world = rest.world ∙ ap (after s) events;
         parcels = ap₂ (λ (p : Parcel) (ps : List Parcel). p ∷ ps) (one-parcel gs still now x all.0) rest.parcels;
         are_got = (one-got gs still now x all.0, subst (λ (w : World). AreGot w xs) (sym world) later.are_got);

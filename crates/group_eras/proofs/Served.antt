@@ -1,6 +1,8 @@
 -- The set of a fresh key, in a group at rest of which no process is dead, is issued, and settled once the group is
 -- drained.
 use Rattle.std.proofs.Common.{ℕ, ℤ, zero, suc, ◌≡◌, ◌<◌, ◌≤◌, ◌+◌, Bool, false, List, [], ◌∷◌, ◌++◌, length, Option, Some, None, if◌then◌else◌, ◌⊎◌, inl, inr, refl, sym, ap, subst, ◌∙◌, arith}
+use Rattle.group_types.proofs.Eaches.{each-weaker}
+use Rattle.group_eras.proofs.Lists.{take-front, take-whole}
 use Rattle.std.specs.Prelude.{All, Contains, slice_get, take}
 use Rattle.std.proofs.lemmas.List.{append_assoc, append-nil}
 use Rattle.std.proofs.lemmas.List.Elements.{Contains-append_right}
@@ -54,10 +56,10 @@ use Rattle.law_causes.proofs.Lasting.{held_last_always}
 use Rattle.law_progress.specs.Ends.{IsDelivery}
 use Rattle.group_eras.specs.Carry.{draining}
 use Rattle.group_eras.specs.Eras.{carrier}
-use Rattle.group_eras.proofs.Draining.{Delivers, NoFailure, after-is, dead-after, dead-still, delivers, delivery-still, drained-rests, each-weak, more-run, more-up, shape-after, still-none}
+use Rattle.group_eras.proofs.Draining.{Delivers, NoFailure, after-is, dead-after, dead-still, delivers, delivery-still, drained-rests, more-run, more-up, shape-after, still-none}
 use Rattle.group_eras.proofs.Issues.{IsReadyAt}
 use Rattle.group_eras.proofs.Making.{asked-among}
-use Rattle.group_eras.proofs.Asking.{among-all, take-front, take-whole, turns-long}
+use Rattle.group_eras.proofs.Asking.{among-all, turns-long}
 use Rattle.group_eras.proofs.Naming.{log-grows}
 use Rattle.group_eras.proofs.Piling.{Piled, some-place}
 use Rattle.group_eras.proofs.Resting.{Rests, logs-of, rests-items, rests-upto, settled_of, state_at}
@@ -230,7 +232,7 @@ module _ (s : Dimensions) (es : List Event) (rests : Rests s es) (live : AllLive
   pub live-put : AllLive s done_put
   live-put p =
       ap (λ (xs : List Event). is_dead (after s xs) p) (sym there) ∙ ap (λ (v : World). is_dead v p) (after-is s after_put drain)
-      ∙ dead-after (after s after_put) drain (each-weak s IsDelivery NoFailure (λ e is. still-none e (delivery-still e is)) drain delivered-put.deliveries) p
+      ∙ dead-after (after s after_put) drain (each-weaker IsDelivery NoFailure (λ e is. still-none e (delivery-still e is)) drain delivered-put.deliveries) p
       ∙ ap (λ (v : World). is_dead v p) next ∙ dead-still w put_event none p ∙ live p
 
   -- the call is settled

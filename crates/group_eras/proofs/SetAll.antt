@@ -1,5 +1,6 @@
 -- All parcels are set in a fresh group, one after the other.
 use Rattle.std.proofs.Common.{ℕ, ◌≡◌, ◌≢◌, ◌<◌, ◌≤◌, ◌+◌, ◌*◌, ◌==◌, Bool, List, [], ◌∷◌, ◌++◌, length, refl, sym, ap, subst, ◌∙◌, arith}
+use Rattle.group_types.proofs.Eaches.{each-append, each-weaker}
 use Rattle.std.specs.Prelude.{All, Contains}
 use Rattle.std.proofs.lemmas.Bool.{eq-eqb}
 use Rattle.std.proofs.lemmas.List.{append_assoc, append-nil, length-append}
@@ -22,7 +23,7 @@ use Rattle.law_moves.proofs.Reading.{at-indices}
 use Rattle.law_progress.specs.Ends.{IsDelivery}
 use Rattle.group_layout.proofs.Deaths.{none-dead, none-dead-at}
 use Rattle.group_eras.specs.Carry.{Parcel, drained, draining, set_of, setting}
-use Rattle.group_eras.proofs.Draining.{after-is, each-both, each-weak}
+use Rattle.group_eras.proofs.Draining.{after-is}
 use Rattle.group_eras.proofs.Piling.{Piled, none-piled}
 use Rattle.group_eras.proofs.Resting.{Rests, settled_of}
 use Rattle.group_eras.proofs.Served.{AllLive}
@@ -97,8 +98,8 @@ set-all s all es ps (x ∷ xs) inside up come =
     record {
       setup = subst (SetUp s (es ++ setting (after s es) (x ∷ xs))) (append_assoc ps (x ∷ []) xs)
           (subst (λ (ys : List Event). SetUp s ys ((ps ++ x ∷ []) ++ xs)) events (subst (λ (w : World). SetUp s (done ++ setting w xs) ((ps ++ x ∷ []) ++ xs)) world rest.setup));
-      plain = each-both s (IsPlain all) (set_of x ∷ drain) (setting (drained (step (after s es) (set_of x)).world) xs)
-          ((x, inside.0, refl), each-weak s IsDelivery (IsPlain all) (delivery-plain all) drain (deliveries s es ps up x come.0))
+      plain = each-append (IsPlain all) (set_of x ∷ drain) (setting (drained (step (after s es) (set_of x)).world) xs)
+          ((x, inside.0, refl), each-weaker IsDelivery (IsPlain all) (delivery-plain all) drain (deliveries s es ps up x come.0))
           (subst (λ (w : World). Each (IsPlain all) (setting w xs)) world rest.plain);
       short =
           let both = length-append (set_of x ∷ drain) (setting (drained (step (after s es) (set_of x)).world) xs) in
@@ -118,10 +119,6 @@ pub record IsOfGroup (s : Dimensions) (x : Parcel) : Type 0 where
 abbrev pub Apart : Parcel → Parcel → Type 0
 Apart x y = x.key ≢ y.key
 
-each-half : (P Q : Parcel → Type 0) → ((x : Parcel) → P x → Q x) → (xs : List Parcel) → Each P xs → Each Q xs
-each-half P Q weak [] all = tt
-each-half P Q weak (x ∷ xs) all = (weak x all.0, each-half P Q weak xs all.1)
-
 -- parcels with different keys that the space has room for come
 pub all-come : (s : Dimensions) (ps qs : List Parcel) → Each (IsOfGroup s) qs → EachTwo Apart qs → Each (λ x. Each (Apart x) qs) ps → ((d : ℕ) → d < s.k → weight d (ps ++ qs) ≤ space_of s) → AllCome s ps qs
 all-come s ps [] of two cross room = tt
@@ -129,7 +126,7 @@ all-come s ps (x ∷ xs) of two cross room = (
   record {
     below = of.0.below;
     home = of.0.home;
-    new = each-half (λ y. Each (Apart y) (x ∷ xs)) (λ y. y.key ≢ x.key) (λ y all. all.0) ps cross;
+    new = each-weaker (λ y. Each (Apart y) (x ∷ xs)) (λ y. y.key ≢ x.key) (λ y all. all.0) ps cross;
     room =
         let most = room x.partition of.0.below in
         let both = weight-both x.partition ps (x ∷ xs) in
@@ -138,6 +135,6 @@ all-come s ps (x ∷ xs) of two cross room = (
     bytes = of.0.bytes;
   },
   all-come s (ps ++ x ∷ []) xs of.1 two.1
-      (each-both s (λ y. Each (Apart y) xs) ps (x ∷ []) (each-half (λ y. Each (Apart y) (x ∷ xs)) (λ y. Each (Apart y) xs) (λ y all. all.1) ps cross) (two.0, tt))
+      (each-append (λ y. Each (Apart y) xs) ps (x ∷ []) (each-weaker (λ y. Each (Apart y) (x ∷ xs)) (λ y. Each (Apart y) xs) (λ y all. all.1) ps cross) (two.0, tt))
       (λ d low. subst (λ (ys : List Parcel). weight d ys ≤ space_of s) (sym (append_assoc ps (x ∷ []) xs)) (room d low)),
 )

@@ -1,5 +1,6 @@
 -- A fresh group that is set up: the items of which it was asked lie one upon another, and all are settled.
 use Rattle.std.proofs.Common.{ℕ, ◌≡◌, ◌≢◌, ◌<◌, ◌≤◌, ◌+◌, ◌==◌, Bool, true, false, List, [], ◌∷◌, ◌++◌, length, if◌then◌else◌, ◌⊎◌, inl, inr, refl, sym, ap, subst, ◌∙◌, arith}
+use Rattle.group_types.proofs.Eaches.{each-append, each-weaker}
 use Rattle.std.specs.Prelude.{All, Contains}
 use Rattle.std.proofs.lemmas.Bool.{cases_eq, cases_lt, eq-eqb, ne_eqb}
 use Rattle.std.proofs.lemmas.List.{append_assoc, append-nil, length-append, take_all, take-append-le}
@@ -36,7 +37,7 @@ use Rattle.law_headline.proofs.Promises.{stands-always}
 use Rattle.law_progress.specs.Ends.{IsDelivery}
 use Rattle.group_eras.specs.Carry.{Parcel, draining, expiry_of, set_of}
 use Rattle.group_eras.specs.Eras.{carrier}
-use Rattle.group_eras.proofs.Draining.{after-is, delivery-still, each-both, each-weak}
+use Rattle.group_eras.proofs.Draining.{after-is, delivery-still}
 use Rattle.group_eras.proofs.Fronts.{AllUpto, Upto, upto-ask}
 use Rattle.group_eras.proofs.Issues as issues
 use Rattle.group_eras.proofs.Issues.{IsReadyAt}
@@ -209,7 +210,7 @@ module _ (s : Dimensions) (es : List Event) (ps : List Parcel) (up : SetUp s es 
 
   upto-done : AllUpto limit s (state_at s done)
   upto-done = subst (λ (xs : List Event). AllUpto limit s (state_at s xs)) there
-      (upto-still s limit (es ++ set ∷ []) drain (subst (IsRun s) (sym there) rests-done.run) (each-weak s IsDelivery IsStill delivery-still drain deliveries) upto-set)
+      (upto-still s limit (es ++ set ∷ []) drain (subst (IsRun s) (sym there) rests-done.run) (each-weaker IsDelivery IsStill delivery-still drain deliveries) upto-set)
 
   -- only the parcel's partition has more settled
   settled-other : (e : ℕ) → e < s.k → e ≢ x.partition → settled_of s done e ≡ settled_of s es e
@@ -258,7 +259,7 @@ module _ (s : Dimensions) (es : List Event) (ps : List Parcel) (up : SetUp s es 
       let parts = each-front (λ y. y.key ≢ key) ps (x ∷ []) others in
       let own : put.key ≡ x.key = issues.put-key w d us ready total piled x.key x.flags (expiry_of x.until) x.value new fits in
       subst (λ (f : ℕ). Each (λ u. u.key ≢ key) (settled_of s done f)) (sym same)
-      (subst (Each (λ u. u.key ≢ key)) (sym settled-own) (each-both s (λ u. u.key ≢ key) us (put ∷ []) (up.keys d comes.below key parts.0) ((λ is. parts.1.0 (sym own ∙ is)), tt)))
+      (subst (Each (λ u. u.key ≢ key)) (sym settled-own) (each-append (λ u. u.key ≢ key) us (put ∷ []) (up.keys d comes.below key parts.0) ((λ is. parts.1.0 (sym own ∙ is)), tt)))
   keys-done e low key others (inr other) = subst (Each (λ u. u.key ≢ key)) (sym (settled-other e low other)) (up.keys e low key (each-front (λ y. y.key ≢ key) ps (x ∷ []) others).0)
 
   has-set : HasSet (after s done).log x
@@ -286,5 +287,5 @@ module _ (s : Dimensions) (es : List Event) (ps : List Parcel) (up : SetUp s es 
     live = live-done;
     piled = λ e low. piled-done e low (cases_eq e d);
     keys = λ e low key others. keys-done e low key others (cases_eq e d);
-    logged = each-both s (HasSet (after s done).log) ps (x ∷ []) (each-weak s (HasSet (after s es).log) (HasSet (after s done).log) still-logged ps up.logged) (has-set, tt);
+    logged = each-append (HasSet (after s done).log) ps (x ∷ []) (each-weaker (HasSet (after s es).log) (HasSet (after s done).log) still-logged ps up.logged) (has-set, tt);
   }

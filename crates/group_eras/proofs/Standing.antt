@@ -1,5 +1,6 @@
 -- An era whose told log is legal behind that of the eras before stays so.
 use Rattle.std.proofs.Common.{ℕ, ◌≡◌, ◌≤◌, List, [], ◌∷◌, ◌++◌, map, replicate, inl, refl, sym, ap, subst, ◌∙◌, arith}
+use Rattle.group_eras.proofs.Lists.{map-both}
 use Rattle.std.specs.Prelude.{slice_index}
 use Rattle.std.proofs.lemmas.List.{length-replicate}
 use Rattle.group_types.specs.Dimensions.{Dimensions}
@@ -18,7 +19,6 @@ use Rattle.law_headline.proofs.Headlines.{headline_always}
 use Rattle.group_eras.specs.Eras.{EraEntry, Eras, era_step, first_era, turn_in}
 use Rattle.group_eras.specs.Promise.{HasPromise, IsEra, one_log, table_over}
 use Rattle.group_eras.specs.Told.{Bases, with_base}
-use Rattle.group_eras.proofs.Asking.{map-both}
 use Rattle.group_eras.proofs.Joins.{Joined, SetsFree, told-legal}
 use Rattle.group_eras.proofs.Making as making
 use Rattle.group_eras.proofs.Shifts.{Alike}

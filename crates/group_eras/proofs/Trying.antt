@@ -1,5 +1,6 @@
 -- A get that is asked again after each wait is answered in the end: there are no more waits than blocks.
 use Rattle.std.proofs.Common.{ℕ, zero, suc, ◌≡◌, ◌<◌, ◌≤◌, ◌+◌, ◌*◌, Bool, true, List, [], ◌∷◌, ◌++◌, length, Some, if◌then◌else◌, refl, sym, ap, subst, ◌∙◌, arith}
+use Rattle.group_types.proofs.Eaches.{each-append, each-weaker}
 use Rattle.std.proofs.lemmas.List.{append_assoc, append-nil, length-append}
 use Rattle.std.proofs.lemmas.List.Sums.{sum_by-cons}
 use Rattle.group_types.specs.Dimensions.{Dimensions}
@@ -26,11 +27,12 @@ use Rattle.law_progress.specs.Ends.{IsDelivery}
 use Rattle.law_progress.proofs.Waits.{few_waits_always}
 use Rattle.group_eras.specs.Carry.{Getting, drained, draining, get_with, got_behind, is_retry, only_got}
 use Rattle.group_eras.specs.Eras.{carrier}
-use Rattle.group_eras.proofs.Draining.{NoFailure, after-is, dead-after, delivers, delivery-still, drained-rests, each-both, each-weak, more-run, more-up, shape-after, still-none}
+use Rattle.group_eras.proofs.Draining.{NoFailure, after-is, dead-after, delivers, delivery-still, drained-rests, more-run, more-up, shape-after, still-none}
 use Rattle.group_eras.proofs.Getting as getting
 use Rattle.group_eras.proofs.Getting.{get_op}
 use Rattle.group_eras.proofs.Weighing.{event-drain}
 use Rattle.group_eras.proofs.Resting.{IsStill, Rests, same-items, still-settled, table_after_run}
+use Rattle.group_eras.proofs.Asking.{run-behind}
 
 -- waits of more events
 pub waits-both : (p : ProcessId) (w : World) (es fs : List Event) → block_waits p (turns_from w (es ++ fs)) ≡ block_waits p (turns_from w es) + block_waits p (turns_from (world_after w es) fs)
@@ -88,7 +90,7 @@ heads-still s es gs d r still heads = record {
   lowest = λ q low. dead (of_rank d q) ∙ heads.lowest q low;
 } where
   dead : (p : ProcessId) → is_dead (after s (es ++ gs)) p ≡ is_dead (after s es) p
-  dead p = ap (λ (w : World). is_dead w p) (after-is s es gs) ∙ dead-after (after s es) gs (each-weak s IsStill NoFailure still-none gs still) p
+  dead p = ap (λ (w : World). is_dead w p) (after-is s es gs) ∙ dead-after (after s es) gs (each-weaker IsStill NoFailure still-none gs still) p
 
 module _ (s : Dimensions) (es : List Event) (rests : Rests s es) (d : ℕ) (below : d < s.k) (r : ℕ) (heads : Heads (after s es) d r) (pin : IsProcess (after s es).shape (of_rank d r))
     (key : List ℕ) (home : home_of key s.k ≡ d) (h : Holding) (there : (table_after_run s es).items key ≡ Some h) (live : is_live 0 h.until ≡ true) where
@@ -170,10 +172,6 @@ module _ (s : Dimensions) (es : List Event) (rests : Rests s es) (d : ℕ) (belo
     run-now : IsRunFrom (after s es) gs → IsRunFrom (after s es) (gs ++ get ∷ [])
     run-now run = run-more (after s es) gs get run (subst (λ (w : World). MayCome w get) (after-is s es gs) may-now)
 
-  run-behind : (w : World) (xs ys : List Event) → IsRunFrom w (xs ++ ys) → IsRunFrom (world_after w xs) ys
-  run-behind w [] ys run = run
-  run-behind w (x ∷ xs) ys run = run-behind (step w x).world xs ys run.1
-
   pub came-with : (tries : ℕ) (gs : List Event) (still : Each IsStill gs) (now : Rests s (es ++ gs)) → AskedDrained (after s es) gs
       → (after s es).shape.blocks ≤ block_waits (of_rank d r) (turns_from (after s es) gs) + tries → Came (es ++ gs) (get_with tries get (step (after s (es ++ gs)) get))
   came-with zero gs still now asked few = by (answer-now gs still now) where
@@ -218,7 +216,7 @@ module _ (s : Dimensions) (es : List Event) (rests : Rests s es) (d : ℕ) (belo
         rests-next = subst (Rests s) there-is (subst (λ (w : World). Rests s (((es ++ gs) ++ get ∷ []) ++ draining w)) next (drained-rests s ((es ++ gs) ++ get ∷ []) run up))
 
         still-next : Each IsStill (gs ++ get ∷ draining (step (after s (es ++ gs)) get).world)
-        still-next = each-both s IsStill gs (get ∷ draining (step (after s (es ++ gs)) get).world) still (tt, each-weak s IsDelivery IsStill delivery-still (draining (step (after s (es ++ gs)) get).world) deliveries)
+        still-next = each-append IsStill gs (get ∷ draining (step (after s (es ++ gs)) get).world) still (tt, each-weaker IsDelivery IsStill delivery-still (draining (step (after s (es ++ gs)) get).world) deliveries)
 
         world-next : after s (es ++ (gs ++ get ∷ draining (step (after s (es ++ gs)) get).world)) ≡ drained (step (after s (es ++ gs)) get).world
         world-next = ap (after s) (sym there-is) ∙ after-is s ((es ++ gs) ++ get ∷ []) (draining (step (after s (es ++ gs)) get).world) ∙ ap (λ (w : World). world_after w (draining (step (after s (es ++ gs)) get).world)) next
@@ -235,7 +233,7 @@ module _ (s : Dimensions) (es : List Event) (rests : Rests s es) (d : ℕ) (belo
         all : Came (es ++ gs) (got_behind (get ∷ draining (step (after s (es ++ gs)) get).world) (get_with tries get (step (drained (step (after s (es ++ gs)) get).world) get)))
         all = record {
           rests_then = subst (Rests s) events rest.rests_then;
-          still = each-both s IsStill (get ∷ draining (step (after s (es ++ gs)) get).world) (get_with tries get (step (drained (step (after s (es ++ gs)) get).world) get)).events (tt, each-weak s IsDelivery IsStill delivery-still (draining (step (after s (es ++ gs)) get).world) deliveries) rest.still;
+          still = each-append IsStill (get ∷ draining (step (after s (es ++ gs)) get).world) (get_with tries get (step (drained (step (after s (es ++ gs)) get).world) get)).events (tt, each-weaker IsDelivery IsStill delivery-still (draining (step (after s (es ++ gs)) get).world) deliveries) rest.still;
           world = rest.world ∙ ap (after s) events;
           answer = rest.answer;
           asked = asked-both (after s (es ++ gs)) (get ∷ draining (step (after s (es ++ gs)) get).world) (get_with tries get (step (drained (step (after s (es ++ gs)) get).world) get)).events

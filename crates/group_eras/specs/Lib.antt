@@ -2,7 +2,9 @@ pub mod Carry
 pub mod Eras
 pub mod Items
 pub mod Moments
+pub mod Numbers
 pub mod Promise
 pub mod Range
 pub mod Refusal
 pub mod Told
+pub mod Worked

@@ -1,9 +1,17 @@
 pub mod Asked
+pub mod CarriedOver
 pub mod Counted
 pub mod Draining
 pub mod Fitting
+pub mod Tries
 pub mod Keys
+pub mod Led
 pub mod Moving
 pub mod Numbers
+pub mod Places
+pub mod Plain
+pub mod Readings
+pub mod Renewed
 pub mod Replied
+pub mod SetAll
 pub mod Stepped

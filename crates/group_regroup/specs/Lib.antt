@@ -1,4 +1,6 @@
 pub mod Fitting
+pub mod Items
 pub mod Kept
 pub mod Laws
 pub mod Parts
+pub mod Reading

@@ -5,7 +5,15 @@
 
 mod changing;
 mod drain;
+mod ending;
+mod entries;
+mod getting;
+mod items;
+mod loading;
+mod log;
+mod reading;
 mod regroup;
+mod setting;
 mod stepping;
 mod telling;
 
