@@ -5,6 +5,7 @@ pub mod Draining
 pub mod Fitting
 pub mod Tries
 pub mod Keys
+pub mod Lasting
 pub mod Led
 pub mod Moving
 pub mod Numbers

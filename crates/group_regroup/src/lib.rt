@@ -9,6 +9,7 @@ mod ending;
 mod entries;
 mod getting;
 mod items;
+mod last;
 mod loading;
 mod log;
 mod reading;
