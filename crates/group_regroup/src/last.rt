@@ -26,7 +26,14 @@ impl Regroup {
             return copies(self.alloc, &self.past[era], from);
         }
         let k = self.world.shape().k();
-        told_since(self.alloc, &self.bases, k, &self.lowered, self.world.log(), from)
+        told_since(
+            self.alloc,
+            &self.bases,
+            k,
+            &self.lowered,
+            self.world.log(),
+            from,
+        )
     }
 }
 

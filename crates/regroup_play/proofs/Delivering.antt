@@ -1,17 +1,16 @@
 -- The deliveries of a drain over eras, one after the other.
-use Rattle.std.proofs.Common.{ℕ, suc, ◌≡◌, ◌+◌, ◌-◌, ◌^◌, ◌≤◌, ◌<◌, List, [], ◌∷◌, length, Option, Some, None, refl, sym, ap, ◌∙◌, arith}
+use Rattle.std.proofs.Common.{ℕ, suc, ◌≡◌, ◌+◌, ◌-◌, ◌≤◌, ◌<◌, List, [], ◌∷◌, length, Some, None, refl, sym, ap, ◌∙◌, arith}
 use Rattle.group_types.specs.declared.process.ProcessId.{ProcessId}
 use Rattle.group_calls.specs.declared.event.Event.{Event}
 use Rattle.group_calls.specs.declared.event.Event.TheVariants.{Deliver}
 use Rattle.group_run.specs.Draining.{drain_events, next_delivery}
 use Rattle.group_run.specs.Meaning.{IsDown}
 use Rattle.group_run.specs.Progress.{load_of}
-use Rattle.group_run.specs.World.{World, step}
 use Rattle.scenario_run.specs.Playing.{draining}
 use Rattle.scenario_run.proofs.Draining.{Lightens, lightens}
 use Rattle.scenario_play.proofs.Delivering.{draining-down, draining-up, none-left, one-left}
 use Rattle.group_eras.specs.Eras.{Eras, MayMake, era_step, eras_after}
-use Rattle.group_eras.specs.Promise.{Deed, IsLed, Makes}
+use Rattle.group_eras.specs.Promise.{IsLed, Makes}
 use Rattle.regroup_run.proofs.Leading as leading
 use Rattle.regroup_play.proofs.Lines.{led-to}
 

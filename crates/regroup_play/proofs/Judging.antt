@@ -1,5 +1,5 @@
 -- What a line `regroup` does, by what came of the carry.
-use Rattle.std.proofs.Common.{ℕ, zero, suc, ◌≡◌, ◌+◌, ◌≤◌, ◌<◌, ◌⊎◌, inl, inr, ◌&&◌, Bool, true, false, nat_lt, nat_le, if◌then◌else◌, codes, List, [], ◌∷◌, ◌++◌, length, drop, Option, Some, None, Result, Ok, Err, refl, sym, ap, subst, ◌∙◌, arith}
+use Rattle.std.proofs.Common.{ℕ, zero, suc, ◌≡◌, ◌+◌, ◌≤◌, ◌<◌, ◌⊎◌, inl, inr, ◌&&◌, Bool, true, false, nat_lt, nat_le, if◌then◌else◌, codes, List, [], ◌∷◌, ◌++◌, length, Option, Some, None, Result, Ok, Err, refl, sym, ap, subst, ◌∙◌, arith}
 use Rattle.std.proofs.lemmas.Bool.Decides.{nat_tests}
 use Rattle.std.specs.Fmt.{decimal}
 use Rattle.std.specs.List.{list_all, range_with_len}
@@ -19,7 +19,7 @@ use Rattle.group_eras.specs.Carry.{carried, many_carried}
 use Rattle.group_eras.specs.Eras.{Eras}
 use Rattle.group_eras.specs.Items.{bytes_in}
 use Rattle.group_eras.specs.Promise.{Carries, Deed, IsEra, IsLed}
-use Rattle.group_eras.specs.Refusal.{CanCarry, IsFirstTooLong}
+use Rattle.group_eras.specs.Refusal.{IsFirstTooLong}
 use Rattle.group_eras.specs.declared.fault.CarryFault.{CarryFault}
 use Rattle.group_eras.specs.declared.fault.CarryFault.TheVariants.{Down, NoSpace, NotDrained, Want}
 use Rattle.group_eras.proofs.Promises.{eras_are_runs}

@@ -1,12 +1,10 @@
 -- Numbers that are the shape of a group, or the first of them that is out of range.
-use Rattle.std.proofs.Common.{◌≡◌, Option, Some, None, Result, Ok, Err, refl, sym, ap, ◌∙◌}
+use Rattle.std.proofs.Common.{◌≡◌, Option, Some, None, Ok, Err, refl, sym, ap, ◌∙◌}
 use Rattle.group_types.specs.Dimensions.{Dimensions}
 use Rattle.group_types.specs.Shape.{IsFirstOutOfRange, IsShape}
 use Rattle.group_types.specs.declared.shape.Field.{Field}
 use Rattle.scenario_text.specs.Meaning.{first_out_of_range, group_unless, group_within}
-use Rattle.scenario_text.specs.declared.line.Line.{Line}
 use Rattle.scenario_text.specs.declared.line.Line.TheVariants.{Group}
-use Rattle.scenario_text.specs.declared.line.LineFault.{LineFault}
 use Rattle.scenario_text.specs.declared.line.LineFault.TheVariants.{BadShape}
 use Rattle.scenario_text.proofs.Limits.{group_within-fault, group_within-shape}
 use Rattle.regroup_run.specs.Meaning.{shape_unless, shape_within}

@@ -1,5 +1,5 @@
 -- What a line `regroup` writes.
-use Rattle.std.specs.Prelude.{ℕ, ◌≡◌, ⊤, List, [], ◌∷◌, ◌++◌, codes, drop, Option, Some, None, Result, Ok, Err}
+use Rattle.std.specs.Prelude.{ℕ, ◌≡◌, ⊤, List, [], ◌∷◌, ◌++◌, codes, drop, Option, Some, Result, Ok, Err}
 use Rattle.std.specs.Fmt.{decimal}
 use Rattle.group_types.specs.Dimensions.{Dimensions}
 use Rattle.scenario_run.specs.Marks.{marked_entries}

@@ -98,11 +98,7 @@ fn follow_words(
 }
 
 /// Treats a line as in a script of one group.
-fn follow_line(
-    alloc: Global,
-    play: &mut EraPlay,
-    line: &Line,
-) -> Result<Option<Vec<u8>>, LineFault>
+fn follow_line(alloc: Global, play: &mut EraPlay, line: &Line) -> Result<Option<Vec<u8>>, LineFault>
     requires line { IsLineOf (Some play.old.eras.world.shape) line.now }
     requires low { IsLowLine line.now }
     requires led { IsLed play.old.eras }
@@ -221,11 +217,7 @@ fn follow_trace(
     follow_call(alloc, play, caller, &event)
 }
 
-fn follow_time(
-    alloc: Global,
-    play: &mut EraPlay,
-    moment: u64,
-) -> Result<Option<Vec<u8>>, LineFault>
+fn follow_time(alloc: Global, play: &mut EraPlay, moment: u64) -> Result<Option<Vec<u8>>, LineFault>
     requires { moment ≤ 2 ^ 62 }
     ensures { HasDone (Some play.old) (then_by play.old (line.Time moment)) (Some play.new) (text_in result) }
 {

@@ -1,4 +1,4 @@
-use Rattle.std.proofs.Common.{ℕ, List, Option, Result, Some, length, ap, sym, subst, ◌∙◌, Vec, Global}
+use Rattle.std.proofs.Common.{ℕ, Option, Result, Some, length, ap, sym, subst, ◌∙◌, Vec, Global}
 use Rattle.group_run.specs.World.{World}
 use Rattle.group_eras.specs.Promise.{IsLed}
 use Rattle.scenario_play.specs.Player.{text_in}

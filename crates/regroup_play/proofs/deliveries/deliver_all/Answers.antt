@@ -1,4 +1,4 @@
-use Rattle.std.proofs.Common.{◌<◌, ◌+◌, ◌^◌, ◌≤◌, ap, sym, subst, ◌∙◌, arith}
+use Rattle.std.proofs.Common.{◌<◌, ◌+◌, ap, sym, subst, ◌∙◌, arith}
 use Rattle.group_run.specs.Draining.{next_delivery}
 use Rattle.group_run.specs.Progress.{load_of}
 use Rattle.group_eras.specs.Eras.{Eras}

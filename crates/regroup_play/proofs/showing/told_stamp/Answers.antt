@@ -1,4 +1,4 @@
-use Rattle.std.proofs.Common.{ℕ, List, length, ap, ◌∙◌}
+use Rattle.std.proofs.Common.{length, ap, ◌∙◌}
 use Rattle.group_run.specs.Shown.{stamp_of}
 use Rattle.group_run.specs.World.{World}
 use Rattle.regroup_play.proofs.Stamps.{stamp-fits}

@@ -2,7 +2,6 @@ use Rattle.std.proofs.Common.{ℕ, ◌≡◌, ◌<◌, List, [], IfOk, Vec, Glob
 use Rattle.group_calls.specs.declared.entry.Entry.{Entry}
 use Rattle.group_types.specs.Dimensions.{Dimensions}
 use Rattle.group_eras.specs.Eras.{Eras}
-use Rattle.group_run.specs.World.{World}
 use Rattle.group_regroup.specs.declared.changing.Lowered.{Lowered}
 use Rattle.group_regroup.specs.Kept.{entries_from}
 use Rattle.group_regroup.specs.Last.{entries_of}
