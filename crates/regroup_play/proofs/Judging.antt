@@ -1,7 +1,9 @@
 -- What a line `regroup` does, by what came of the carry.
 use Rattle.std.proofs.Common.{ℕ, zero, suc, ◌≡◌, ◌+◌, ◌≤◌, ◌<◌, ◌⊎◌, inl, inr, ◌&&◌, Bool, true, false, nat_lt, nat_le, if◌then◌else◌, codes, List, [], ◌∷◌, ◌++◌, length, Option, Some, None, Result, Ok, Err, refl, sym, ap, subst, ◌∙◌, arith}
 use Rattle.std.proofs.lemmas.Bool.Decides.{nat_tests}
+use Rattle.std.specs.Prelude.{IfErr, IfOk, OnOk}
 use Rattle.std.specs.Fmt.{decimal}
+use Rattle.group_regroup.specs.Carrying.{IsLeft}
 use Rattle.std.specs.List.{list_all, range_with_len}
 use Rattle.std.specs.Option.{is_some}
 use Rattle.group_types.specs.Dimensions.{Dimensions, space_of}
@@ -19,7 +21,7 @@ use Rattle.group_eras.specs.Carry.{carried, many_carried}
 use Rattle.group_eras.specs.Eras.{Eras}
 use Rattle.group_eras.specs.Items.{bytes_in}
 use Rattle.group_eras.specs.Promise.{Carries, Deed, IsEra, IsLed}
-use Rattle.group_eras.specs.Refusal.{IsFirstTooLong}
+use Rattle.group_eras.specs.Refusal.{CanCarry, IsFirstTooLong, IsRefused}
 use Rattle.group_eras.specs.declared.fault.CarryFault.{CarryFault}
 use Rattle.group_eras.specs.declared.fault.CarryFault.TheVariants.{Down, NoSpace, NotDrained, Want}
 use Rattle.group_eras.proofs.Promises.{eras_are_runs}
@@ -89,6 +91,15 @@ too-long : (w : World) (s : Dimensions) (d : ℕ) → IsFirstTooLong w s d → h
 too-long w s d long =
     let there = long.partition in
     one-false (λ x. nat_le (bytes_in w x) (space_of s)) 0 w.shape.k d (omega arith) (omega (arith, there)) (above (bytes_in w d) (space_of s) long.long)
+
+-- what came of a carry, by the clauses of it
+pub from-carry : (e f : Eras) (s : Dimensions) (r : Result ℕ CarryFault) → OnOk r (f ≡ carried e s) → IfOk r (λ n. n ≡ many_carried e) → OnOk r (CanCarry e.world s) → IfErr r (IsRefused e.world s) → IfErr r (IsLeft e f)
+    → HasCarriedOn e f s r
+from-carry e f s (Ok n) eras many can fault left = (can, eras, many)
+from-carry e f s (Err Down) eras many can fault left = (fault, left)
+from-carry e f s (Err NotDrained) eras many can fault left = (fault, left)
+from-carry e f s (Err (NoSpace d)) eras many can fault left = (fault, left)
+from-carry e f s (Err Want) eras many can fault left = tt
 
 -- the era goes on
 pub era-low : (e f : Eras) (s : Dimensions) (n era : ℕ) → HasCarriedOn e f s (Ok n) → era ≡ e.era → era ≤ f.era
