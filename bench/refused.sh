@@ -40,6 +40,8 @@ refuse() {
     echo "$(basename "$input"): $(cat "$work/count") allocations refused, $ended ended the command with status 9"
 }
 
-for script in "$top"/examples/*.script; do refuse "$script" play; done
+for script in "$top"/examples/*.script; do
+    if grep -q '^groups ' "$script"; then refuse "$script" play_groups; else refuse "$script" play; fi
+done
 refuse "$work/connection" session 4 2 16 16
 refuse "$work/stream" frames

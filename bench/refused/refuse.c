@@ -52,3 +52,11 @@ void *aligned_alloc(size_t alignment, size_t size) {
     if (!next) next = dlsym(RTLD_NEXT, "aligned_alloc");
     return refuses() ? NULL : next(alignment, size);
 }
+
+/* The program ends by this one, which calls no destructor. */
+void _exit(int status) {
+    void (*next)(int) = (void (*)(int))dlsym(RTLD_NEXT, "_exit");
+    end();
+    next(status);
+    abort();
+}

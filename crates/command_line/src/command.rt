@@ -3,6 +3,8 @@
 pub enum Command {
     /// Plays a script.
     Play,
+    /// Plays a script of several groups on nodes.
+    PlayGroups,
     /// Serves one connection over a group of this shape.
     Session {
         k: u32,

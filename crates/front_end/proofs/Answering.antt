@@ -79,7 +79,7 @@ written ways told before at held now request calls text (Err fault) are leads is
   bytes = subst (λ (bs : List ℕ). Appends held now (take part.count bs)) is part.bytes;
 }
 
-ends-calls : (b : Bool) → MatchBool b (Unit {0}) (no_calls ≡ [])
+pub ends-calls : (b : Bool) → MatchBool b (Unit {0}) (no_calls ≡ [])
 ends-calls true = tt
 ends-calls false = refl
 

@@ -10,9 +10,9 @@ use Rattle.memc_proto.specs.declared.end.CallEnd.{CallEnd}
 use Rattle.memc_proto.specs.declared.request.Request.TheVariants.{Get}
 use Rattle.front_end.specs.Answers.{Stand, stand, IsMade, IsKeyAnswered, IsAnswered, IsBroken}
 use Rattle.front_end.specs.Calls.{Made, Ways}
-use Rattle.front_end.specs.Turns.{Acts, AreCallsOf, is_reply, key_text, get_text}
+use Rattle.front_end.specs.Turns.{Acts, AreCallsOf, is_reply, key_text, get_text, last_text}
 use Rattle.front_end.specs.declared.end.ConnectionFault.{ConnectionFault}
-use Rattle.front_end.proofs.Answering.{no_calls, first-none, stands-here, written}
+use Rattle.front_end.proofs.Answering.{ends-calls, no_calls, first-none, stands-here, written}
 
 -- the front of a text is a front of what begins with it
 front_of : (n : ℕ) (text more : List ℕ) → take n text ≡ take (min n (length text)) (text ++ more)
@@ -90,19 +90,31 @@ pub asked-broken : {C : Type 0} (ways : Ways C) (told : Option ℕ) (before now 
 asked-broken ways told before now after fault with_cas keys rest key after_it asked is broken =
     asked.broken after fault (subst (λ (ks : List (List ℕ)). IsBroken ways told now after fault (Get ks with_cas)) (sym is) (broken after_it))
 
--- the end of a get behind its last key
-pub asked-all : {C : Type 0} (ways : Ways C) (told : Option ℕ) (before : Stand C) (at : C) (held now : List ℕ) (with_cas : Bool) (keys rest : List (List ℕ)) (text : List ℕ) (result : Result (Unit {0}) ConnectionFault)
-    → AreAsked ways told before (stand at held) with_cas keys rest → rest ≡ [] → text ≡ end_of_items → OnOk result (Appends held now text) → HasWritten held now text
-    → MatchResult result (λ _. IsAnswered ways told before (stand at now) (Get keys with_cas)) (λ fault. IsBroken ways told before (stand at now) fault (Get keys with_cas))
-asked-all ways told before at held now with_cas keys rest text result asked none is whole part =
-    by_both result (written ways told at at held now (Get rest with_cas) [] text result (subst (λ (ks : List (List ℕ)). AreCallsOf told true (map (λ k. Acts (act.Get k)) ks) []) (sym none) tt) refl
-    (is ∙ sym (ap (λ (ks : List (List ℕ)). get_text with_cas ks []) none)) whole part)
-  where
-    by_both : (r : Result (Unit {0}) ConnectionFault)
-        → MatchResult r (λ _. IsAnswered ways told (stand at held) (stand at now) (Get rest with_cas)) (λ fault. IsBroken ways told (stand at held) (stand at now) fault (Get rest with_cas))
-        → MatchResult r (λ _. IsAnswered ways told before (stand at now) (Get keys with_cas)) (λ fault. IsBroken ways told before (stand at now) fault (Get keys with_cas))
-    by_both (Ok _) answered = asked.answered (stand at now) answered
-    by_both (Err fault) broken = asked.broken (stand at now) fault broken
+-- what comes of the rest of a get comes of the whole
+pub asked-rest : {C : Type 0} (ways : Ways C) (told : Option ℕ) (before now after : Stand C) (with_cas : Bool) (keys rest by : List (List ℕ)) (result : Result (Unit {0}) ConnectionFault)
+    → AreAsked ways told before now with_cas keys rest → rest ≡ by → MatchResult result (λ _. IsAnswered ways told now after (Get by with_cas)) (λ fault. IsBroken ways told now after fault (Get by with_cas))
+    → MatchResult result (λ _. IsAnswered ways told before after (Get keys with_cas)) (λ fault. IsBroken ways told before after fault (Get keys with_cas))
+asked-rest ways told before now after with_cas keys rest by (Ok _) asked is answered =
+    asked.answered after (subst (λ (ks : List (List ℕ)). IsAnswered ways told now after (Get ks with_cas)) (sym is) answered)
+asked-rest ways told before now after with_cas keys rest by (Err fault) asked is broken =
+    asked.broken after fault (subst (λ (ks : List (List ℕ)). IsBroken ways told now after fault (Get ks with_cas)) (sym is) broken)
+
+-- a get of no key
+pub asked-nothing : {C : Type 0} (ways : Ways C) (told : Option ℕ) (at : C) (held now : List ℕ) (with_cas : Bool) (keys : List (List ℕ)) (text : List ℕ) (result : Result (Unit {0}) ConnectionFault)
+    → keys ≡ [] → text ≡ end_of_items → OnOk result (Appends held now text) → HasWritten held now text
+    → MatchResult result (λ _. IsAnswered ways told (stand at held) (stand at now) (Get keys with_cas)) (λ fault. IsBroken ways told (stand at held) (stand at now) fault (Get keys with_cas))
+asked-nothing ways told at held now with_cas keys text result none is whole part =
+    written ways told at at held now (Get keys with_cas) [] text result (subst (λ (ks : List (List ℕ)). AreCallsOf told true (map (λ k. Acts (act.Get k)) ks) []) (sym none) tt) refl
+    (is ∙ sym (ap (λ (ks : List (List ℕ)). get_text with_cas ks []) none)) whole part
+
+-- the last key of a get was asked, and the text of its call and what stands behind it was written, or the front of both
+pub last-answered : {C : Type 0} (ways : Ways C) (told : Option ℕ) (before at : C) (held now : List ℕ) (with_cas : Bool) (key : List ℕ) (end : CallEnd) (result : Result (Unit {0}) ConnectionFault)
+    → IsMade ways told before at (act.Get key) end → OnOk result (Appends held now (last_text key with_cas end))
+    → HasWritten held now (last_text key with_cas end)
+    → MatchResult result (λ _. IsAnswered ways told (stand before held) (stand at now) (Get (key ∷ []) with_cas)) (λ fault. IsBroken ways told (stand before held) (stand at now) fault (Get (key ∷ []) with_cas))
+last-answered ways told before at held now with_cas key end result made whole part =
+    written ways told before at held now (Get (key ∷ []) with_cas) (Made made.op end ∷ []) (last_text key with_cas end) result
+    ((made.act_is, made.moment), ends-calls (is_reply end)) (at, made.made, refl) refl whole part
 
 -- the key of a get whose call ended, and whose text is written
 pub key-answered : {C : Type 0} (ways : Ways C) (told : Option ℕ) (before after : C) (held now : List ℕ) (with_cas : Bool) (key : List ℕ) (end : CallEnd) (replied : Bool)

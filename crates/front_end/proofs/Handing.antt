@@ -1,4 +1,4 @@
-use Rattle.std.proofs.Common.{◌≡◌, ℕ, suc, ◌+◌, ◌<◌, ◌≤◌, get_or, drop, add-one, List, ◌∷◌, length, Result, Ok, Err, MatchResult, sym, ap, ◌∙◌, subst, arith}
+use Rattle.std.proofs.Common.{◌≡◌, ℕ, suc, ◌+◌, ◌<◌, ◌≤◌, get_or, drop, add-one, List, [], ◌∷◌, ◌++◌, length, Result, Ok, Err, MatchResult, refl, sym, ap, ◌∙◌, subst, arith}
 use Rattle.std.proofs.Math.Seq.{drop-cons}
 use Rattle.std.specs.Result.{IsErrAnd}
 use Rattle.edge_io.specs.Faults.{Rose}
@@ -32,3 +32,11 @@ cause-none before now x earlier = record { later = earlier; cause = tt }
 -- the rest of a list at an index within it
 pub rest_at : {X : Type 0} (xs : List X) (i : ℕ) (x : X) → i < length xs → x ≡ get_or xs i x → drop i xs ≡ x ∷ drop (i + 1) xs
 rest_at {X} xs i x within is = drop-cons xs i x within ∙ rw add-one (ap (λ (y : X). y ∷ drop (suc i) xs) (sym is))
+
+-- the same where one more stands behind the list
+pub rest-with : {X : Type 0} (xs : List X) (last : X) (i : ℕ) (x : X) → i < length xs → x ≡ get_or xs i x → drop i xs ++ last ∷ [] ≡ x ∷ (drop (i + 1) xs ++ last ∷ [])
+rest-with {X} xs last i x within is = ap (λ (ys : List X). ys ++ last ∷ []) (rest_at xs i x within is)
+
+pub none-at-all : {X : Type 0} (xs : List X) → length xs ≡ 0 → xs ≡ []
+none-at-all [] none = refl
+none-at-all (x ∷ xs) none = absurd (cc none)

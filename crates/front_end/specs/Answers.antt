@@ -1,5 +1,5 @@
 -- Requests that are answered: their calls lead the caller on, and their text is written.
-use Rattle.std.specs.Prelude.{ℕ, ◌≡◌, ◌⊎◌, Bool, true, false, List, [], ◌∷◌, ◌++◌, take, Option}
+use Rattle.std.specs.Prelude.{ℕ, ◌≡◌, ◌⊎◌, Bool, true, false, List, [], ◌∷◌, ◌++◌, take, Option, Result, MatchResult}
 use Rattle.edge_io.specs.Moving.{Appends}
 use Rattle.memc_table.specs.Asked.{Asked}
 use Rattle.memc_table.specs.declared.act.Act.{Act}
@@ -8,6 +8,7 @@ use Rattle.memc_proto.specs.Reader.{IsTooLong}
 use Rattle.memc_proto.specs.Text.{too_long_text}
 use Rattle.memc_proto.specs.declared.end.CallEnd.{CallEnd}
 use Rattle.memc_proto.specs.declared.request.Request.{Request}
+use Rattle.memc_proto.specs.declared.request.Request.TheVariants as request
 use Rattle.front_end.specs.Calls.{Call, Ways, LeadsBy, Leads}
 use Rattle.front_end.specs.Faults.{StandsAt}
 use Rattle.front_end.specs.Turns.{Turn, Acts, IsMoment, IsCallOf, AreCallsOf, AreWhole, dues_of}
@@ -55,6 +56,16 @@ pub record IsBroken {C : Type 0} (ways : Ways C) (told : Option ℕ) (before aft
   pub count : ℕ
   pub bytes : Appends before.held after.held (take count (answer_text request calls))
 
+-- what came of a request: it was answered, or a fault came while it was
+abbrev pub ComesOf : {C : Type 0} → Ways C → Option ℕ → Stand C → Stand C → Request → Result (Unit {0}) ConnectionFault → Type 0
+ComesOf ways told before after request result = MatchResult result (λ _. IsAnswered ways told before after request) (λ fault. IsBroken ways told before after fault request)
+
+-- what came of the first of the keys that a get still asks
+abbrev pub ComesOfKey : {C : Type 0} → Ways C → Option ℕ → Stand C → Stand C → Bool → List ℕ → Result Bool ConnectionFault → Type 0
+ComesOfKey ways told before after with_cas key result =
+    MatchResult result (λ replied. IsKeyAnswered ways told before after with_cas key replied)
+    (λ fault. (keys : List (List ℕ)) → IsBroken ways told before after fault (request.Get (key ∷ keys) with_cas))
+
 -- requests were answered in order, and behind their text this was written
 pub record AreAnswered {C : Type 0} (ways : Ways C) (told : Option ℕ) (before after : Stand C) (requests : List Request) (more : List ℕ) : Type 0 where
   pub turns : List Turn
@@ -73,6 +84,11 @@ pub record AreBroken {C : Type 0} (ways : Ways C) (told : Option ℕ) (before af
   pub middle : Stand C
   pub answered : AreAnswered ways told before middle (first ++ next) []
   pub broken : IsBroken ways told middle after fault request
+
+-- what came of requests that are answered in order
+abbrev pub ComesOfAll : {C : Type 0} → Ways C → Option ℕ → Stand C → Stand C → List Request → Result (Unit {0}) ConnectionFault → Type 0
+ComesOfAll ways told before after requests result =
+    MatchResult result (λ _. AreAnswered ways told before after requests []) (λ fault. AreBroken ways told before after fault [] requests)
 
 -- what is written behind the answers: nothing, or at a line that is too long the front of its text
 abbrev pub IsClosing : List ℕ → List ℕ → Type 0

@@ -64,6 +64,10 @@ get_text with_cas [] _ = end_of_items
 get_text with_cas (_ ∷ _) [] = []
 get_text with_cas (key ∷ keys) (call ∷ calls) = key_text with_cas key call ++ (if is_replied call then get_text with_cas keys calls else [])
 
+-- the text of the call on the last key of a get, and what stands behind it
+abbrev pub last_text : List ℕ → Bool → CallEnd → List ℕ
+last_text key with_cas end = end_text key with_cas end ++ (if is_reply end then end_of_items else [])
+
 -- the text of a call that may change an item, once it was made
 abbrev pub change_text : Act → Bool → List Call → List ℕ
 change_text asked noreply (Made _ end ∷ _) = if noreply then [] else end_text (key_of asked) false end

@@ -1,11 +1,11 @@
-ghost use Rattle.std.specs.Prelude.{◌≡◌, ℕ, List, ◌∷◌, MatchResult, IfOk, OnOk, OnErr};
+ghost use Rattle.std.specs.Prelude.{◌≡◌, [], ◌∷◌, IfOk, OnOk, OnErr};
 ghost use Rattle.edge_io.specs.Moving.{Appends};
 ghost use Rattle.edge_io.specs.Writing.{HasWritten};
 ghost use Rattle.memc_proto.specs.Text.{end_text};
-ghost use Rattle.front_end.specs.Answers.{stand, IsMade, IsKeyAnswered, IsAnswered, IsBroken};
+ghost use Rattle.front_end.specs.Answers.{stand, ComesOf, ComesOfKey, IsMade};
 ghost use Rattle.front_end.specs.Calls.{ways_of};
 ghost use Rattle.front_end.specs.Faults.{HasSinkCause};
-ghost use Rattle.front_end.specs.Turns.{is_reply};
+ghost use Rattle.front_end.specs.Turns.{is_reply, last_text};
 
 use crate::caller::Caller;
 use crate::end::ConnectionFault;
@@ -25,11 +25,9 @@ pub(crate) fn answer_request<C: Caller, K: Sink, T: Clock>(
     clock: &T,
     request: &Request,
 ) -> Result<(), ConnectionFault>
-    ensures answer { MatchResult result
-        (λ _. IsAnswered (ways_of C.made C.failed C.kept) (T.moment clock.now)
-        (stand caller.old (K.held sink.old)) (stand caller.new (K.held sink.new)) request.now)
-        (λ fault. IsBroken (ways_of C.made C.failed C.kept) (T.moment clock.now)
-        (stand caller.old (K.held sink.old)) (stand caller.new (K.held sink.new)) fault request.now) }
+    ensures answer { ComesOf (ways_of C.made C.failed C.kept) (T.moment clock.now)
+        (stand caller.old (K.held sink.old)) (stand caller.new (K.held sink.new))
+        request.now result }
     ensures cause { HasSinkCause (K.faults sink.old) (K.faults sink.new) result }
 {
     match request {
@@ -57,11 +55,9 @@ fn answer_change<C: Caller, K: Sink, T: Clock>(
     act: &Act,
     noreply: bool,
 ) -> Result<(), ConnectionFault>
-    ensures answer { MatchResult result
-        (λ _. IsAnswered (ways_of C.made C.failed C.kept) (T.moment clock.now)
-        (stand caller.old (K.held sink.old)) (stand caller.new (K.held sink.new)) (Request.Change act.now noreply))
-        (λ fault. IsBroken (ways_of C.made C.failed C.kept) (T.moment clock.now)
-        (stand caller.old (K.held sink.old)) (stand caller.new (K.held sink.new)) fault (Request.Change act.now noreply)) }
+    ensures answer { ComesOf (ways_of C.made C.failed C.kept) (T.moment clock.now)
+        (stand caller.old (K.held sink.old)) (stand caller.new (K.held sink.new))
+        (Request.Change act.now noreply) result }
     ensures cause { HasSinkCause (K.faults sink.old) (K.faults sink.new) result }
 {
     let end = ask(caller, clock, copy_of(act)?)?;
@@ -79,19 +75,57 @@ fn answer_get<C: Caller, K: Sink, T: Clock>(
     keys: &[Key],
     with_cas: bool,
 ) -> Result<(), ConnectionFault>
-    ensures answer { MatchResult result
-        (λ _. IsAnswered (ways_of C.made C.failed C.kept) (T.moment clock.now)
-        (stand caller.old (K.held sink.old)) (stand caller.new (K.held sink.new)) (Request.Get keys.now with_cas))
-        (λ fault. IsBroken (ways_of C.made C.failed C.kept) (T.moment clock.now)
-        (stand caller.old (K.held sink.old)) (stand caller.new (K.held sink.new)) fault (Request.Get keys.now with_cas)) }
+    ensures answer { ComesOf (ways_of C.made C.failed C.kept) (T.moment clock.now)
+        (stand caller.old (K.held sink.old)) (stand caller.new (K.held sink.new))
+        (Request.Get keys.now with_cas) result }
     ensures cause { HasSinkCause (K.faults sink.old) (K.faults sink.new) result }
 {
-    'keys: for key in keys {
+    let Some((last, first)) = keys.split_last() else {
+        return write_text(sink, end_of_items());
+    };
+    'keys: for key in first {
         if !answer_key(alloc, caller, sink, clock, key, with_cas)? {
             return Ok(());
         }
     }
-    write_text(sink, end_of_items())
+    answer_last_key(alloc, caller, sink, clock, last, with_cas)
+}
+
+/// Makes the call on the last key of a get, and writes its text and what stands behind it at once.
+fn answer_last_key<C: Caller, K: Sink, T: Clock>(
+    alloc: Global,
+    caller: &mut C,
+    sink: &mut K,
+    clock: &T,
+    key: &Key,
+    with_cas: bool,
+) -> Result<(), ConnectionFault>
+    ensures answer { ComesOf (ways_of C.made C.failed C.kept) (T.moment clock.now)
+        (stand caller.old (K.held sink.old)) (stand caller.new (K.held sink.new))
+        (Request.Get (key.now ∷ []) with_cas) result }
+    ensures cause { HasSinkCause (K.faults sink.old) (K.faults sink.new) result }
+{
+    let end = ask(caller, clock, get_of(key)?)?;
+    write_last(alloc, sink, key, with_cas, end)
+}
+
+/// Writes the text of the end of the call on the last key of a get, and `END` behind it where it is a reply.
+fn write_last<K: Sink>(
+    alloc: Global,
+    sink: &mut K,
+    key: &Key,
+    with_cas: bool,
+    end: CallEnd,
+) -> Result<(), ConnectionFault>
+    ensures whole { OnOk result (Appends (K.held sink.old) (K.held sink.new) (last_text key.now with_cas end)) }
+    ensures part { HasWritten (K.held sink.old) (K.held sink.new) (last_text key.now with_cas end) }
+    ensures cause { HasSinkCause (K.faults sink.old) (K.faults sink.new) result }
+{
+    let mut text = Vec::from(write_reply(alloc, key, with_cas, &end)?);
+    if is_reply(&end) {
+        text.extend_from_slice(end_of_items())?;
+    }
+    write_text(sink, &text)
 }
 
 /// Makes the call on one key of a get and writes its text. Says whether the call ended by a reply.
@@ -103,11 +137,9 @@ fn answer_key<C: Caller, K: Sink, T: Clock>(
     key: &Key,
     with_cas: bool,
 ) -> Result<bool, ConnectionFault>
-    ensures answer { MatchResult result
-        (λ replied. IsKeyAnswered (ways_of C.made C.failed C.kept) (T.moment clock.now)
-        (stand caller.old (K.held sink.old)) (stand caller.new (K.held sink.new)) with_cas key.now replied)
-        (λ fault. (keys : List (List ℕ)) → IsBroken (ways_of C.made C.failed C.kept) (T.moment clock.now)
-        (stand caller.old (K.held sink.old)) (stand caller.new (K.held sink.new)) fault (Request.Get (key.now ∷ keys) with_cas)) }
+    ensures answer { ComesOfKey (ways_of C.made C.failed C.kept) (T.moment clock.now)
+        (stand caller.old (K.held sink.old)) (stand caller.new (K.held sink.new))
+        with_cas key.now result }
     ensures cause { HasSinkCause (K.faults sink.old) (K.faults sink.new) result }
 {
     let end = ask(caller, clock, get_of(key)?)?;

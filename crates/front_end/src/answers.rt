@@ -1,5 +1,4 @@
-ghost use Rattle.std.specs.Prelude.{MatchResult, []};
-ghost use Rattle.front_end.specs.Answers.{stand, AreAnswered, AreBroken};
+ghost use Rattle.front_end.specs.Answers.{stand, ComesOfAll};
 ghost use Rattle.front_end.specs.Calls.{ways_of};
 ghost use Rattle.front_end.specs.Faults.{HasSinkCause};
 
@@ -18,11 +17,8 @@ pub(crate) fn answer_all<C: Caller, K: Sink, T: Clock>(
     clock: &T,
     requests: &[Request],
 ) -> Result<(), ConnectionFault>
-    ensures answer { MatchResult result
-        (λ _. AreAnswered (ways_of C.made C.failed C.kept) (T.moment clock.now)
-        (stand caller.old (K.held sink.old)) (stand caller.new (K.held sink.new)) requests.now [])
-        (λ fault. AreBroken (ways_of C.made C.failed C.kept) (T.moment clock.now)
-        (stand caller.old (K.held sink.old)) (stand caller.new (K.held sink.new)) fault [] requests.now) }
+    ensures answer { ComesOfAll (ways_of C.made C.failed C.kept) (T.moment clock.now)
+        (stand caller.old (K.held sink.old)) (stand caller.new (K.held sink.new)) requests.now result }
     ensures cause { HasSinkCause (K.faults sink.old) (K.faults sink.new) result }
 {
     'requests: for request in requests {

@@ -25,9 +25,11 @@ pub(crate) fn serve_piece<C: Caller, K: Sink, T: Clock>(
     reader: &mut Reader,
     piece: &[u8],
 ) -> Result<Option<End>, ConnectionFault>
-    ensures served { (input : List ℕ) (earlier : List Request) → HasRead reader.old input earlier → list_any is_quit earlier ≡ false
+    ensures served { (input : List ℕ) (earlier : List Request)
+        → HasRead reader.old input earlier → list_any is_quit earlier ≡ false
         → IsServed (ways_of C.made C.failed C.kept) (T.moment clock.now)
-        (stand caller.old (K.held sink.old)) (stand caller.new (K.held sink.new)) reader.new input earlier piece.now result }
+        (stand caller.old (K.held sink.old)) (stand caller.new (K.held sink.new))
+        reader.new input earlier piece.now result }
     ensures cause { HasSinkCause (K.faults sink.old) (K.faults sink.new) result }
 {
     let given = reader.feed(piece)?;

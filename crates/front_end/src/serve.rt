@@ -29,7 +29,8 @@ pub fn serve_connection<C: Caller, S: Source, K: Sink, T: Clock>(
     sink: &mut K,
     clock: &T,
 ) -> Result<End, ConnectionFault>
-    ensures served { HasServed (ways_of C.made C.failed C.kept) (T.moment clock.now) (S.input source.old) (S.input source.new)
+    ensures served { HasServed (ways_of C.made C.failed C.kept) (T.moment clock.now)
+        (S.input source.old) (S.input source.new)
         (stand caller.old (K.held sink.old)) (stand caller.new (K.held sink.new)) result }
     ensures read { HasCauseOf (S.faults source.old) (S.faults source.new) result ConnectionFault.ReadFault }
     ensures write { HasCauseOf (K.faults sink.old) (K.faults sink.new) result ConnectionFault.WriteFault }
@@ -51,7 +52,8 @@ fn serve_pieces<C: Caller, S: Source, K: Sink, T: Clock>(
 ) -> Result<End, ConnectionFault>
     requires room { length room.old ≡ PIECE }
     requires fresh { HasRead reader.old [] [] }
-    ensures served { HasServed (ways_of C.made C.failed C.kept) (T.moment clock.now) (S.input source.old) (S.input source.new)
+    ensures served { HasServed (ways_of C.made C.failed C.kept) (T.moment clock.now)
+        (S.input source.old) (S.input source.new)
         (stand caller.old (K.held sink.old)) (stand caller.new (K.held sink.new)) result }
     ensures read { HasCauseOf (S.faults source.old) (S.faults source.new) result ConnectionFault.ReadFault }
     ensures write { HasCauseOf (K.faults sink.old) (K.faults sink.new) result ConnectionFault.WriteFault }
@@ -74,8 +76,8 @@ fn serve_pieces<C: Caller, S: Source, K: Sink, T: Clock>(
 
 /// The end of a connection whose input ended.
 fn end_at(reader: &Reader) -> End
-    ensures { (input : List ℕ) (requests : List Request) → (read : HasRead reader.now input requests) → list_any is_quit requests ≡ false
-        → IsEndAt read.rest result }
+    ensures { (input : List ℕ) (requests : List Request) → (read : HasRead reader.now input requests)
+        → list_any is_quit requests ≡ false → IsEndAt read.rest result }
 {
     if reader.at_start() {
         End::Ended

@@ -1,12 +1,17 @@
 -- No command but `serve` tells of a listener.
 use Rattle.std.proofs.Common.{◌≡◌, ◌≢◌, ℕ, ◌⊎◌, inl, inr, Bool, true, false, if◌then◌else◌, nat_lt, List, length, Option, Some, None, sym, ◌∙◌}
 use Rattle.edge_io.specs.Faults.{Rose}
+use Rattle.cluster_play.specs.Language as cluster
+use Rattle.cluster_run.specs.Script as clusters
+use Rattle.cluster_run.specs.declared.fault.ClusterFault.{ClusterFault}
+use Rattle.cluster_run.specs.declared.fault.ClusterFault.TheVariants as cluster-line
+use Rattle.group_cluster.specs.declared.layout.LayoutField.TheVariants as field
 use Rattle.group_types.specs.Dimensions.{Dimensions}
 use Rattle.scenario_text.specs.declared.line.LineFault.{LineFault}
 use Rattle.scenario_text.specs.declared.line.LineFault.TheVariants as line
 use Rattle.scenario_run.specs.Course.{Fault}
 use Rattle.scenario_run.specs.Script.{first_fault}
-use Rattle.scenario_play.specs.Language.{Language, group_scripts, told_in}
+use Rattle.scenario_play.specs.Language.{Language, told_in}
 use Rattle.scenario_play.specs.Outside.{Outside}
 use Rattle.scenario_play.specs.Played.{IsPlayed, IsWritten}
 use Rattle.scenario_play.specs.Status.{IsTold, longest_script, status_for, told_at, told_of}
@@ -33,6 +38,21 @@ told-not text is = by (nat_lt longest_script (length text)) (first_fault text) i
   by true fault is = cc is
   by false None is = cc is
   by false (Some fault) is = told_at-not fault.number fault.cause is
+
+-- and of one of several groups
+told_at-never : (n : ℕ) (cause : ClusterFault) → cluster.told_at n cause ≢ AcceptFault
+told_at-never n cluster-line.BadLine is = cc is
+told_at-never n (cluster-line.BadLayout field.Groups) is = cc is
+told_at-never n (cluster-line.BadLayout field.Nodes) is = cc is
+told_at-never n (cluster-line.BadLayout (field.Shape f)) is = cc is
+told_at-never n cluster-line.Want is = cc is
+
+pub groups-told-not : (text : List ℕ) → told_in cluster.cluster_scripts text ≢ AcceptFault
+groups-told-not text is = by (nat_lt longest_script (length text)) (clusters.first_fault text) is where
+  by : (b : Bool) (fault : Option (Fault ClusterFault)) → (if b then TooLong else told_of cluster.told_at fault) ≢ AcceptFault
+  by true fault is = cc is
+  by false None is = cc is
+  by false (Some fault) is = told_at-never fault.number fault.cause is
 
 pub played-not : (l : Language) → ((text : List ℕ) → told_in l text ≢ AcceptFault) → (before now : Outside) (status : Status) → IsPlayed l before now status
     → status ≢ AcceptFault

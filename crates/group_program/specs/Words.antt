@@ -1,10 +1,11 @@
 use Rattle.std.specs.Prelude.{Option, Some, ⊤}
 use Rattle.command_line.specs.declared.command.Command.{Command}
-use Rattle.command_line.specs.declared.command.Command.TheVariants.{Frames, Play, Serve, Session}
+use Rattle.command_line.specs.declared.command.Command.TheVariants.{Frames, Play, PlayGroups, Serve, Session}
 
 -- the words ask for no command that reads its input
 abbrev pub ReadsNothing : Option Command → Type 0
 ReadsNothing (Some Play) = ⊥
+ReadsNothing (Some PlayGroups) = ⊥
 ReadsNothing (Some Frames) = ⊥
 ReadsNothing (Some Serve) = ⊥
 ReadsNothing (Some (Session _ _ _ _)) = ⊥

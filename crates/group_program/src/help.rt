@@ -4,6 +4,7 @@ use scenario_play::status::Count;
 use std::alloc::{AllocError, Global};
 
 const COMMANDS: &str = "usage: cocytus_main play < SCRIPT
+       cocytus_main play_groups < SCRIPT
        cocytus_main session <k> <m> <blocks> <block>
        cocytus_main serve < SETTINGS
        cocytus_main make <n>
@@ -29,11 +30,22 @@ stop
 A process is d<n> or p<n>; a value is -, hexadecimal digits, or *<len>*<hh>.
 ";
 
+const GROUPS_LINES: &str =
+    "is none of these, with words one space apart, ended by a line feed alone:
+groups <g> <n> <k> <m> <blocks> <block>        the first line, and no other
+g<j> <line>                                    of group j, as in a script of one group: ask, collect, deliver,
+                                               flush, trace or show
+fail_node <node> <keep>|all
+time <n>
+drain
+stop
+";
+
 /// What a person is told beside the last line of a command with these words: what was expected there, or what went
 /// wrong.
 pub fn help_at(alloc: Global, words: &[String], status: Status) -> Result<String, AllocError> {
     match status {
-        Status::BadLine(n) => format!(in alloc; "line {n} of the script {LINES}"),
+        Status::BadLine(n) => format!(in alloc; "line {n} of the script {}", lines(words)),
         Status::BadFrame(at) => {
             format!(in alloc; "the frame at byte {at} of the input is none of a message\n")
         }
@@ -41,6 +53,14 @@ pub fn help_at(alloc: Global, words: &[String], status: Status) -> Result<String
         Status::BadConfig(key) => format!(in alloc; "{}\n", key.allowed()),
         Status::TooLong => too_long(words).to_string(alloc),
         other => help_text(other).to_string(alloc),
+    }
+}
+
+/// The lines of a command's scripts.
+fn lines(words: &[String]) -> &'static str {
+    match words.first() {
+        Some(word) if word.as_str() == "play_groups" => GROUPS_LINES,
+        _ => LINES,
     }
 }
 

@@ -1,5 +1,6 @@
 ghost use Rattle.std.specs.Prelude.{◌≡◌, ◌≢◌, ◌⊎◌, map, Some, None};
 ghost use Rattle.std.specs.String.{string_bytes};
+ghost use Rattle.cluster_play.specs.Language.{cluster_scripts};
 ghost use Rattle.command_line.specs.Words.{command_of};
 ghost use Rattle.edge_io.specs.Faults.{Rose};
 ghost use Rattle.group_server.specs.Service.{tally};
@@ -15,6 +16,7 @@ ghost use Rattle.group_program.specs.Words.{ReadsNothing};
 use crate::listing::list_frames;
 use crate::serving::serve_session;
 use crate::serving_group::serve_by_settings;
+use cluster_play::play_groups;
 use command_line::{Command, WordsFault, read_words};
 use edge_io::{Clock, Listener, Sink, Source};
 use group_server::Notice;
@@ -27,8 +29,8 @@ use std::alloc::Global;
 use std::sync::Wait;
 use std::thread::Threads;
 
-/// Runs the command that the words after the program's name ask for: `play`, `session`, `serve`, `make`, `trial` or
-/// `frames`. Before the first connection of `serve` the notice tells what is served.
+/// Runs the command that the words after the program's name ask for: `play`, `play_groups`, `session`, `serve`, `make`,
+/// `trial` or `frames`. Before the first connection of `serve` the notice tells what is served.
 pub fn run_program<R: Threads + Wait + Sync, S: Source, K: Sink, L: Listener, N: Notice, T: Clock>(
     rt: &R,
     alloc: Global,
@@ -49,6 +51,8 @@ where
         ⊎ (HasStopped (K.held sink.old) (K.held sink.new) result × (source.new ≡ source.old)) }
     ensures promises { command_of (map string_bytes words.now) ≡ Some Command.Play → result ≡ Status.Done
         → HasPlayedWhole group_scripts (S.input source.old) (S.input source.new) (K.held sink.old) (K.held sink.new) }
+    ensures cluster_promises { command_of (map string_bytes words.now) ≡ Some Command.PlayGroups → result ≡ Status.Done
+        → HasPlayedWhole cluster_scripts (S.input source.old) (S.input source.new) (K.held sink.old) (K.held sink.new) }
     ensures serves { command_of (map string_bytes words.now) ≡ Some Command.Serve → result ≡ Status.Done
         → HasServedWhole L.listened (λ l. tally (L.accepted l) (L.over l)) listener.old listener.new
         (outside (S.input source.old) (S.faults source.old) (K.held sink.old) (K.faults sink.old))
@@ -97,6 +101,7 @@ where
 {
     match command {
         Command::Play => play(alloc, source, sink),
+        Command::PlayGroups => play_groups(alloc, source, sink),
         Command::Make { number } => make(alloc, number, sink),
         Command::Trial { number } => trial(alloc, number, sink),
         Command::Frames => list_frames(alloc, source, sink),

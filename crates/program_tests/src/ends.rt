@@ -53,3 +53,16 @@ fn a_limit_is_told_of_its_command(rt: HostRuntime) -> Result<(), Fail> {
     }
     Ok(())
 }
+
+#[test]
+fn the_lines_of_a_command_are_told(rt: HostRuntime) -> Result<(), Fail> {
+    for (word, line) in [
+        ("play", "\ngroup <k> <m> <blocks> <block> "),
+        ("play_groups", "\ngroups <g> <n> <k> <m> <blocks> <block> "),
+    ] {
+        let words = owned(rt.alloc(), &[word])?;
+        let told = help_at(rt.alloc(), &words, Status::BadLine(1))?;
+        assert!(rt; told.contains(line), "{word}");
+    }
+    Ok(())
+}

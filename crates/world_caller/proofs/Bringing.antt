@@ -1,5 +1,5 @@
 -- Events of a call, one behind the other, and the run that they are.
-use Rattle.std.proofs.Common.{ℕ, suc, ◌≡◌, ◌<◌, Bool, true, false, List, [], ◌∷◌, ◌++◌, Option, Some, refl, sym, ap, subst, ◌∙◌, arith}
+use Rattle.std.proofs.Common.{ℕ, suc, ◌≡◌, ◌<◌, Bool, true, false, List, [], ◌∷◌, ◌++◌, Option, Some, Result, Ok, Err, OnErr, refl, sym, ap, subst, ◌∙◌, arith}
 use Rattle.group_types.specs.declared.process.ProcessId.{ProcessId}
 use Rattle.memc_table.specs.Asked.{Asked}
 use Rattle.memc_proto.specs.declared.end.FailEnd.{FailEnd}
@@ -8,8 +8,8 @@ use Rattle.group_calls.specs.declared.event.Event.{Event}
 use Rattle.group_calls.specs.declared.event.Event.TheVariants.{Fail}
 use Rattle.group_run.specs.Headline.{IsRunFrom}
 use Rattle.group_run.specs.World.{World, all_change, node_of, step, world_after}
-use Rattle.world_caller.specs.Callers.{IsReached, failed_to}
-use Rattle.world_caller.specs.Calling.{Brings, IsDone, most_events}
+use Rattle.world_caller.specs.Callers.{failed_to}
+use Rattle.world_caller.specs.Calling.{Brings, HasCome, HasStopped, IsDone, most_events}
 use Rattle.world_caller.specs.Laws.{Delivers, Stands}
 use Rattle.world_caller.specs.Making.{AreDelivered, IsDelivered, IsMade}
 use Rattle.world_caller.specs.declared.stage.Next.{Next}
@@ -33,12 +33,6 @@ brings-run caller op w next last [] brings = tt
 brings-run caller op w (Goes stage) last (e ∷ es) brings = (brings.1.may, brings-run caller op (step w e).world brings.0 last es brings.2)
 brings-run caller op w (Ends end) last (e ∷ es) brings = absurd brings
 
--- what a call has made of a group so far
-pub record HasCome (caller : ℕ) (op : Asked) (w v : World) (next : Next) : Type 0 where
-  pub events : List Event
-  pub after : v ≡ world_after w events
-  pub brings : Brings caller op w (Goes Asks) events next
-
 pub come-none : (caller : ℕ) (op : Asked) (w : World) → HasCome caller op w w (Goes Asks)
 come-none caller op w = record { events = []; after = refl; brings = refl }
 
@@ -56,8 +50,9 @@ come-delivered caller op w v u stage come are = come-more caller op w v u (Goes 
 pub come-made : (caller : ℕ) (op : Asked) (w v u : World) (stage : Stage) (next : Next) → HasCome caller op w v (Goes stage) → IsMade caller op v stage u next → HasCome caller op w u next
 come-made caller op w v u stage next come made = come-more caller op w v u (Goes stage) next (made.event ∷ []) come (next, made.is, refl) made.after
 
-pub come-reached : (caller : ℕ) (op : Asked) (w v : World) (next : Next) → HasCome caller op w v next → IsReached w v
-come-reached caller op w v next come = record { events = come.events; run = brings-run caller op w (Goes Asks) next come.events come.brings; after = come.after }
+pub stopped-err : {A E : Type 0} (result : Result A E) (caller : ℕ) (op : Asked) (w v : World) (next : Next) → HasCome caller op w v next → OnErr result (HasStopped caller op w v)
+stopped-err (Ok _) caller op w v next come = tt
+stopped-err (Err _) caller op w v next come = record { last = next; come = come }
 
 -- deliveries, one behind the other
 pub delivered-none : (w : World) → AreDelivered w w

@@ -12,12 +12,12 @@ use Rattle.group_run.specs.Headline.{MayCome}
 use Rattle.group_run.specs.World.{World, step}
 use Rattle.group_core.specs.Runs.{HasRun}
 use Rattle.scenario_run.proofs.Leading.{IsLedTo, led-step}
-use Rattle.world_caller.specs.Calling.{IsCalled, IsDone, IsOver, Serves, asked_to, collected_to, due, most_events}
+use Rattle.world_caller.specs.Calling.{HasCome, IsCalled, IsDone, IsOver, Serves, asked_to, collected_to, due, most_events}
 use Rattle.world_caller.specs.Laws.{AsksAlways, AsksFew, AsksLeadOn, CanGoOn, CollectsAlways, CollectsLeadOn, Delivers, DeliversAlways, DueDelivers, FewAlways, IsTicketed, LeadsOn}
 use Rattle.world_caller.specs.Making.{AreDelivered, IsDelivered, IsMade}
 use Rattle.world_caller.specs.declared.stage.Next.{Next}
 use Rattle.world_caller.specs.declared.stage.Stage.TheVariants.{Asks, Collects}
-use Rattle.world_caller.proofs.Bringing.{HasCome, delivered-more}
+use Rattle.world_caller.proofs.Bringing.{delivered-more}
 
 -- a run that led to the group
 pub led-to : (w : World) → HasRun w → IsLedTo w.shape w

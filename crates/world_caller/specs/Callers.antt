@@ -1,5 +1,5 @@
 -- A caller of one group, and what its calls make of it.
-use Rattle.std.specs.Prelude.{ℕ, ◌≡◌, ◌≤◌, Bool, true, false, List, Option, Some, None}
+use Rattle.std.specs.Prelude.{ℕ, ◌≡◌, ◌≤◌, ◌⊎◌, Bool, true, false, Option, Some, None}
 use Rattle.group_types.specs.Names.{IsProcess}
 use Rattle.group_types.specs.declared.process.ProcessId.{ProcessId}
 use Rattle.memc_table.specs.Asked.{Asked}
@@ -8,11 +8,9 @@ use Rattle.memc_proto.specs.declared.end.FailEnd.{FailEnd}
 use Rattle.memc_proto.specs.declared.end.FailEnd.TheVariants as ends
 use Rattle.group_calls.specs.declared.event.Answer.{Answer}
 use Rattle.group_calls.specs.declared.event.Answer.TheVariants as says
-use Rattle.group_calls.specs.declared.event.Event.{Event}
 use Rattle.group_calls.specs.declared.event.Event.TheVariants.{Fail}
-use Rattle.group_run.specs.Headline.{IsRunFrom}
-use Rattle.group_run.specs.World.{World, step, world_after}
-use Rattle.world_caller.specs.Calling.{IsCalled, most_events}
+use Rattle.group_run.specs.World.{World, step}
+use Rattle.world_caller.specs.Calling.{HasStopped, IsCalled, most_events}
 
 -- the group, which of its callers this is, and whether orders that a process fail are taken
 pub record GroupCaller : Type 0 where
@@ -30,16 +28,10 @@ pub record HasCalled (before : GroupCaller) (op : Asked) (end : CallEnd) (after 
   pub same : IsSame before after
   pub called : IsCalled before.caller op before.world end after.world
 
--- a run leads from one group to another
-pub record IsReached (w v : World) : Type 0 where
-  pub events : List Event
-  pub run : IsRunFrom w events
-  pub after : v ≡ world_after w events
-
--- what stands after want of memory: the events that were made before it
+-- what stands after want of memory: no event, or those of a call that was cut short
 pub record HasGone (before after : GroupCaller) : Type 0 where
   pub same : IsSame before after
-  pub reached : IsReached before.world after.world
+  pub stopped : (after.world ≡ before.world) ⊎ ((op : Asked) × HasStopped before.caller op before.world after.world)
 
 -- such orders are taken, and the group has the process
 pub record IsTaken (c : GroupCaller) (p : ProcessId) : Type 0 where

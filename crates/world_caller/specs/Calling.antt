@@ -74,6 +74,17 @@ Brings caller op w next [] last = last ≡ next
 Brings caller op w (Goes stage) (e ∷ es) last = (next : Next) × IsEvent caller op w stage e next × Brings caller op (step w e).world next es last
 Brings caller op w (Ends end) (e ∷ es) last = ⊥
 
+-- what a call has made of a group so far
+pub record HasCome (caller : ℕ) (op : Asked) (w v : World) (next : Next) : Type 0 where
+  pub events : List Event
+  pub after : v ≡ world_after w events
+  pub brings : Brings caller op w (Goes Asks) events next
+
+-- what a call for an op made of a group before want of memory cut it short
+pub record HasStopped (caller : ℕ) (op : Asked) (w v : World) : Type 0 where
+  pub last : Next
+  pub come : HasCome caller op w v last
+
 -- the call is over: it has ended so, or no further event can be counted
 abbrev pub IsOver : World → Next → CallEnd → Type 0
 IsOver v (Ends by) end = end ≡ by

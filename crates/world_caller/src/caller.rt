@@ -54,6 +54,7 @@ impl WorldCaller {
 }
 
 impl Caller for WorldCaller {
+    ghost use Rattle.std.specs.Prelude.{◌≡◌, IfOk, OnErr};
     ghost use Rattle.world_caller.specs.Callers.{HasCalled, HasGone, IsOrdered};
 
     ghost made = { HasCalled };
@@ -66,7 +67,11 @@ impl Caller for WorldCaller {
         make_call(&mut self.world, self.caller, op)
     }
 
-    fn fail(&mut self, at: ProcessId, keep: u32) -> Result<FailEnd, AllocError> {
+    fn fail(&mut self, at: ProcessId, keep: u32) -> Result<FailEnd, AllocError>
+        ensures failed { IfOk result (λ end. IsOrdered self.old at keep end self.new) }
+        ensures want { OnErr result (HasGone self.old self.new) }
+        ensures unmade { OnErr result (self.new ≡ self.old) }
+    {
         if !self.control {
             return Ok(FailEnd::Off);
         }

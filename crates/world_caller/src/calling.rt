@@ -1,8 +1,7 @@
 ghost use Rattle.std.specs.Prelude.{◌≡◌, ◌<◌, ◌^◌, None, IfOk, OnErr};
 ghost use Rattle.memc_table.specs.Asked.{Asked};
 ghost use Rattle.group_run.specs.Replica.{callers};
-ghost use Rattle.world_caller.specs.Callers.{IsReached};
-ghost use Rattle.world_caller.specs.Calling.{IsCalled, due, most_events};
+ghost use Rattle.world_caller.specs.Calling.{HasStopped, IsCalled, due, most_events};
 ghost use Rattle.world_caller.specs.Laws.{IsTicketed, Stands};
 ghost use Rattle.world_caller.specs.Making.{IsMade};
 
@@ -22,7 +21,7 @@ use std::alloc::AllocError;
 pub(crate) fn make_call(world: &mut World, caller: u32, op: &Op) -> Result<CallEnd, AllocError>
     requires { caller < callers }
     ensures called { IfOk result (λ end. IsCalled caller op.now world.old end world.new) }
-    ensures reached { IsReached world.old world.new }
+    ensures stopped { OnErr result (HasStopped caller op.now world.old world.new) }
 {
     world.run();
     asks_are_few();

@@ -1,14 +1,15 @@
-use Rattle.std.proofs.Common.{arith}
+use Rattle.cluster_play.specs.Language.{cluster_scripts}
 use Rattle.scenario_make.specs.Script.{script_text}
 use Rattle.scenario_play.specs.Language.{group_scripts}
-use Rattle.scenario_play.specs.Status.{status_for}
-use Rattle.scenario_play.specs.Trial.{trial_text}
 use Rattle.scenario_play.specs.declared.status.Status.TheVariants.{Done}
-use Rattle.group_program.proofs.Accepting.{listed-not, played-not, session-not, told-not, written-not}
+use Rattle.group_program.proofs.Accepting.{groups-told-not, listed-not, played-not, session-not, told-not, written-not}
 use Rattle.group_program.proofs.program.run_command.Goals as goal
 
 pub returns-in-Play-clause-accept : goal.returns-in-Play-clause-accept
 returns-in-Play-clause-accept g c is = absurd (played-not group_scripts told-not _ _ c.play.result c.play.ensures.played is)
+
+pub returns-in-PlayGroups-clause-accept : goal.returns-in-PlayGroups-clause-accept
+returns-in-PlayGroups-clause-accept g c is = absurd (played-not cluster_scripts groups-told-not _ _ c.play_groups.result c.play_groups.ensures.played is)
 
 pub returns-in-Make-clause-accept : goal.returns-in-Make-clause-accept
 returns-in-Make-clause-accept g c is = absurd (written-not Done _ _ _ _ _ c.make.result c.make.ensures (λ done. cc done) is)

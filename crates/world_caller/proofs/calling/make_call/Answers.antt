@@ -1,22 +1,22 @@
-use Rattle.std.proofs.Common.{refl, sym, subst}
+use Rattle.std.proofs.Common.{OnErr, refl, sym, subst}
 use Rattle.group_run.specs.World.{World}
-use Rattle.world_caller.specs.Callers.{IsReached}
+use Rattle.world_caller.specs.Calling.{HasStopped}
 use Rattle.world_caller.specs.Making.{IsMade}
 use Rattle.world_caller.specs.declared.stage.Next.{Next}
 use Rattle.world_caller.specs.declared.stage.Next.TheVariants.{Ends, Goes}
-use Rattle.world_caller.proofs.Bringing.{come-delivered, come-made, come-reached}
+use Rattle.world_caller.proofs.Bringing.{come-delivered, come-made, stopped-err}
 use Rattle.world_caller.proofs.Making.{called}
 use Rattle.world_caller.proofs.calling.make_call.Goals as goal
 
-pub returns-in_err-drain-clause-reached : goal.returns-in_err-drain-clause-reached
-returns-in_err-drain-clause-reached c =
-    come-reached c.args.caller c.args.op.now c.args.world.now c.drain.new.world (Goes c.stages.stage)
+pub returns-in_err-drain-clause-stopped : goal.returns-in_err-drain-clause-stopped
+returns-in_err-drain-clause-stopped c =
+    stopped-err c.from_residual.result c.args.caller c.args.op.now c.args.world.now c.drain.new.world (Goes c.stages.stage)
     (come-delivered c.args.caller c.args.op.now c.args.world.now c.stages.world c.drain.new.world c.stages.stage c.stages.invariant.come c.drain.ensures.delivered)
 
-pub returns-in_err-next-clause-reached : goal.returns-in_err-next-clause-reached
-returns-in_err-next-clause-reached c =
-    subst (λ (x : World). IsReached c.args.world.now x) (sym c.in_err-next.ensures.err)
-    (come-reached c.args.caller c.args.op.now c.args.world.now c.drain.new.world (Goes c.stages.stage)
+pub returns-in_err-next-clause-stopped : goal.returns-in_err-next-clause-stopped
+returns-in_err-next-clause-stopped c =
+    subst (λ (x : World). OnErr c.from_residual-in_err-next.result (HasStopped c.args.caller c.args.op.now c.args.world.now x)) (sym c.in_err-next.ensures.err)
+    (stopped-err c.from_residual-in_err-next.result c.args.caller c.args.op.now c.args.world.now c.drain.new.world (Goes c.stages.stage)
     (come-delivered c.args.caller c.args.op.now c.args.world.now c.stages.world c.drain.new.world c.stages.stage c.stages.invariant.come c.drain.ensures.delivered))
 
 pub stages-preserved : goal.stages-preserved
@@ -37,19 +37,7 @@ returns-in-Ends-clause-called c =
     (subst (λ (n : Next). IsMade c.args.caller c.args.op.now c.drain.new.world c.stages.stage c.go_on.new.world n) c.in-Ends.is c.in_ok-next.ensures.made))
     refl
 
-pub returns-in-Ends-clause-reached : goal.returns-in-Ends-clause-reached
-returns-in-Ends-clause-reached c =
-    come-reached c.args.caller c.args.op.now c.args.world.now c.go_on.new.world c.in_ok-next.field-0
-    (come-made c.args.caller c.args.op.now c.args.world.now c.drain.new.world c.go_on.new.world c.stages.stage c.in_ok-next.field-0
-    (come-delivered c.args.caller c.args.op.now c.args.world.now c.stages.world c.drain.new.world c.stages.stage c.stages.invariant.come c.drain.ensures.delivered)
-    c.in_ok-next.ensures.made)
-
 pub returns-clause-called : goal.returns-clause-called
 returns-clause-called c = called c.args.caller c.args.op.now c.args.world.now c.drain.new.world (Goes c.stages.stage) _ c.asks_are_few.ensures c.run.ensures
     (come-delivered c.args.caller c.args.op.now c.args.world.now c.stages.world c.drain.new.world c.stages.stage c.stages.invariant.come c.drain.ensures.delivered)
     (c.in_ok-drain.ensures.worn c.if-branch.false, refl)
-
-pub returns-clause-reached : goal.returns-clause-reached
-returns-clause-reached c =
-    come-reached c.args.caller c.args.op.now c.args.world.now c.drain.new.world (Goes c.stages.stage)
-    (come-delivered c.args.caller c.args.op.now c.args.world.now c.stages.world c.drain.new.world c.stages.stage c.stages.invariant.come c.drain.ensures.delivered)

@@ -1,8 +1,7 @@
 use Rattle.std.proofs.Common.{◌-◌}
-use Rattle.world_caller.specs.Calling.{most_events}
+use Rattle.world_caller.specs.Calling.{HasCome, most_events}
 use Rattle.world_caller.specs.Laws.{Stands}
 use Rattle.world_caller.specs.declared.stage.Next.TheVariants.{Goes}
-use Rattle.world_caller.proofs.Bringing.{HasCome}
 use Rattle.world_caller.proofs.calling.make_call.Given as goal
 
 abbrev pub invariant-stages : goal.invariant-stages

@@ -1,0 +1,7 @@
+pub mod Cuts
+pub mod Delivering
+pub mod Lines
+pub mod Logged
+pub mod Ranges
+pub mod Ready
+pub mod Whole

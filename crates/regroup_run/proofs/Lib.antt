@@ -1,0 +1,5 @@
+pub mod Draining
+pub mod Leading
+pub mod Promises
+pub mod Ranges
+pub mod Running

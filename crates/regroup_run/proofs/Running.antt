@@ -1,0 +1,277 @@
+-- The deeds of a script may be done.
+use Rattle.std.proofs.Common.{ℕ, ◌≡◌, ◌≤◌, ◌<◌, ◌+◌, ◌^◌, ◌⊎◌, inl, inr, Bool, true, false, ◌&&◌, zero, suc, nat_lt, nat_le, List, [], ◌∷◌, map, codes, Option, Some, None, Result, Ok, Err, if◌then◌else◌, refl, sym, ap, subst, ◌∙◌, arith}
+use Rattle.std.proofs.lemmas.Bool.Decides.{nat_tests}
+use Rattle.std.specs.List.{list_all, range_with_len}
+use Rattle.std.specs.Option.{is_some}
+use Rattle.group_types.specs.Dimensions.{Dimensions, space_of}
+use Rattle.group_types.specs.Lists.{at}
+use Rattle.group_types.specs.Shape.{IsShape}
+use Rattle.group_types.specs.declared.shape.Field.{Field}
+use Rattle.group_calls.specs.declared.event.Event.{Event}
+use Rattle.group_calls.specs.declared.event.Event.TheVariants as happens
+use Rattle.group_run.specs.Draining.{next_delivery}
+use Rattle.group_run.specs.Meaning.{IsDrained}
+use Rattle.group_run.specs.Shown.{is_down}
+use Rattle.group_run.specs.World.{World, opening}
+use Rattle.law_causes.specs.Drained.{NextTellsDrained}
+use Rattle.law_causes.proofs.Drained.{next_always}
+use Rattle.memc_table.specs.Asked.{Asked}
+use Rattle.scenario_text.specs.Meaning.{IsLineOf, first_out_of_range, line_of}
+use Rattle.scenario_text.specs.Words.{words_of}
+use Rattle.scenario_text.specs.declared.line.Line.{Line}
+use Rattle.scenario_text.specs.declared.line.Line.TheVariants.{Skipped, Group, Ask, Collect, Deliver, Fail, Flush, Trace, Drain, Show, Time, Stop}
+use Rattle.scenario_text.specs.declared.line.LineFault.{LineFault}
+use Rattle.scenario_text.specs.declared.line.LineFault.TheVariants.{BadLine}
+use Rattle.scenario_text.proofs.Limits.{shape-of}
+use Rattle.scenario_text.proofs.Lines.{line_of-within}
+use Rattle.scenario_run.specs.Course.{Ends, Goes, Refused}
+use Rattle.scenario_run.specs.Playing.{draining}
+use Rattle.scenario_run.proofs.Leading as world
+use Rattle.scenario_run.proofs.Running.{parts}
+use Rattle.scenario_run.proofs.Truth.{up}
+use Rattle.group_eras.specs.Carry.{carried}
+use Rattle.group_eras.specs.Eras.{Eras, MayMake, carrier, era_step, eras_after, first_era}
+use Rattle.group_eras.specs.Items.{bytes_in}
+use Rattle.group_eras.specs.Promise.{Deed, Carries, Makes}
+use Rattle.group_eras.specs.Refusal.{CanCarry}
+use Rattle.regroup_run.specs.Meaning.{regroup_line, shape_of_numbers, shape_unless, shape_within}
+use Rattle.regroup_run.specs.Playing.{EraNext, EraPlay, by_call, by_carry, by_event, by_regroup, by_trace, first_by, has_space, next_by, next_of, refuses, regroup_by, regroups, then_by}
+use Rattle.regroup_run.proofs.Draining.{drains}
+use Rattle.regroup_run.proofs.Leading.{IsLedTo, Leads, makes-lead, world-led}
+use Rattle.regroup_run.proofs.Ranges.{IsLowLine, line_of-low}
+
+-- a script may go on from here
+pub record IsReady (s : Dimensions) (p : EraPlay) : Type 0 where
+  pub led : IsLedTo s p.eras
+  pub moment : p.moment ≤ 2 ^ 62
+
+-- what a line did goes on from there
+pub record GoesOn (p : EraPlay) (next : Option EraPlay) (deeds : List Deed) : Type 0 where
+  pub play : EraPlay
+  pub is : next ≡ Some play
+  pub leads : Leads p.eras play.eras deeds
+  pub moment : play.moment ≤ 2 ^ 62
+
+none-leads : (e : Eras) → Leads e e []
+none-leads e = record { may = tt; to = refl }
+
+-- a line that goes on, and does nothing
+abbrev idly : EraPlay → List ℕ → EraNext
+idly q wrote = Goes (Some q) [] wrote
+
+-- nothing is done
+stays : (p q : EraPlay) (next : Option EraPlay) (deeds : List Deed) (wrote text : List ℕ) → p.eras ≡ q.eras → q.moment ≤ 2 ^ 62 → idly q wrote ≡ Goes next deeds text → GoesOn p next deeds
+stays p q next deeds wrote text same low is =
+    let both = parts (Some q) next [] deeds wrote text is in
+    record { play = q; is = both.0; leads = subst (Leads p.eras q.eras) (sym both.1) (subst (λ (f : Eras). Leads p.eras f []) same (none-leads p.eras)); moment = low }
+
+-- an event that may be made leads on
+comes : (s : Dimensions) (p : EraPlay) (e : Event) (next : Option EraPlay) (deeds : List Deed) (text : List ℕ) → IsReady s p → MayMake p.eras e → by_event p e ≡ Goes next deeds text → GoesOn p next deeds
+comes s p e next deeds text ready may is =
+    let q : EraPlay = record { eras = (era_step p.eras e).eras; moment = p.moment } in
+    let both = parts (Some q) next (Makes e ∷ []) deeds _ text is in
+    record { play = q; is = both.0; leads = subst (Leads p.eras q.eras) (sym both.1) (record { may = (may, tt); to = refl }); moment = ready.moment }
+
+-- a call of a caller that doesn't carry
+calls : (s : Dimensions) (p : EraPlay) (caller : ℕ) (e : Event) (next : Option EraPlay) (deeds : List Deed) (text : List ℕ) → IsReady s p → (caller < carrier → MayMake p.eras e)
+    → by_call p caller e ≡ Goes next deeds text → GoesOn p next deeds
+calls s p caller e next deeds text ready may is = by (nat_lt caller carrier) refl is where
+  by : (b : Bool) → nat_lt caller carrier ≡ b → (if b then by_event p e else Refused BadLine) ≡ Goes next deeds text → GoesOn p next deeds
+  by true less goes = comes s p e next deeds text ready (may (grind (arith, nat_tests))) goes
+  by false less goes = absurd (cc goes)
+
+-- a call is traced that was asked in the current era
+traces : (s : Dimensions) (p : EraPlay) (caller call : ℕ) (e : Event) (next : Option EraPlay) (deeds : List Deed) (text : List ℕ) → IsReady s p
+    → (call < at 0 p.eras.world.asked caller → caller < carrier → MayMake p.eras e) → by_trace p caller call e ≡ Goes next deeds text → GoesOn p next deeds
+traces s p caller call e next deeds text ready may is = by (nat_lt call (at 0 p.eras.world.asked caller)) refl is where
+  by : (b : Bool) → nat_lt call (at 0 p.eras.world.asked caller) ≡ b → (if b then by_call p caller e else Refused BadLine) ≡ Goes next deeds text → GoesOn p next deeds
+  by true less goes = calls s p caller e next deeds text ready (may (grind (arith, nat_tests))) goes
+  by false less goes = absurd (cc goes)
+
+-- what a line behind the group line does
+then-leads : (s : Dimensions) (p : EraPlay) (l : Line) (next : Option EraPlay) (deeds : List Deed) (text : List ℕ) → IsReady s p → IsLineOf (Some p.eras.world.shape) l → IsLowLine l
+    → then_by p l ≡ Goes next deeds text → GoesOn p next deeds
+then-leads s p Skipped next deeds text ready within low is = stays p p next deeds [] text refl ready.moment is
+then-leads s p (Group shape) next deeds text ready within low is = absurd within
+then-leads s p (Ask caller from act) next deeds text ready within low is =
+    let op : Asked = record { moment = p.moment; act = act } in
+    calls s p caller (happens.Ask caller op from) next deeds text ready (λ less. record { may = within; others = less; range = record { moment = ready.moment; expiry = low } }) is
+then-leads s p (Collect caller call from) next deeds text ready within low is =
+    calls s p caller (happens.Collect caller call from) next deeds text ready (λ less. record { may = within; others = less; range = tt }) is
+then-leads s p (Deliver from to) next deeds text ready within low is = comes s p (happens.Deliver from to) next deeds text ready (record { may = within; others = tt; range = tt }) is
+then-leads s p (Fail from keep) next deeds text ready within low is = comes s p (happens.Fail from keep) next deeds text ready (record { may = within; others = tt; range = tt }) is
+then-leads s p (Flush from) next deeds text ready within low is = comes s p (happens.Flush from) next deeds text ready (record { may = within; others = tt; range = tt }) is
+then-leads s p (Trace caller call d from) next deeds text ready within low is =
+    traces s p caller call (happens.Trace caller call d from) next deeds text ready (λ asked less. record { may = (within.0, asked, within.1, within.2); others = less; range = tt }) is
+then-leads s p Drain next deeds text ready within low is =
+    let es : List Event = draining p.eras.world in
+    let q : EraPlay = record { eras = eras_after p.eras es; moment = p.moment } in
+    let both = parts (Some q) next (map Makes es) deeds _ text is in
+    record { play = q; is = both.0; leads = subst (Leads p.eras q.eras) (sym both.1) (makes-lead p.eras es (drains p.eras.world.shape p.eras (world-led s p.eras ready.led))); moment = ready.moment }
+then-leads s p (Show from run) next deeds text ready within low is = stays p p next deeds _ text refl ready.moment is
+then-leads s p (Time moment) next deeds text ready within low is = stays p (record { eras = p.eras; moment = moment }) next deeds [] text refl within is
+then-leads s p Stop next deeds text ready within low is = absurd (cc is)
+
+next-leads : (s : Dimensions) (p : EraPlay) (l : Result Line LineFault) (next : Option EraPlay) (deeds : List Deed) (text : List ℕ) → IsReady s p
+    → ((l' : Line) → l ≡ Ok l' → IsLineOf (Some p.eras.world.shape) l' × IsLowLine l') → next_by (Some p) l ≡ Goes next deeds text → GoesOn p next deeds
+next-leads s p (Err fault) next deeds text ready within is = absurd (cc is)
+next-leads s p (Ok l) next deeds text ready within is = then-leads s p l next deeds text ready (within l refl).0 (within l refl).1 is
+
+both-true : (x y : Bool) → (x && y) ≡ true → (x ≡ true) × (y ≡ true)
+both-true true true is = (refl, refl)
+both-true true false is = absurd (cc is)
+both-true false y is = absurd (cc is)
+
+this-or-later : (a d : ℕ) → a ≤ d → (d ≡ a) ⊎ (a + 1 ≤ d)
+this-or-later a d low = by (nat_lt a d) refl where
+  by : (b : Bool) → nat_lt a d ≡ b → (d ≡ a) ⊎ (a + 1 ≤ d)
+  by true less = inr (grind (arith, nat_tests))
+  by false less = inl (grind (arith, nat_tests))
+
+all-hold : (f : ℕ → Bool) (a n d : ℕ) → list_all f (range_with_len a n) ≡ true → a ≤ d → d < a + n → f d ≡ true
+all-hold f a zero d all low high = absurd (omega (arith, low, high))
+all-hold f a (suc n) d all low high = by (this-or-later a d low) (λ later. all-hold f (a + 1) n d both.1 later (omega (arith, high))) where
+  both : (f a ≡ true) × (list_all f (range_with_len (a + 1) n) ≡ true)
+  both = both-true (f a) (list_all f (range_with_len (a + 1) n)) all
+
+  by : (d ≡ a) ⊎ (a + 1 ≤ d) → (a + 1 ≤ d → f d ≡ true) → f d ≡ true
+  by (inl same) later = ap f same ∙ both.0
+  by (inr above) later = later above
+
+-- the group is at rest and there is space
+all-fit : (w : World) (s : Dimensions) (d : ℕ) → has_space w s ≡ true → d < w.shape.k → bytes_in w d ≤ space_of s
+all-fit w s d all below =
+    let fits : nat_le (bytes_in w d) (space_of s) ≡ true = all-hold (λ x. nat_le (bytes_in w x) (space_of s)) 0 w.shape.k d all (omega arith) (omega (arith, below)) in
+    at_most (bytes_in w d) (space_of s) fits
+  where
+    at_most : (a b : ℕ) → nat_le a b ≡ true → a ≤ b
+    at_most a b fits = grind (arith, nat_tests)
+
+can-carry : (s : Dimensions) (p : EraPlay) (t : Dimensions) → IsReady s p → is_down p.eras.world ≡ false → is_some (next_delivery p.eras.world) ≡ false → has_space p.eras.world t ≡ true → CanCarry p.eras.world t
+can-carry s p t ready down waits space = record {
+  rest = record { up = up p.eras.world down; drained = drained };
+  space = λ d below. all-fit p.eras.world t d space below;
+} where
+  led : world.IsLedTo p.eras.world.shape p.eras.world
+  led = world-led s p.eras ready.led
+
+  tells : NextTellsDrained p.eras.world
+  tells = subst NextTellsDrained (sym led.is) (next_always p.eras.world.shape led.events led.run)
+
+  none : (o : Option Event) → is_some o ≡ false → o ≡ None
+  none None is = refl
+  none (Some e) is = absurd (cc is)
+
+  drained : IsDrained p.eras.world
+  drained = tells.0 (none (next_delivery p.eras.world) waits)
+
+carries : (s : Dimensions) (p : EraPlay) (t : Dimensions) (next : Option EraPlay) (deeds : List Deed) (text : List ℕ) → IsReady s p → IsShape t → t.k ≡ p.eras.world.shape.k
+    → by_regroup p t ≡ Goes next deeds text → GoesOn p next deeds
+carries s p t next deeds text ready shaped same is =
+    by (is_down p.eras.world) (is_some (next_delivery p.eras.world)) (has_space p.eras.world t) refl refl refl is where
+      by : (down waits space : Bool) → is_down p.eras.world ≡ down → is_some (next_delivery p.eras.world) ≡ waits → has_space p.eras.world t ≡ space
+          → (if down then refuses p (codes "down") else (if waits then refuses p (codes "not_drained") else (if space then by_carry p t else refuses p (codes "no_space")))) ≡ Goes next deeds text → GoesOn p next deeds
+      by true waits space isdown iswaits isspace goes = stays p p next deeds _ text refl ready.moment goes
+      by false true space isdown iswaits isspace goes = stays p p next deeds _ text refl ready.moment goes
+      by false false false isdown iswaits isspace goes = stays p p next deeds _ text refl ready.moment goes
+      by false false true isdown iswaits isspace goes =
+          let q : EraPlay = record { eras = carried p.eras t; moment = p.moment } in
+          let both = parts (Some q) next (Carries t ∷ []) deeds _ text goes in
+          record {
+            play = q;
+            is = both.0;
+            leads = subst (Leads p.eras q.eras) (sym both.1) (record { may = ((record { shape = shaped; partitions = same }, can-carry s p t ready isdown iswaits isspace), tt); to = refl });
+            moment = ready.moment;
+          }
+
+-- the shape that a line `regroup` names
+record Named (k : ℕ) (t : Dimensions) : Type 0 where
+  shaped : IsShape t
+  same : t.k ≡ k
+
+within-named : (k m blocks block : ℕ) (t : Dimensions) → shape_within (record { k = k; m = m; blocks = blocks; block = block }) ≡ Ok t → Named k t
+unfolding shape_within
+within-named k m blocks block t is = by (first_out_of_range s) refl is where
+  s : Dimensions
+  s = record { k = k; m = m; blocks = blocks; block = block }
+
+  by : (o : Option Field) → first_out_of_range s ≡ o → shape_unless s o ≡ Ok t → Named k t
+  by None none reads = let same : s ≡ t = cc reads in record { shaped = subst IsShape same (shape-of s none); same = ap (λ (x : Dimensions). x.k) (sym same) }
+  by (Some field) some reads = absurd (cc reads)
+
+numbers-named : (k : ℕ) (m blocks block : Option ℕ) (t : Dimensions) → shape_of_numbers k m blocks block ≡ Ok t → Named k t
+numbers-named k None blocks block t is = absurd (cc is)
+numbers-named k (Some m) None block t is = absurd (cc is)
+numbers-named k (Some m) (Some blocks) None t is = absurd (cc is)
+numbers-named k (Some m) (Some blocks) (Some block) t is = within-named k m blocks block t is
+
+line-named : (k : ℕ) (words : List (List ℕ)) (t : Dimensions) → regroup_line k words ≡ Ok t → Named k t
+line-named k [] t is = absurd (cc is)
+line-named k (a ∷ []) t is = absurd (cc is)
+line-named k (a ∷ b ∷ []) t is = absurd (cc is)
+line-named k (a ∷ b ∷ c ∷ []) t is = absurd (cc is)
+line-named k (name ∷ m ∷ blocks ∷ block ∷ []) t is = numbers-named k _ _ _ t is
+line-named k (a ∷ b ∷ c ∷ d ∷ e ∷ ws) t is = absurd (cc is)
+
+regroup-leads : (s : Dimensions) (p : EraPlay) (r : Result Dimensions LineFault) (next : Option EraPlay) (deeds : List Deed) (text : List ℕ) → IsReady s p
+    → ((t : Dimensions) → r ≡ Ok t → Named p.eras.world.shape.k t) → regroup_by p r ≡ Goes next deeds text → GoesOn p next deeds
+regroup-leads s p (Err fault) next deeds text ready named is = absurd (cc is)
+regroup-leads s p (Ok t) next deeds text ready named is = let n = named t refl in carries s p t next deeds text ready n.shaped n.same is
+
+pub line-leads : (s : Dimensions) (p : EraPlay) (line : List ℕ) (next : Option EraPlay) (deeds : List Deed) (text : List ℕ) → IsReady s p
+    → next_of (Some p) line ≡ Goes next deeds text → GoesOn p next deeds
+line-leads s p line next deeds text ready is = by (regroups line) is where
+  by : (b : Bool) → (if b then regroup_by p (regroup_line p.eras.world.shape.k (words_of line)) else next_by (Some p) (line_of (Some p.eras.world.shape) line)) ≡ Goes next deeds text → GoesOn p next deeds
+  by true goes = regroup-leads s p (regroup_line p.eras.world.shape.k (words_of line)) next deeds text ready (line-named p.eras.world.shape.k (words_of line)) goes
+  by false goes = next-leads s p (line_of (Some p.eras.world.shape) line) next deeds text ready
+      (λ l reads. (line_of-within (Some p.eras.world.shape) line l reads, line_of-low p.eras.world.shape line l reads)) goes
+
+-- the group line, or a line before it
+pub record Opens (next : Option EraPlay) (deeds : List Deed) (text : List ℕ) : Type 0 where
+  pub quiet : deeds ≡ []
+  pub silent : text ≡ []
+  pub is : (next ≡ None) ⊎ ((s : Dimensions) × IsShape s × (next ≡ Some (record { eras = first_era (opening s); moment = 0 })))
+
+first-opens : (l : Line) (next : Option EraPlay) (deeds : List Deed) (text : List ℕ) → IsLineOf None l → first_by l ≡ Goes next deeds text → Opens next deeds text
+first-opens Skipped next deeds text within is = let both = parts None next [] deeds [] text is in record { quiet = both.1; silent = both.2; is = inl both.0 }
+first-opens (Group s) next deeds text within is =
+    let both = parts (Some (record { eras = first_era (opening s); moment = 0 })) next [] deeds [] text is in record { quiet = both.1; silent = both.2; is = inr (s, within, both.0) }
+first-opens (Ask caller from act) next deeds text within is = absurd within
+first-opens (Collect caller call from) next deeds text within is = absurd within
+first-opens (Deliver from to) next deeds text within is = absurd within
+first-opens (Fail from keep) next deeds text within is = absurd within
+first-opens (Flush from) next deeds text within is = absurd within
+first-opens (Trace caller call d from) next deeds text within is = absurd within
+first-opens Drain next deeds text within is = absurd within
+first-opens (Show from run) next deeds text within is = absurd within
+first-opens (Time moment) next deeds text within is = absurd within
+first-opens Stop next deeds text within is = absurd within
+
+next-opens : (l : Result Line LineFault) (next : Option EraPlay) (deeds : List Deed) (text : List ℕ) → ((l' : Line) → l ≡ Ok l' → IsLineOf None l') → next_by None l ≡ Goes next deeds text → Opens next deeds text
+next-opens (Err fault) next deeds text within is = absurd (cc is)
+next-opens (Ok l) next deeds text within is = first-opens l next deeds text (within l refl) is
+
+pub line-opens : (line : List ℕ) (next : Option EraPlay) (deeds : List Deed) (text : List ℕ) → next_of None line ≡ Goes next deeds text → Opens next deeds text
+line-opens line next deeds text is = next-opens (line_of None line) next deeds text (λ l reads. line_of-within None line l reads) is
+
+-- before the group line no line is the last
+never-ends-by : (l : Line) → IsLineOf None l → first_by l ≡ Ends → ⊥
+never-ends-by Skipped within is = cc is
+never-ends-by (Group s) within is = cc is
+never-ends-by (Ask caller from act) within is = within
+never-ends-by (Collect caller call from) within is = within
+never-ends-by (Deliver from to) within is = within
+never-ends-by (Fail from keep) within is = within
+never-ends-by (Flush from) within is = within
+never-ends-by (Trace caller call d from) within is = within
+never-ends-by Drain within is = within
+never-ends-by (Show from run) within is = within
+never-ends-by (Time moment) within is = within
+never-ends-by Stop within is = within
+
+never-ends-in : (l : Result Line LineFault) → ((l' : Line) → l ≡ Ok l' → IsLineOf None l') → next_by None l ≡ Ends → ⊥
+never-ends-in (Err fault) within is = cc is
+never-ends-in (Ok l) within is = never-ends-by l (within l refl) is
+
+pub never-ends : (line : List ℕ) → next_of None line ≡ Ends → ⊥
+never-ends line is = never-ends-in (line_of None line) (λ l reads. line_of-within None line l reads) is

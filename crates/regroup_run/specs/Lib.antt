@@ -1,0 +1,5 @@
+pub mod Meaning
+pub mod Playing
+pub mod Promises
+pub mod Script
+pub mod Texts

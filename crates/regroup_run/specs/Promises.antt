@@ -1,0 +1,57 @@
+-- What holds of every script over eras: its deeds may be done, so the laws of eras are about it; and the lines that show
+-- bytes show what the log tells.
+use Rattle.std.specs.Prelude.{ℕ, ◌≡◌, List, [], ◌∷◌, Option, Some, None, Result, Ok}
+use Rattle.group_types.specs.Dimensions.{Dimensions}
+use Rattle.group_types.specs.Shape.{IsShape}
+use Rattle.group_types.specs.declared.process.ProcessId.{ProcessId}
+use Rattle.group_types.specs.declared.run.Run.{Run}
+use Rattle.group_run.specs.Shown.{held, told_bytes}
+use Rattle.group_run.specs.World.{opening}
+use Rattle.scenario_text.specs.Meaning.{line_of}
+use Rattle.scenario_text.specs.declared.line.Line.{Line}
+use Rattle.scenario_text.specs.declared.line.Line.TheVariants.{Show}
+use Rattle.scenario_text.specs.declared.line.LineFault.{LineFault}
+use Rattle.scenario_run.specs.Course.{Goes, Ends, Refused}
+use Rattle.scenario_run.specs.Lines.{lines_of}
+use Rattle.group_eras.specs.Eras.{Eras, first_era}
+use Rattle.group_eras.specs.Promise.{Deed, Carries, HasCarried, HasPromise, MayAllBeDone, done}
+use Rattle.regroup_run.specs.Playing.{EraPlay, look, next_of, shape_in}
+use Rattle.regroup_run.specs.Script.{deeds_of, first_fault, shape_of}
+
+-- what a carry leaves is what it should
+abbrev pub Keeps : Eras → Deed → Type 0
+Keeps e (Carries s) = HasCarried e s
+Keeps e _ = Unit {0}
+
+-- before and after each deed the eras have their promise, and each carry keeps what it carries
+abbrev pub KeepAll : Eras → List Deed → Type 0
+KeepAll e [] = HasPromise e
+KeepAll e (deed ∷ deeds) = HasPromise e × Keeps e deed × KeepAll (done e deed) deeds
+
+-- what is shown is what the log tells
+abbrev pub ShowsTruth : Eras → ProcessId → Run → Type 0
+ShowsTruth e p run = look e p (held e.world p run) ≡ look e p (told_bytes e.world p run)
+
+-- so it is with a line that shows bytes
+abbrev pub IsTrueLine : Option EraPlay → Result Line LineFault → Type 0
+IsTrueLine (Some p) (Ok (Show from run)) = ShowsTruth p.eras from run
+IsTrueLine _ _ = Unit {0}
+
+-- and with all lines
+abbrev pub AreTrueLines : Option EraPlay → List (List ℕ) → Type 0
+AreTrueLines play [] = Unit {0}
+AreTrueLines play (line ∷ lines) = IsTrueLine play (line_of (shape_in play) line)
+    × elim (next_of play line) [ Goes next turns text ↦ AreTrueLines next lines | Ends ↦ Unit {0} | Refused fault ↦ Unit {0} ]
+
+-- a script's eras keep their promises
+pub record KeepsPromises (text : List ℕ) : Type 0 where
+  pub shape : Dimensions
+  pub named : shape_of text ≡ Some shape
+  pub limits : IsShape shape
+  pub may : MayAllBeDone (first_era (opening shape)) (deeds_of text)
+  pub kept : KeepAll (first_era (opening shape)) (deeds_of text)
+  pub shown : AreTrueLines None (lines_of text)
+
+-- the promises are kept by every script none of whose lines is refused
+abbrev pub ScriptsKeepPromises : Type 0
+ScriptsKeepPromises = (text : List ℕ) → first_fault text ≡ None → KeepsPromises text
