@@ -1,5 +1,6 @@
 -- What an event of a cluster logged stands last in its group's log.
-use Rattle.std.proofs.Common.{ℕ, suc, ◌≡◌, ◌+◌, ◌-◌, ◌≤◌, Bool, true, false, List, [], ◌∷◌, ◌++◌, length, drop, Option, Some, None, if◌then◌else◌, refl, sym, ap, ◌∙◌, append_assoc, append-nil, arith}
+use Rattle.std.specs.declared.alloc.Global.{Global}
+use Rattle.std.proofs.Common.{IfOk, Vec, Result, Ok, Err, ℕ, suc, ◌≡◌, ◌+◌, ◌-◌, ◌≤◌, Bool, true, false, List, [], ◌∷◌, ◌++◌, length, drop, Option, Some, None, if◌then◌else◌, refl, sym, ap, ◌∙◌, append_assoc, append-nil, arith}
 use Rattle.std.specs.List.{range_with_len}
 use Rattle.group_types.specs.Dimensions.{Dimensions}
 use Rattle.group_types.specs.Lists.{at}
@@ -123,3 +124,8 @@ pub turn-written : (c : Cluster) (e : ClusterEvent) (answer : ClusterAnswer) (fr
 turn-written c e answer front line entries text front_is answer_is line_is text_is entries_is =
     text_is ∙ ap (λ (xs : List ℕ). xs ++ entries) line_is ∙ append_assoc front (10 ∷ []) entries
     ∙ ap (λ (xs : List ℕ). xs ++ 10 ∷ entries) (front_is ∙ ap cluster_answer_text answer_is) ∙ ap (λ (xs : List ℕ). cluster_answer_text (cluster_step c e).answer ++ 10 ∷ xs) entries_is
+
+-- a text that was written is the one that was to be
+pub line-is : {E : Type 0} (result : Result (Vec ℕ Global) E) (line wanted : List ℕ) → IfOk result (λ text. text.items ≡ line) → line ≡ wanted → IfOk result (λ text. text.items ≡ wanted)
+line-is (Ok text) line wanted is same = is ∙ same
+line-is (Err e) line wanted is same = tt

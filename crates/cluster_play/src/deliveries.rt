@@ -8,7 +8,7 @@ ghost use Rattle.cluster_run.specs.Texts.{cluster_entries_text, group_mark};
 ghost use Rattle.group_cluster.specs.History.{HasFewEvents};
 ghost use Rattle.cluster_play.specs.Doing.{IsReadyFor};
 
-use crate::writing::write_mark;
+use crate::writing::{logged_by, write_mark};
 use group_calls::Event;
 use group_cluster::Cluster;
 use group_layout::ClusterEvent;
@@ -94,5 +94,6 @@ fn deliver(
 {
     let event = Event::Deliver { from, to };
     let out = cluster.step(&ClusterEvent::InGroup { group, event })?;
-    write_last(alloc, mark, cluster.world(group).log(), out.logged, text)
+    let logged = logged_by(out);
+    write_last(alloc, mark, cluster.world(group).log(), logged, text)
 }

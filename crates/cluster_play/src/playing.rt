@@ -9,7 +9,7 @@ ghost use Rattle.cluster_run.specs.Playing.{all_deliveries, drained_text, group_
 ghost use Rattle.cluster_play.specs.Doing.{IsReadyFor};
 
 use crate::deliveries::drain;
-use crate::writing::{write_cluster_answer, write_mark};
+use crate::writing::{answer_line, write_drained, write_mark};
 use group_calls::Event;
 use group_cluster::{Cluster, Layout};
 use group_layout::ClusterEvent;
@@ -85,11 +85,11 @@ impl ClusterPlay {
         ensures text { IfOk result (λ text. text.items ≡ turn_text (turn_of self.old.cluster (InGroup group event))) }
     {
         let out = self.cluster.step(&ClusterEvent::InGroup { group, event })?;
-        let mut text = write_cluster_answer(alloc, &out.answer)?;
-        text.push(b'\n')?;
+        let logged = out.logged;
+        let mut text = answer_line(alloc, out)?;
         let mark = write_mark(alloc, group)?;
         let log = self.cluster.world(group).log();
-        write_last(alloc, &mark, log, out.logged, &mut text)?;
+        write_last(alloc, &mark, log, logged, &mut text)?;
         Ok(text)
     }
 
@@ -106,9 +106,7 @@ impl ClusterPlay {
         ensures text { IfOk result (λ text. text.items ≡ turn_text (turn_of self.old.cluster (FailNode node keep))) }
     {
         let out = self.cluster.step(&ClusterEvent::FailNode { node, keep })?;
-        let mut text = write_cluster_answer(alloc, &out.answer)?;
-        text.push(b'\n')?;
-        Ok(text)
+        answer_line(alloc, out)
     }
 
     /// Messages are delivered in one group after the other, until none is left: what that logged, and how many there were.
@@ -119,7 +117,7 @@ impl ClusterPlay {
     {
         let mut text = Vec::new(alloc);
         let count = drain(alloc, &mut self.cluster, &mut text)?;
-        text.extend_from_slice(format!(in alloc; "drained {count}\n")?.as_bytes())?;
+        text.extend_from_slice(&write_drained(alloc, count)?)?;
         Ok(text)
     }
 

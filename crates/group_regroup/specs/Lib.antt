@@ -1,3 +1,4 @@
+pub mod Carrying
 pub mod Fitting
 pub mod Items
 pub mod Kept

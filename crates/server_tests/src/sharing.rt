@@ -11,40 +11,45 @@ use memc_proto::CallEnd;
 use memc_table::{Act, Op, Reply};
 use node_worker::{OpenGate, ServeFault};
 use stage_caller::StageCaller;
-use std::alloc::Global;
+use std::alloc::{AllocError, Global};
+use std::process::Abort;
 use std::sync::Wait;
 use std::test::Fail;
 use std::thread::Threads;
 
-/// The key that the client stores.
-fn get(alloc: Global) -> Result<Op, Fail> {
-    Ok(Op::new(
-        0,
-        Act::Get {
-            key: Key::read(alloc, b"a".as_slice())?,
-        },
-    ))
+/// A get of the key that the client stores.
+fn get(rt: &impl Abort, alloc: Global) -> Op {
+    let key = Key::read(alloc, b"a".as_slice()).expect(rt, "it is a key");
+    Op::new(0, found(key))
+}
+
+fn found(key: Key) -> Act {
+    Act::Get { key }
 }
 
 /// What a caller reads from a seat beside those of the server.
-fn read(alloc: Global, stage: &Stage, seat: Seat) -> Result<Option<u8>, Fail>
+fn read(op: &Op, stage: &Stage, seat: Seat) -> Option<u8>
     requires { IsOf stage.now seat }
 {
     let mut caller = StageCaller::new(stage, seat, false);
-    match caller.call(&get(alloc)?)? {
-        CallEnd::Reply(Reply::Value(item)) => Ok(item.value.bytes().first().copied()),
-        _ => Ok(None),
+    first_byte(&caller.call(op))
+}
+
+fn first_byte(end: &Result<CallEnd, AllocError>) -> Option<u8> {
+    match end {
+        Ok(CallEnd::Reply(Reply::Value(item))) => item.value.bytes().first().copied(),
+        _ => None,
     }
 }
 
 /// Serves a client with four seats, and reads from a fifth.
-fn serve_and_read<R: Threads + Wait + Sync>(
+fn serve_and_read<R: Threads + Wait + Abort + Sync>(
     rt: &R,
     alloc: Global,
     clients: &mut MemoryListener,
     shape: Shape,
-) -> Result<(Result<u64, ServeFault>, Option<u8>), Fail> {
-    let (stage, mut seats) = Stage::new(alloc, shape, 5)?;
+) -> (Result<u64, ServeFault>, Option<u8>) {
+    let (stage, mut seats) = Stage::new(alloc, shape, 5).expect(rt, "there is memory");
     let Some(spare) = seats.take() else {
         unreachable!()
     };
@@ -59,14 +64,17 @@ fn serve_and_read<R: Threads + Wait + Sync>(
         1,
         &FixedClock::new(0),
     );
-    let found = read(alloc, &stage, spare)?;
-    Ok((served, found))
+    (served, read(&get(rt, alloc), &stage, spare))
 }
 
 /// Whether a spare caller reads what a connection stored.
-fn is_shared<R: Threads + Wait + Sync>(rt: &R, alloc: Global, shape: Shape) -> Result<bool, Fail> {
+fn is_shared<R: Threads + Wait + Abort + Sync>(
+    rt: &R,
+    alloc: Global,
+    shape: Shape,
+) -> Result<bool, Fail> {
     let mut clients = listener(alloc, &[STORES], &[])?;
-    let (served, found) = serve_and_read(rt, alloc, &mut clients, shape)?;
+    let (served, found) = serve_and_read(rt, alloc, &mut clients, shape);
     let held = clients.held(alloc, 1)?;
     Ok(served == Ok(1) && held.as_slice() == STORED && found == Some(b'A'))
 }

@@ -3,10 +3,12 @@ ghost use Rattle.std.specs.Prelude.{◌≡◌, ◌<◌, length};
 ghost use Rattle.group_types.specs.Names.{IsProcess};
 ghost use Rattle.group_stage.specs.Seated.{AreOf, IsOf, callers_of, shape_of};
 
+use crate::calls::{get, set};
 use group_stage::{Seat, Seats, Stage, StageAnswer};
-use group_types::{Key, Payload, ProcessId, Shape};
-use memc_table::{Act, Op};
+use group_types::{ProcessId, Shape};
+use memc_table::Op;
 use std::alloc::Global;
+use std::process::Abort;
 use std::test::Fail;
 use std::thread;
 use std::thread::Threads;
@@ -80,15 +82,18 @@ fn ask_in_two<R: Threads + Sync>(
 
 #[test]
 fn two_threads_count_as_their_seats_do(rt: HostRuntime) -> Result<(), Fail> {
-    assert!(rt; counts_agree(&rt, rt.alloc())?);
+    let shape = Shape::new(1, 0, 4, 16)?;
+    assert!(rt; counts_agree(&rt, rt.alloc(), shape));
     Ok(())
 }
 
 // Whether each seat has asked as often as its thread counted, and the stage can be closed.
-fn counts_agree<R: Threads + Sync>(rt: &R, alloc: Global) -> Result<bool, Fail> {
-    let shape = Shape::new(1, 0, 4, 16)?;
-    let (set, get) = two_calls(alloc)?;
-    Ok(made_and_asked(rt, alloc, shape, (&set, &get)))
+fn counts_agree<R: Threads + Abort + Sync>(rt: &R, alloc: Global, shape: Shape) -> bool
+    requires { 0 < shape.k }
+{
+    let set = set(rt, alloc, b'b');
+    let get = get(rt, alloc);
+    made_and_asked(rt, alloc, shape, (&set, &get))
 }
 
 fn made_and_asked<R: Threads + Sync>(rt: &R, alloc: Global, shape: Shape, ops: (&Op, &Op)) -> bool
@@ -124,25 +129,4 @@ fn is_counted(counted: &Counted) -> bool {
     counted.seat.asks() == counted.made
         && counted.made.wrapping_add(counted.busy) == u64::from(CALLS)
         && counted.other == 0
-}
-
-fn two_calls(alloc: Global) -> Result<(Op, Op), Fail> {
-    let set = set(alloc)?;
-    let get = get(alloc)?;
-    Ok((Op::new(0, set), Op::new(0, get)))
-}
-
-fn set(alloc: Global) -> Result<Act, Fail> {
-    Ok(Act::Set {
-        key: Key::read(alloc, b"a".as_slice())?,
-        flags: 0,
-        expiry: 0,
-        value: Payload::of(alloc, b"b".as_slice())?,
-    })
-}
-
-fn get(alloc: Global) -> Result<Act, Fail> {
-    Ok(Act::Get {
-        key: Key::read(alloc, b"a".as_slice())?,
-    })
 }

@@ -3,11 +3,12 @@ ghost use Rattle.std.specs.Prelude.{◌≡◌, ◌≢◌, ◌<◌, length};
 ghost use Rattle.group_types.specs.Names.{IsProcess};
 ghost use Rattle.group_stage.specs.Seated.{AreOf, IsOf, callers_of, shape_of};
 
+use crate::calls::{get, set};
 use group_calls::{Answer, Cause};
 use group_core::Nodes;
 use group_stage::{Seat, Seats, Stage, StageAnswer};
-use group_types::{Key, Partition, Payload, ProcessId, Shape};
-use memc_table::{Act, Op, Reply};
+use group_types::{Partition, ProcessId, Shape};
+use memc_table::{Op, Reply};
 use std::alloc::{AllocError, Global};
 use std::test::Fail;
 
@@ -72,22 +73,30 @@ fn pending() -> Answer {
     })
 }
 
+// The calls of the row: two sets of one key, and a get.
+#[derive(Drop)]
+struct Ops {
+    first: Op,
+    second: Op,
+    get: Op,
+}
+
 // The update waits.
-fn begins(stage: &Stage, one: &mut Seat, two: &mut Seat, ops: &[Op; 3]) -> bool
+fn begins(stage: &Stage, one: &mut Seat, two: &mut Seat, ops: &Ops) -> bool
     requires one { IsOf stage.now one.old }
     requires two { IsOf stage.now two.old }
     requires data { 0 < (shape_of stage.now).k }
     ensures one { IsOf stage.now one.new }
     ensures two { IsOf stage.now two.new }
 {
-    let mut good = asks(stage, one, &ops[0], Answer::Ticket(1));
-    good = asks(stage, two, &ops[1], pending()) && good;
-    good = asks(stage, two, &ops[2], Answer::Reply(Reply::Miss)) && good;
+    let mut good = asks(stage, one, &ops.first, Answer::Ticket(1));
+    good = asks(stage, two, &ops.second, pending()) && good;
+    good = asks(stage, two, &ops.get, Answer::Reply(Reply::Miss)) && good;
     collects(stage, one, Answer::NotYet) && good
 }
 
 // It is settled, and the next one waits.
-fn settles(stage: &Stage, one: &mut Seat, two: &mut Seat, ops: &[Op; 3]) -> bool
+fn settles(stage: &Stage, one: &mut Seat, two: &mut Seat, ops: &Ops) -> bool
     requires one { IsOf stage.now one.old }
     requires two { IsOf stage.now two.old }
     requires data { 0 < (shape_of stage.now).k }
@@ -100,11 +109,11 @@ fn settles(stage: &Stage, one: &mut Seat, two: &mut Seat, ops: &[Op; 3]) -> bool
     good = collects(stage, one, Answer::Reply(Reply::Stored)) && good;
     good = collects(stage, one, Answer::Stranger) && good;
     good = delivers(stage, one, D0, P0, Answer::Idle) && good;
-    asks(stage, two, &ops[1], Answer::Ticket(2)) && good
+    asks(stage, two, &ops.second, Answer::Ticket(2)) && good
 }
 
 // The row, and then a flush and a loss.
-fn plays(stage: &Stage, one: &mut Seat, two: &mut Seat, ops: &[Op; 3]) -> bool
+fn plays(stage: &Stage, one: &mut Seat, two: &mut Seat, ops: &Ops) -> bool
     requires one { IsOf stage.now one.old }
     requires two { IsOf stage.now two.old }
     requires data { 0 < (shape_of stage.now).k }
@@ -123,7 +132,7 @@ fn only_the_parity_is_dead(nodes: &Nodes) -> bool {
 }
 
 // Whether the row is played, and the nodes are there when the stage is closed.
-fn closes(stage: Stage, all: Seats, ops: &[Op; 3]) -> bool
+fn closes(stage: Stage, all: Seats, ops: &Ops) -> bool
     requires seats { AreOf stage all.seats }
     requires many { length all.seats ≡ callers_of stage }
     requires made { length all.seats ≡ all.made }
@@ -146,7 +155,7 @@ fn closes(stage: Stage, all: Seats, ops: &[Op; 3]) -> bool
     }
 }
 
-fn row(alloc: Global, shape: Shape, ops: &[Op; 3]) -> bool
+fn row(alloc: Global, shape: Shape, ops: &Ops) -> bool
     requires data { 0 < shape.k }
     requires parity { 0 < shape.m }
 {
@@ -156,25 +165,15 @@ fn row(alloc: Global, shape: Shape, ops: &[Op; 3]) -> bool
     }
 }
 
-fn set(alloc: Global, byte: u8) -> Result<Op, Fail> {
-    let act = Act::Set {
-        key: Key::read(alloc, b"a".as_slice())?,
-        flags: 0,
-        expiry: 0,
-        value: Payload::of(alloc, [byte].as_slice())?,
-    };
-    Ok(Op::new(0, act))
-}
-
-fn get(alloc: Global) -> Result<Op, Fail> {
-    let key = Key::read(alloc, b"a".as_slice())?;
-    Ok(Op::new(0, Act::Get { key }))
-}
-
 #[test]
 fn one_thread_plays_a_row(rt: HostRuntime) -> Result<(), Fail> {
     let alloc = rt.alloc();
-    let ops = [set(alloc, 1)?, set(alloc, 2)?, get(alloc)?];
-    assert!(rt; row(alloc, Shape::new(1, 1, 1, 16)?, &ops));
+    let shape = Shape::new(1, 1, 1, 16)?;
+    let ops = Ops {
+        first: set(&rt, alloc, 1),
+        second: set(&rt, alloc, 2),
+        get: get(&rt, alloc),
+    };
+    assert!(rt; row(alloc, shape, &ops));
     Ok(())
 }

@@ -1,9 +1,10 @@
-use Rattle.std.proofs.Common.{ℕ, ◌≡◌, ◌<◌, ◌-◌, ◌^◌, List, drop, length, ap, sym, subst, ◌∙◌}
+use Rattle.std.proofs.Common.{ℕ, ◌≡◌, ◌<◌, ◌-◌, ◌^◌, List, drop, length, refl, ap, sym, subst, ◌∙◌}
 use Rattle.group_layout.specs.Cluster.{Cluster}
 use Rattle.group_layout.specs.declared.event.ClusterEvent.TheVariants.{InGroup}
 use Rattle.group_run.specs.World.{World}
 use Rattle.scenario_run.specs.Marks.{marked_entries}
 use Rattle.cluster_run.specs.Playing.{ClusterPlay, turn_of, turn_text}
+use Rattle.cluster_run.specs.Texts.{cluster_answer_text}
 use Rattle.cluster_play.specs.Doing.{IsReadyFor}
 use Rattle.cluster_play.proofs.Logged.{Last, last-in, turn-written}
 use Rattle.cluster_play.proofs.Ready.{few-in, there-after}
@@ -29,5 +30,5 @@ returns-clause-text c =
     let entries : List ℕ = marked_entries c.deref.result.now (drop (length c.log-log.result.now - c.in_ok-out.out.logged) c.log-log.result.now) in
     let logged = ap (λ (mark : List ℕ). marked_entries mark (drop (length c.log-log.result.now - c.in_ok-out.out.logged) c.log-log.result.now)) (c.deref.ensures.value ∙ c.in_ok-mark.ensures) ∙ last.text in
     subst (λ (p : ClusterPlay). c.write_last.new.text.items ≡ turn_text (turn_of p.cluster (InGroup c.args.group c.args.event))) c.self.view_is
-    (turn-written before (InGroup c.args.group c.args.event) c.in_ok-out.out.answer c.in_ok-text.text.items c.push.new.self.items entries c.write_last.new.text.items c.in_ok-text.ensures c.in_ok-out.ensures.answer
-    c.in_ok-push.ensures.items c.in_ok-write_last.ensures logged)
+    (turn-written before (InGroup c.args.group c.args.event) c.in_ok-out.out.answer (cluster_answer_text c.in_ok-out.out.answer) c.in_ok-text.text.items entries c.write_last.new.text.items refl c.in_ok-out.ensures.answer
+    c.in_ok-text.ensures c.in_ok-write_last.ensures logged)
