@@ -5,6 +5,8 @@ pub enum Command {
     Play,
     /// Plays a script of several groups on nodes.
     PlayGroups,
+    /// Plays a script of a group over eras.
+    PlayRegroup,
     /// Serves one connection over a group of this shape.
     Session {
         k: u32,

@@ -34,7 +34,7 @@ use Rattle.group_eras.specs.Carry.{Parcel, begun, carried, expiry_of, read_era, 
 use Rattle.group_eras.specs.Eras.{EraEntry, Eras, eras_after, next_bases, next_era}
 use Rattle.group_eras.specs.Items.{Load, bytes_in, loads, loads_of, settled_items}
 use Rattle.group_eras.specs.Moments.{AreGot}
-use Rattle.group_eras.specs.Promise.{AreTold, HasCarried, IsEra, IsKept, one_log, table_over}
+use Rattle.group_eras.specs.Promise.{AreTold, HasCarried, IsEra, IsKept, WasThere, one_log, table_over}
 use Rattle.group_eras.specs.Refusal.{CanCarry, IsAtRest, IsSuccessor}
 use Rattle.group_eras.specs.Told.{with_base}
 use Rattle.group_eras.proofs.Draining.{after-is, shape-after}
@@ -42,7 +42,7 @@ use Rattle.group_eras.proofs.Finding as finding
 use Rattle.group_eras.proofs.Following.{Follows, IsSame, follows, plain-same, run-first, sets-along, stands-along, still-same}
 use Rattle.group_eras.proofs.Joins.{Joined, Meets}
 use Rattle.group_eras.proofs.Loading.{keys-differ, weight-is}
-use Rattle.group_eras.proofs.Readings.{IsLoad, ReadWell, are-loads, parcel_for, reads}
+use Rattle.group_eras.proofs.Readings.{IsLoad, ReadWell, are-loads, item_of, parcel_for, reads}
 use Rattle.group_eras.proofs.Resting.{IsStill, Rests, same-counts, same-items, settled_of, still-settled, table_after_run, ties-of}
 use Rattle.group_eras.proofs.SetAll.{AllSet, Apart, IsOfGroup, IsPlain, all-come, opens-setup, set-all}
 use Rattle.group_eras.proofs.SetTables.{NoItem, OfSet, SetItem, SetsOne, appears, log-sets, one-parcel, sets-items}
@@ -451,10 +451,73 @@ module _ (e : Eras) (stands : Stands e) (rest : IsAtRest e.world) where
         by (inl (Gone x is ends none)) = absurd (cc (now.own, none))
         by (inr both) = absurd both.0
 
+    -- each parcel is of an item of the old era that lives
+    pub record OfOld (x : Parcel) : Type 0 where
+      pub old : Holding
+      pub there : (table_after_run e.world.shape stands.era.events).items x.key ≡ Some old
+      pub flags : old.item.flags ≡ x.flags
+      pub value : old.item.value ≡ x.value
+      pub until : old.until ≡ x.until
+      pub live : is_live 0 x.until ≡ true
+
+    of-old : Each OfOld parcels
+    of-old = each-map OfOld (parcel_for s es rests) (loads w) (each-weaker (IsLoad s w) (λ x. OfOld (parcel_for s es rests x)) (λ x load. record {
+      old = item_of s es rests x;
+      there = (finding.in-table s es rests x.partition load.below (x.key, x.slot) load.there).there;
+      flags = refl;
+      value = refl;
+      until = refl;
+      live = load.live;
+    }) (loads w) loads-are)
+
+    -- an item of the new era that lives was there
+    module _ (key : List ℕ) (h : Holding) (there : (table_over e3).items key ≡ Some h) (live : is_live 0 h.until ≡ true) where
+      -- as it was in the whole table, from what it was in the old era's
+      before : (old : Holding) → (own_table e).items key ≡ Some old → old.item.flags ≡ h.item.flags → old.item.value ≡ h.item.value → old.until ≡ h.until
+          → WasThere (table_over e) key h
+      before old own flags value until = by ((stands.joined rests.run.0.k.0).items key) where
+        by : Meets e.bases s.k rests.run.0.k.0 NoKey key ((table_over e).items key) ((own_table e).items key) → WasThere (table_over e) key h
+        by (inl (Alike is has)) = record {
+          holding = shifted e.bases (home_of key s.k) old;
+          there = is ∙ ap (shift e.bases (home_of key s.k)) own;
+          flags = flags;
+          value = value;
+          until = until;
+        }
+        by (inl (Gone x is ends none)) = absurd (cc (own, none))
+        by (inr both) = absurd both.0
+
+      from-set : (x : Holding) → (own_table e3).items key ≡ Some x → shifted e3.bases (home_of key e3.world.shape.k) x ≡ h → WasThere (table_over e) key h
+      from-set x own same = by (sets-items parcels (empty_table s'.k) (after s' sets).log key log-all (NoItem refl)) where
+        by : SetItem parcels key ((table_after_run s' (setting (opening s') parcels)).items key) → WasThere (table_over e) key h
+        by (NoItem none) = absurd (cc (own, ap (λ (t : Contents). t.items key) own3-is, none))
+        by (OfSet y new in-parcels key_is is of) =
+            let new-is : new ≡ x = some-same new x (sym is ∙ ap (λ (t : Contents). t.items key) (sym own3-is) ∙ own) in
+            let was : OfOld y = each-contained OfOld parcels y of-old in-parcels in
+            before was.old (ap (λ (t : Contents). t.items key) own-is ∙ ap (λ (k : List ℕ). (table_after_run s es).items k) (sym key_is) ∙ was.there)
+            (was.flags ∙ sym of.flags ∙ ap (λ (z : Holding). z.item.flags) new-is ∙ ap (λ (z : Holding). z.item.flags) same)
+            (was.value ∙ sym of.value ∙ ap (λ (z : Holding). z.item.value) new-is ∙ ap (λ (z : Holding). z.item.value) same)
+            (was.until ∙ sym (until-back y.until was.live) ∙ sym of.until ∙ ap (λ (z : Holding). z.until) new-is ∙ ap (λ (z : Holding). z.until) same)
+
+      was3 : WasThere (table_over e) key h
+      was3 = by ((stands3.joined stands3.era.run.0.k.0).items key) where
+        alike : (o : Option Holding) → (own_table e3).items key ≡ o → (table_over e3).items key ≡ shift e3.bases (home_of key e3.world.shape.k) o → WasThere (table_over e) key h
+        alike None own is = absurd (cc (is, there))
+        alike (Some x) own is = from-set x own (some-same (shifted e3.bases (home_of key e3.world.shape.k) x) h (sym is ∙ there))
+
+        by : Meets e3.bases e3.world.shape.k stands3.era.run.0.k.0 NoKey key ((table_over e3).items key) ((own_table e3).items key) → WasThere (table_over e) key h
+        by (inl (Alike is has)) = alike ((own_table e3).items key) refl is
+        by (inl (Gone x is ends none)) =
+            let same : x ≡ h = some-same x h (sym is ∙ there) in
+            let dead : is_live 0 h.until ≡ false = ap (λ (y : Holding). is_live 0 y.until) (sym same) ∙ ap (is_live 0) ends in
+            absurd (cc (dead, live))
+        by (inr both) = absurd both.0
+
     pub has-carried : HasCarried e s'
     has-carried = record {
       shape = shape3;
       whole = λ p pin. ap (λ (v : World). is_dead v p) world3 ∙ setup.live p;
       drained = subst IsDrained (sym world3) setup.rests.drained;
       kept = λ key h there live. subst (λ (x : Eras). IsKept (table_over e) key h (table_over x)) (sym carried-is) (kept3 key h there live);
+      none_new = λ key h there live. was3 key h (ap (λ (x : Eras). (table_over x).items key) (sym carried-is) ∙ there) live;
     }

@@ -113,6 +113,18 @@ pub record IsKept (t : Contents) (key : List ℕ) (h : Holding) (u : Contents) :
 abbrev pub AreKept : Contents → Contents → Type 0
 AreKept t u = (key : List ℕ) (h : Holding) → t.items key ≡ Some h → is_live 0 h.until ≡ true → IsKept t key h u
 
+-- an item was in a table what it is
+pub record WasThere (t : Contents) (key : List ℕ) (h : Holding) : Type 0 where
+  pub holding : Holding
+  pub there : t.items key ≡ Some holding
+  pub flags : holding.item.flags ≡ h.item.flags
+  pub value : holding.item.value ≡ h.item.value
+  pub until : holding.until ≡ h.until
+
+-- the items of a table that live at some moment were all in another
+abbrev pub NoneIsNew : Contents → Contents → Type 0
+NoneIsNew t u = (key : List ℕ) (h : Holding) → u.items key ≡ Some h → is_live 0 h.until ≡ true → WasThere t key h
+
 -- no process is dead
 abbrev pub IsWhole : World → Type 0
 IsWhole w = (p : ProcessId) → IsProcess w.shape p → is_dead w p ≡ false
@@ -123,6 +135,7 @@ pub record HasCarried (e : Eras) (s : Dimensions) : Type 0 where
   pub whole : IsWhole (carried e s).world
   pub drained : IsDrained (carried e s).world
   pub kept : AreKept (table_over e) (table_over (carried e s))
+  pub none_new : NoneIsNew (table_over e) (table_over (carried e s))
 
 -- eras whose log is legal, and whose current one is a run of its own
 pub record HasPromise (e : Eras) : Type 0 where
@@ -141,6 +154,10 @@ pub record IsLed (e : Eras) : Type 0 where
 abbrev pub ErasAreRuns : Type 0
 ErasAreRuns = (e : Eras) → IsLed e → HasPromise e
 
--- and nothing is lost in a carry
+-- and nothing is lost in a carry, nor does anything come back
 abbrev pub CarriesKeep : Type 0
 CarriesKeep = (e : Eras) (s : Dimensions) → IsLed e → IsSuccessor e.world s → CanCarry e.world s → HasCarried e s
+
+-- and no entry of the log is taken back
+abbrev pub LogsOnlyGrow : Type 0
+LogsOnlyGrow = (e : Eras) (deed : Deed) → (more : List EraEntry) × ((done e deed).log ≡ e.log ++ more)

@@ -1,6 +1,6 @@
 ghost use Rattle.group_eras.specs.Moments.{CarriesAreShort, CountsAreLow, ItemsAreGot, LoadsAreFew, ReadsMayCome, SetsMayCome, UntilsAreLow};
 ghost use Rattle.group_eras.specs.Numbers.{OthersTellNone, RepliesAreLogged, TicketsAreNew};
-ghost use Rattle.group_eras.specs.Promise.{CarriesKeep, ErasAreRuns};
+ghost use Rattle.group_eras.specs.Promise.{CarriesKeep, ErasAreRuns, LogsOnlyGrow};
 ghost use Rattle.group_eras.specs.Worked.{LogIsAsWorked, MayBeWorked};
 
 /// Whatever happens over eras, the log of all is legal, and the current era is a run of its own, with the whole
@@ -10,9 +10,14 @@ pub fn eras_are_runs()
 {}
 
 /// A carry leaves a group of which no process is dead, and each item that lives at some moment is what it was, with a
-/// cas number above all earlier ones of its partition.
+/// cas number above all earlier ones of its partition. No other item that lives is there.
 pub fn carries_keep()
     ensures { CarriesKeep }
+{}
+
+/// Whatever is done, the log over all eras keeps its entries, and more come behind them.
+pub fn logs_only_grow()
+    ensures { LogsOnlyGrow }
 {}
 
 /// Each get of a carry has its item in the end, through lost blocks where that is needed.

@@ -11,6 +11,8 @@ use Rattle.scenario_text.specs.declared.line.LineFault.{LineFault}
 use Rattle.scenario_text.specs.declared.line.LineFault.TheVariants as line
 use Rattle.scenario_run.specs.Course.{Fault}
 use Rattle.scenario_run.specs.Script.{first_fault}
+use Rattle.regroup_play.specs.Language.{era_scripts}
+use Rattle.regroup_run.specs.Script as eras
 use Rattle.scenario_play.specs.Language.{Language, told_in}
 use Rattle.scenario_play.specs.Outside.{Outside}
 use Rattle.scenario_play.specs.Played.{IsPlayed, IsWritten}
@@ -34,6 +36,14 @@ told_at-not n line.Want is = cc is
 -- what is told of a script
 pub told-not : (text : List ℕ) → status_for text ≢ AcceptFault
 told-not text is = by (nat_lt longest_script (length text)) (first_fault text) is where
+  by : (b : Bool) (fault : Option (Fault LineFault)) → (if b then TooLong else told_of told_at fault) ≢ AcceptFault
+  by true fault is = cc is
+  by false None is = cc is
+  by false (Some fault) is = told_at-not fault.number fault.cause is
+
+-- and of one over eras
+pub eras-told-not : (text : List ℕ) → told_in era_scripts text ≢ AcceptFault
+eras-told-not text is = by (nat_lt longest_script (length text)) (eras.first_fault text) is where
   by : (b : Bool) (fault : Option (Fault LineFault)) → (if b then TooLong else told_of told_at fault) ≢ AcceptFault
   by true fault is = cc is
   by false None is = cc is

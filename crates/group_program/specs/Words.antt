@@ -1,11 +1,12 @@
 use Rattle.std.specs.Prelude.{Option, Some, ⊤}
 use Rattle.command_line.specs.declared.command.Command.{Command}
-use Rattle.command_line.specs.declared.command.Command.TheVariants.{Frames, Play, PlayGroups, Serve, Session}
+use Rattle.command_line.specs.declared.command.Command.TheVariants.{Frames, Play, PlayGroups, PlayRegroup, Serve, Session}
 
 -- the words ask for no command that reads its input
 abbrev pub ReadsNothing : Option Command → Type 0
 ReadsNothing (Some Play) = ⊥
 ReadsNothing (Some PlayGroups) = ⊥
+ReadsNothing (Some PlayRegroup) = ⊥
 ReadsNothing (Some Frames) = ⊥
 ReadsNothing (Some Serve) = ⊥
 ReadsNothing (Some (Session _ _ _ _)) = ⊥

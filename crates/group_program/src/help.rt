@@ -5,6 +5,7 @@ use std::alloc::{AllocError, Global};
 
 const COMMANDS: &str = "usage: cocytus_main play < SCRIPT
        cocytus_main play_groups < SCRIPT
+       cocytus_main play_regroup < SCRIPT
        cocytus_main session <k> <m> <blocks> <block>
        cocytus_main serve < SETTINGS
        cocytus_main make <n>
@@ -26,6 +27,25 @@ flush <process>
 show <process> <at> <len>
 time <n>
 drain
+stop
+A process is d<n> or p<n>; a value is -, hexadecimal digits, or *<len>*<hh>.
+";
+
+const ERA_LINES: &str = "is none of these, with words one space apart, ended by a line feed alone:
+group <k> <m> <blocks> <block>                 the first line, and no other
+ask <caller> <process> <op>                    op: get <key>, delete <key>, touch <key> <exptime>,
+                                               set|add|replace <key> <flags> <value> [<exptime>],
+                                               cas <key> <flags> <cas> <value> [<exptime>],
+                                               append|prepend <key> <value>, incr|decr <key> <n>
+collect <caller> <call> <process>
+trace <caller> <call> <partition> <process>
+deliver <from> <to>
+fail <process> <keep>|all
+flush <process>
+show <process> <at> <len>
+time <n>
+drain
+regroup <m> <blocks> <block>
 stop
 A process is d<n> or p<n>; a value is -, hexadecimal digits, or *<len>*<hh>.
 ";
@@ -60,6 +80,7 @@ pub fn help_at(alloc: Global, words: &[String], status: Status) -> Result<String
 fn lines(words: &[String]) -> &'static str {
     match words.first() {
         Some(word) if word.as_str() == "play_groups" => GROUPS_LINES,
+        Some(word) if word.as_str() == "play_regroup" => ERA_LINES,
         _ => LINES,
     }
 }

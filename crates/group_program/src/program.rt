@@ -3,6 +3,7 @@ ghost use Rattle.std.specs.String.{string_bytes};
 ghost use Rattle.cluster_play.specs.Language.{cluster_scripts};
 ghost use Rattle.command_line.specs.Words.{command_of};
 ghost use Rattle.edge_io.specs.Faults.{Rose};
+ghost use Rattle.regroup_play.specs.Language.{era_scripts};
 ghost use Rattle.group_server.specs.Service.{tally};
 ghost use Rattle.group_types.specs.Dimensions.{Dimensions};
 ghost use Rattle.group_types.specs.Shape.{IsShape};
@@ -20,6 +21,7 @@ use cluster_play::play_groups;
 use command_line::{Command, WordsFault, read_words};
 use edge_io::{Clock, Listener, Sink, Source};
 use group_server::Notice;
+use regroup_play::play_regroup;
 use scenario_play::Status;
 use scenario_play::make::make;
 use scenario_play::play::play;
@@ -29,8 +31,8 @@ use std::alloc::Global;
 use std::sync::Wait;
 use std::thread::Threads;
 
-/// Runs the command that the words after the program's name ask for: `play`, `play_groups`, `session`, `serve`, `make`,
-/// `trial` or `frames`. Before the first connection of `serve` the notice tells what is served.
+/// Runs the command that the words after the program's name ask for: `play`, `play_groups`, `play_regroup`, `session`,
+/// `serve`, `make`, `trial` or `frames`. Before the first connection of `serve` the notice tells what is served.
 pub fn run_program<R: Threads + Wait + Sync, S: Source, K: Sink, L: Listener, N: Notice, T: Clock>(
     rt: &R,
     alloc: Global,
@@ -53,6 +55,8 @@ where
         → HasPlayedWhole group_scripts (S.input source.old) (S.input source.new) (K.held sink.old) (K.held sink.new) }
     ensures cluster_promises { command_of (map string_bytes words.now) ≡ Some Command.PlayGroups → result ≡ Status.Done
         → HasPlayedWhole cluster_scripts (S.input source.old) (S.input source.new) (K.held sink.old) (K.held sink.new) }
+    ensures era_promises { command_of (map string_bytes words.now) ≡ Some Command.PlayRegroup → result ≡ Status.Done
+        → HasPlayedWhole era_scripts (S.input source.old) (S.input source.new) (K.held sink.old) (K.held sink.new) }
     ensures serves { command_of (map string_bytes words.now) ≡ Some Command.Serve → result ≡ Status.Done
         → HasServedWhole L.listened (λ l. tally (L.accepted l) (L.over l)) listener.old listener.new
         (outside (S.input source.old) (S.faults source.old) (K.held sink.old) (K.faults sink.old))
@@ -102,6 +106,7 @@ where
     match command {
         Command::Play => play(alloc, source, sink),
         Command::PlayGroups => play_groups(alloc, source, sink),
+        Command::PlayRegroup => play_regroup(alloc, source, sink),
         Command::Make { number } => make(alloc, number, sink),
         Command::Trial { number } => trial(alloc, number, sink),
         Command::Frames => list_frames(alloc, source, sink),

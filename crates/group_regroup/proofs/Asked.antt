@@ -1,5 +1,5 @@
 -- What an event logs of the call that it asks has the op that was asked.
-use Rattle.std.proofs.Common.{◌≡◌, ◌≢◌, ℕ, zero, suc, ◌+◌, ◌<◌, ◌==◌, ◌&&◌, Bool, true, false, List, [], ◌∷◌, ◌++◌, map, Option, Some, None, if◌then◌else◌, refl, sym, ap, subst, ◌∙◌, append-nil, arith}
+use Rattle.std.proofs.Common.{◌≡◌, ℕ, ◌<◌, ◌==◌, ◌&&◌, Bool, true, false, List, [], ◌∷◌, ◌++◌, Option, Some, None, if◌then◌else◌, refl, sym, ap, subst, ◌∙◌, append-nil, arith}
 use mathlib.Core.Bool.{false≢true}
 use Rattle.std.proofs.lemmas.Option.{none-some}
 use Rattle.std.specs.Option.{unwrap_or}
@@ -7,10 +7,9 @@ use Rattle.std.proofs.lemmas.Bool.Decides.{nat_tests}
 use Rattle.std.specs.List.{range_with_len}
 use Rattle.std.specs.Prelude.{All, length}
 use Rattle.std.proofs.lemmas.List.Elements.{All-head, All-tail}
-use Rattle.group_types.specs.Lists.{at, put}
+use Rattle.group_types.specs.Lists.{at}
 use Rattle.group_types.specs.Each.{Each}
 use Rattle.group_types.specs.declared.process.ProcessId.{ProcessId}
-use Rattle.group_types.specs.declared.run.Run.{Run}
 use Rattle.memc_table.specs.Asked.{Asked}
 use Rattle.memc_table.specs.declared.reply.Reply.{Reply}
 use Rattle.group_message.specs.declared.update.Update.{Update}
@@ -18,11 +17,10 @@ use Rattle.group_calls.specs.Turns.{CallName, accepts, entry_of, name_of}
 use Rattle.group_calls.specs.declared.entry.Entry.{Entry}
 use Rattle.group_calls.specs.declared.event.Answer.{Answer}
 use Rattle.group_calls.specs.declared.event.Answer.TheVariants as says
-use Rattle.group_calls.specs.declared.event.Event.{Event}
 use Rattle.group_calls.specs.declared.event.Event.TheVariants.{Ask}
 use Rattle.group_run.specs.Asking.{reply_from}
 use Rattle.group_run.specs.Applying.{Settlement}
-use Rattle.group_run.specs.World.{Call, Ledger, Ticket, World, call_of, entries_for, entry_then, group_step, grown, is_issued, ledger_after, ledger_with, logged_at_once, new_ones, next_name, op_in, same_call, settled_in, step, ticket_if, tickets_after, update_name, refusal_logged}
+use Rattle.group_run.specs.World.{Ledger, Ticket, World, call_of, entries_for, entry_then, group_step, grown, is_issued, ledger_after, ledger_with, logged_at_once, new_ones, next_name, op_in, same_call, settled_in, step, ticket_if, tickets_after, update_name, refusal_logged}
 
 module _ (P : Entry → Type 0) (tickets : List Ticket) (holds : (name : CallName) (op : Asked) (reply : Reply) → op_in name tickets ≡ Some op → P (entry_of name op reply)) where
   for-settled : (us : List Update) → Each P (entries_for tickets us)

@@ -1,5 +1,5 @@
 -- An item's cas number is at most the count of its partition, and the count of a log's table is how many updates the log has.
-use Rattle.std.proofs.Common.{◌≡◌, ◌≢◌, ℕ, zero, suc, ◌+◌, ◌<◌, ◌≤◌, ◌==◌, Bool, true, false, List, [], ◌∷◌, length, ◌⊎◌, inl, inr, Option, Some, None, if◌then◌else◌, refl, sym, ap, subst, ◌∙◌, arith, slice_set}
+use Rattle.std.proofs.Common.{◌≡◌, ◌≢◌, ℕ, zero, suc, ◌+◌, ◌<◌, ◌≤◌, ◌==◌, Bool, true, false, List, [], ◌∷◌, length, Option, Some, None, if◌then◌else◌, refl, sym, ap, subst, ◌∙◌, arith, slice_set}
 use mathlib.Core.Bool.{false≢true}
 use Rattle.std.specs.Prelude.{slice_index}
 use Rattle.std.specs.Option.{unwrap_or}
@@ -14,9 +14,8 @@ use Rattle.group_types.specs.Hash.{home_of}
 use Rattle.group_types.specs.declared.run.Run.{Run}
 use Rattle.memc_table.specs.Act.{key_of}
 use Rattle.memc_table.specs.Asked.{Asked}
-use Rattle.memc_table.specs.Contents.{Contents, after_ruling, count_of, empty_table, partition_of, reply_in, reply_of, ruling_on, table_after}
+use Rattle.memc_table.specs.Contents.{Contents, after_ruling, count_of, partition_of, reply_in, reply_of, ruling_on, table_after}
 use Rattle.memc_table.specs.Expiry.{is_live, live_at}
-use Rattle.memc_table.specs.declared.act.Act.{Act}
 use Rattle.memc_table.specs.declared.holding.Holding.{Holding}
 use Rattle.memc_table.specs.declared.ruling.Ruling.{Ruling}
 use Rattle.memc_table.specs.declared.ruling.Ruling.TheVariants.{Accepted, Refused}

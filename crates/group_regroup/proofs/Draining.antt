@@ -1,8 +1,8 @@
 -- The deliveries that drain a group, one after the other.
-use Rattle.std.proofs.Common.{◌≡◌, ℕ, zero, suc, ◌+◌, ◌-◌, ◌≤◌, ◌<◌, List, [], ◌∷◌, ◌++◌, length, take, Option, Some, None, refl, sym, ap, subst, ◌∙◌, append_assoc, append-nil, length-append, arith}
+use Rattle.std.proofs.Common.{◌≡◌, ℕ, zero, suc, ◌+◌, ◌-◌, ◌≤◌, ◌<◌, List, [], ◌∷◌, ◌++◌, length, take, Option, Some, None, Result, Ok, Err, refl, sym, ap, ◌∙◌, append_assoc, append-nil, length-append, arith}
+use Rattle.std.specs.Prelude.{OnErr}
 use Rattle.group_calls.specs.declared.event.Event.{Event}
 use Rattle.group_run.specs.Draining.{drain_events, next_delivery}
-use Rattle.group_run.specs.Headline.{MayCome}
 use Rattle.group_run.specs.Meaning.{IsDown}
 use Rattle.group_run.specs.Progress.{load_of}
 use Rattle.group_run.specs.World.{World, step, world_after}
@@ -83,3 +83,8 @@ module _ (w v : World) (d : Delivering w v) where
 
   pub part-made : IsPart w (draining w) v
   part-made = (length d.made, d.after ∙ ap (world_after w) (sym (take-front d.made _) ∙ ap (take (length d.made)) (sym d.whole)))
+
+-- what holds anyway holds where a call failed
+pub on-err : {T E P : Type 0} (r : Result T E) → P → OnErr r P
+on-err (Ok x) p = tt
+on-err (Err e) p = p

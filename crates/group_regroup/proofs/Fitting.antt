@@ -1,5 +1,5 @@
 -- No number of an answer is above the number of events, so each fits with a base.
-use Rattle.std.proofs.Common.{◌≡◌, ℕ, zero, suc, ◌+◌, ◌<◌, ◌≤◌, Bool, true, false, if◌then◌else◌, List, [], ◌∷◌, length, replicate, ◌⊎◌, inl, inr, Option, Some, None, refl, sym, ap, subst, ◌∙◌, arith}
+use Rattle.std.proofs.Common.{◌≡◌, ℕ, zero, suc, ◌+◌, ◌<◌, ◌≤◌, Bool, true, false, if◌then◌else◌, List, [], ◌∷◌, length, replicate, Option, Some, None, refl, sym, ap, subst, ◌∙◌, arith}
 use Rattle.std.specs.Prelude.{All, slice_index}
 use Rattle.std.proofs.lemmas.List.{length-replicate}
 use Rattle.std.proofs.lemmas.List.Elements.{All-head, All-tail}
@@ -10,22 +10,20 @@ use Rattle.group_types.specs.Lists.{at}
 use Rattle.group_types.specs.Names.{of_rank}
 use Rattle.group_types.specs.declared.process.ProcessId.{ProcessId}
 use Rattle.memc_table.specs.Act.{key_of}
-use Rattle.memc_table.specs.Asked.{Asked}
-use Rattle.memc_table.specs.Contents.{Contents, count_of, empty_table, reply_of, table_after}
+use Rattle.memc_table.specs.Contents.{count_of, empty_table}
 use Rattle.memc_table.specs.Expiry.{is_live, live_at}
 use Rattle.memc_table.specs.declared.holding.Holding.{Holding}
 use Rattle.memc_table.specs.declared.reply.Reply.{Reply}
 use Rattle.memc_table.specs.declared.reply.Reply.TheVariants as reply
-use Rattle.group_calls.specs.Log.{IsLegal, table_of}
-use Rattle.group_calls.specs.declared.entry.Entry.{Entry}
+use Rattle.group_calls.specs.Log.{IsLegal}
 use Rattle.group_calls.specs.declared.event.Answer.{Answer}
 use Rattle.group_calls.specs.declared.event.Answer.TheVariants as says
 use Rattle.group_calls.specs.declared.event.Cause.TheVariants as cause
 use Rattle.group_calls.specs.declared.event.Event.{Event}
 use Rattle.group_calls.specs.declared.event.Event.TheVariants.{Ask, Collect, Deliver, Fail, Flush, Trace}
 use Rattle.group_run.specs.Applying.{replica_of}
-use Rattle.group_run.specs.Causes.{AskCause, IsReady, IsUp, home_in, replica_for, table_now}
-use Rattle.group_run.specs.Headline.{Headline, IsRun, KeepsAll, MayCome}
+use Rattle.group_run.specs.Causes.{AskCause, IsReady, IsUp, home_in, table_now}
+use Rattle.group_run.specs.Headline.{IsRun, KeepsAll}
 use Rattle.group_run.specs.Meaning.{IsDown, Lives, count_logged, process_of}
 use Rattle.group_run.specs.Replica.{Replica, empty_replica, last_of}
 use Rattle.group_run.specs.World.{World, after, opening, step}
@@ -34,10 +32,9 @@ use Rattle.law_answers.proofs.Answering.{answers_always}
 use Rattle.law_causes.proofs.Always.{waits_always}
 use Rattle.scenario_run.proofs.Leading.{keeps-shape}
 use Rattle.law_answers.proofs.Numbers.{numbers_low_always}
-use Rattle.law_answers.specs.Numbers.{NumbersAreLow}
 use Rattle.law_causes.specs.Waiting.{AskWaits}
 use Rattle.group_eras.specs.Told.{Bases}
-use Rattle.group_regroup.specs.Fitting.{AnswerFits, FitsAsk, ReplyFits}
+use Rattle.group_regroup.specs.Fitting.{AnswerFits, ReplyFits}
 use Rattle.group_regroup.specs.Kept.{IsLowBase}
 use Rattle.group_regroup.specs.Laws.{NumbersFitAlways}
 use Rattle.group_regroup.proofs.Counted.{IsCounted, count-updates, counted-log, length-log}

@@ -1,5 +1,5 @@
 -- The cas number that a reply shows is that of a live item.
-use Rattle.std.proofs.Common.{◌≡◌, ℕ, ◌==◌, ◌≤◌, ◌++◌, nat_le, Bool, true, false, length, Option, Some, None, if◌then◌else◌, refl}
+use Rattle.std.proofs.Common.{ℕ, ◌==◌, ◌≤◌, ◌++◌, nat_le, Bool, true, false, length, Option, Some, None, if◌then◌else◌}
 use Rattle.memc_table.specs.Numeral.{number_of}
 use Rattle.memc_table.specs.Ruling.{anew, changed, longest_value, lowered, raised, ruling_of}
 use Rattle.memc_table.specs.Contents.{reply_in}

@@ -1,10 +1,9 @@
 -- What an event makes of the eras that a group stands for.
-use Rattle.std.proofs.Common.{◌≡◌, ℕ, zero, suc, ◌+◌, ◌-◌, ◌<◌, ◌≤◌, ◌==◌, nat_lt, nat_le, ◌&&◌, Bool, true, false, List, [], ◌∷◌, ◌++◌, length, map, Option, Some, None, if◌then◌else◌, refl, sym, ap, subst, ◌∙◌, append_assoc, length-append, arith}
-use mathlib.Core.Bool.{false≢true}
+use Rattle.std.proofs.Common.{◌≡◌, ℕ, suc, ◌+◌, ◌-◌, ◌<◌, ◌≤◌, ◌==◌, nat_lt, nat_le, ◌&&◌, Bool, true, false, List, [], ◌∷◌, ◌++◌, length, map, Option, Some, None, if◌then◌else◌, refl, sym, ap, ◌∙◌, append_assoc, length-append, arith}
 use Rattle.std.specs.Prelude.{All}
 use Rattle.std.specs.Option.{option_map, unwrap_or}
 use Rattle.std.proofs.lemmas.Option.{none-some}
-use Rattle.std.proofs.lemmas.List.Elements.{All-head, All-tail, All-push, All-weaker}
+use Rattle.std.proofs.lemmas.List.Elements.{All-head, All-tail}
 use Rattle.std.proofs.lemmas.Bool.Decides.{nat_tests}
 use Rattle.group_types.specs.Hash.{home_of}
 use Rattle.group_types.specs.Lists.{at}
@@ -139,8 +138,11 @@ module _ (w : World) (bases : Bases) (era : ℕ) (l : List Lowered) (within : Al
 
     low-each : (xs : List Entry) → Each (AreFound bases w.shape.k era (l ++ lowest ∷ []) (Some call) (length w.log) place_behind) xs
     low-each [] = tt
-    low-each (x ∷ xs) = ((λ place low lt. ap (λ (o : Option Asked). unwrap_or o (op_out bases w.shape.k x.op)) (asked-last l lowest (length w.log) place (name_of x) within low)
-        ∙ by (nat_le (length w.log) place) (nat_lt place place_behind) (same_call (next_name w caller) (name_of x)) (grind (arith, nat_tests)) (grind (arith, nat_tests))), low-each xs) where
+    low-each (x ∷ xs) = (
+      (λ place low lt. ap (λ (o : Option Asked). unwrap_or o (op_out bases w.shape.k x.op)) (asked-last l lowest (length w.log) place (name_of x) within low)
+          ∙ by (nat_le (length w.log) place) (nat_lt place place_behind) (same_call (next_name w caller) (name_of x)) (grind (arith, nat_tests)) (grind (arith, nat_tests))),
+      low-each xs,
+    ) where
       by : (a b s : Bool) → a ≡ true → b ≡ true → unwrap_or (if ((a && b) && s) then Some op else None) (op_out bases w.shape.k x.op) ≡ (if s then op else op_out bases w.shape.k x.op)
       by a b true one two = rw (one, two) refl
       by a b false one two = rw (one, two) refl

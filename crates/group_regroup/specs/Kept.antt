@@ -1,5 +1,5 @@
 -- What a group over eras keeps, and the eras that it stands for.
-use Rattle.std.specs.Prelude.{ℕ, suc, ◌<◌, ◌≤◌, ◌≡◌, ◌+◌, ◌==◌, ◌^◌, nat_lt, nat_le, Bool, false, ◌&&◌, List, [], ◌∷◌, ◌++◌, length, map, All, Option, Some, None, if◌then◌else◌}
+use Rattle.std.specs.Prelude.{ℕ, suc, ◌<◌, ◌≤◌, ◌≡◌, ◌==◌, nat_lt, nat_le, Bool, false, ◌&&◌, List, [], ◌∷◌, ◌++◌, length, map, All, Option, Some, None, if◌then◌else◌}
 use Rattle.std.specs.Option.{unwrap_or}
 use Rattle.group_types.specs.Hash.{home_of}
 use Rattle.group_types.specs.Lists.{at}
@@ -13,6 +13,7 @@ use Rattle.group_calls.specs.declared.event.Event.{Event}
 use Rattle.group_calls.specs.declared.event.Event.TheVariants.{Ask}
 use Rattle.group_run.specs.World.{World}
 use Rattle.group_eras.specs.Eras.{EraEntry, Eras}
+use Rattle.group_eras.specs.Promise.{IsLed}
 use Rattle.group_eras.specs.Told.{Bases, op_out, told_reply}
 use Rattle.group_regroup.specs.declared.changing.Lowered.{Lowered}
 
@@ -75,3 +76,13 @@ pub record AreKept (w : World) (bases : Bases) (lowered : List Lowered) : Type 0
   pub many : length bases ≡ w.shape.k
   pub low : All IsLowBase bases
   pub within : All (λ x. x.until ≤ length w.log) lowered
+
+-- the entries from a place on, as they are told, without their era
+abbrev pub entries_from : Bases → ℕ → List Lowered → ℕ → List Entry → List Entry
+entries_from bases k lowered place [] = []
+entries_from bases k lowered place (x ∷ xs) = told_at bases k lowered place x ∷ entries_from bases k lowered (suc place) xs
+
+-- what is kept stands for eras to which deeds led
+pub record AreLed (w : World) (bases : Bases) (past : List (List Entry)) (lowered : List Lowered) : Type 0 where
+  pub kept : AreKept w bases lowered
+  pub led : IsLed (eras_of w bases past lowered)

@@ -1,4 +1,8 @@
+pub mod Carrying
 pub mod Fitting
+pub mod Items
 pub mod Kept
+pub mod Last
 pub mod Laws
 pub mod Parts
+pub mod Reading

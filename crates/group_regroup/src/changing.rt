@@ -51,9 +51,5 @@ pub(crate) fn base_of(bases: &[u64], partition: u32) -> u64
     ensures { result ≡ at 0 bases.now partition }
 {
     let place = partition as usize;
-    if place < bases.len() {
-        bases[place]
-    } else {
-        0
-    }
+    if place < bases.len() { bases[place] } else { 0 }
 }

@@ -3,9 +3,20 @@
 //! every history of eras holds of it. Scripts over eras are left to others.
 #![tactic(auto)]
 
+mod carrying;
 mod changing;
 mod drain;
+mod ending;
+mod entries;
+mod fresh;
+mod getting;
+mod items;
+mod last;
+mod loading;
+mod log;
+mod reading;
 mod regroup;
+mod setting;
 mod stepping;
 mod telling;
 

@@ -2,10 +2,12 @@ ghost use Rattle.std.specs.Prelude.{◌≡◌, ◌<◌, IfOk};
 ghost use Rattle.group_types.specs.Lists.{at};
 ghost use Rattle.group_run.specs.World.{opening};
 ghost use Rattle.group_eras.specs.Eras.{first_era};
+ghost use Rattle.group_eras.specs.Promise.{HasPromise, IsLed};
 
 use crate::changing::{Lowered, base_of};
 use group_calls::Entry;
 use group_core::World;
+use group_eras::laws::eras_are_runs;
 use group_types::Partition;
 use std::alloc::{AllocError, Global};
 use std::marker::Model;
@@ -24,13 +26,13 @@ pub struct Regroup {
 impl Model for Regroup {
     ghost use Rattle.std.specs.Prelude.{map};
     ghost use Rattle.group_eras.specs.Eras.{Eras};
-    ghost use Rattle.group_regroup.specs.Kept.{AreKept, eras_of};
+    ghost use Rattle.group_regroup.specs.Kept.{AreLed, eras_of};
 
     ghost Value = { Eras };
 
     ghost view = { λ r. eras_of r.world r.bases.items (map (λ log. log.items) r.past.items) r.lowered.items };
 
-    ghost invariant = { λ r. AreKept r.world r.bases.items r.lowered.items };
+    ghost invariant = { λ r. AreLed r.world r.bases.items (map (λ log. log.items) r.past.items) r.lowered.items };
 }
 
 impl Regroup {
@@ -62,5 +64,14 @@ impl Regroup {
         ensures { result ≡ at 0 self.now.bases partition.0 }
     {
         base_of(&self.bases, partition.0)
+    }
+
+    /// Deeds led to the eras: so their log is legal, and the current era is a run of its own, with the whole headline.
+    pub fn run(&self)
+        ensures led { IsLed self.now }
+        ensures promise { HasPromise self.now }
+    {
+        eras_are_runs();
+        let _world = &self.world;
     }
 }

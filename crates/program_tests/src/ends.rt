@@ -59,6 +59,7 @@ fn the_lines_of_a_command_are_told(rt: HostRuntime) -> Result<(), Fail> {
     for (word, line) in [
         ("play", "\ngroup <k> <m> <blocks> <block> "),
         ("play_groups", "\ngroups <g> <n> <k> <m> <blocks> <block> "),
+        ("play_regroup", "\nregroup <m> <blocks> <block>\n"),
     ] {
         let words = owned(rt.alloc(), &[word])?;
         let told = help_at(rt.alloc(), &words, Status::BadLine(1))?;

@@ -1,6 +1,7 @@
 use Rattle.std.proofs.Common.{rules, ◌≡◌, inl, inr, refl, sym, subst, ◌∙◌, map, Option, Some, None, Global}
 use Rattle.std.specs.String.{string_bytes}
 use Rattle.cluster_play.specs.Language.{cluster_scripts}
+use Rattle.regroup_play.specs.Language.{era_scripts}
 use Rattle.command_line.specs.Words.{command_of}
 use Rattle.command_line.specs.declared.command.Command.{Command}
 use Rattle.group_server.specs.Service.{tally}
@@ -31,6 +32,14 @@ pub returns-in-Ok-clause-cluster_promises : goal.returns-in-Ok-clause-cluster_pr
 returns-in-Ok-clause-cluster_promises g c play done =
     let said : command_of (map (string_bytes {Z = Global}) c.args.words.now) ≡ Some c.in-Ok.command = search rules in
     played_whole cluster_scripts _ _ c.run_command.result (subst (λ (o : Option Command). HasCarriedOut g.L.Listener.listened (λ l. tally (g.L.Listener.accepted l) (g.L.Listener.over l)) c.args.listener.now c.run_command.new.listener o (g.T.Clock.moment c.args.clock.now)
+    (outside (g.S.Source.input c.args.source.now) (g.S.Source.faults c.args.source.now) (g.K.Sink.held c.args.sink.now) (g.K.Sink.faults c.args.sink.now))
+    (outside (g.S.Source.input c.run_command.new.source) (g.S.Source.faults c.run_command.new.source) (g.K.Sink.held c.run_command.new.sink) (g.K.Sink.faults c.run_command.new.sink))
+    c.run_command.result) (sym said ∙ play) c.run_command.ensures.ran) done
+
+pub returns-in-Ok-clause-era_promises : goal.returns-in-Ok-clause-era_promises
+returns-in-Ok-clause-era_promises g c play done =
+    let said : command_of (map (string_bytes {Z = Global}) c.args.words.now) ≡ Some c.in-Ok.command = search rules in
+    played_whole era_scripts _ _ c.run_command.result (subst (λ (o : Option Command). HasCarriedOut g.L.Listener.listened (λ l. tally (g.L.Listener.accepted l) (g.L.Listener.over l)) c.args.listener.now c.run_command.new.listener o (g.T.Clock.moment c.args.clock.now)
     (outside (g.S.Source.input c.args.source.now) (g.S.Source.faults c.args.source.now) (g.K.Sink.held c.args.sink.now) (g.K.Sink.faults c.args.sink.now))
     (outside (g.S.Source.input c.run_command.new.source) (g.S.Source.faults c.run_command.new.source) (g.K.Sink.held c.run_command.new.sink) (g.K.Sink.faults c.run_command.new.sink))
     c.run_command.result) (sym said ∙ play) c.run_command.ensures.ran) done

@@ -1,10 +1,10 @@
 use Rattle.std.proofs.Common.{◌<◌, sym, subst}
 use Rattle.group_calls.specs.declared.event.Event.TheVariants.{Deliver}
 use Rattle.group_run.specs.Progress.{load_of}
-use Rattle.group_run.specs.World.{World, step}
+use Rattle.group_run.specs.World.{World}
 use Rattle.group_eras.specs.Carry.{draining}
 use Rattle.group_regroup.specs.Parts.{IsPart}
-use Rattle.group_regroup.proofs.Draining.{Delivering, Delivering-more, Delivering-none, all-made, next-lightens, part-made}
+use Rattle.group_regroup.proofs.Draining.{Delivering, Delivering-more, Delivering-none, all-made, next-lightens, on-err, part-made}
 use Rattle.group_regroup.proofs.drain.drain.Goals as goal
 
 pub deliveries-init : goal.deliveries-init
@@ -26,7 +26,7 @@ deliveries-preserved c =
 
 pub returns-in_err-make-clause-err : goal.returns-in_err-make-clause-err
 returns-in_err-make-clause-err c =
-    rw (c.from_residual.ensures) (subst (IsPart c.args.world.now (draining c.args.world.now)) (sym c.in_err-make.ensures.err) (part-made c.args.world.now c.deliveries.world c.deliveries.invariant))
+    on-err c.from_residual.result (subst (IsPart c.args.world.now (draining c.args.world.now)) (sym c.in_err-make.ensures.err) (part-made c.args.world.now c.deliveries.world c.deliveries.invariant))
 
 pub returns-clause-ok : goal.returns-clause-ok
 returns-clause-ok c = all-made c.args.world.now c.deliveries.world c.deliveries.invariant (sym c.in_default.ensures)
