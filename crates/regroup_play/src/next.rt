@@ -10,9 +10,8 @@ ghost use Rattle.scenario_text.specs.Words as text;
 ghost use Rattle.scenario_text.specs.declared.line.Line.TheVariants as line;
 ghost use Rattle.scenario_run.specs.Playing.{draining};
 ghost use Rattle.scenario_play.specs.Player.{text_in};
-ghost use Rattle.regroup_run.specs.Meaning.{regroup_line};
+ghost use Rattle.regroup_run.specs.Meaning.{IsLowLine, regroup_line};
 ghost use Rattle.regroup_run.specs.Playing.{by_call, by_drain, by_event, by_show, first_by, next_of, regroup_by, regroups, then_by};
-ghost use Rattle.regroup_run.proofs.Ranges.{IsLowLine};
 ghost use Rattle.regroup_play.specs.Doing.{HasBegun, HasDone};
 
 use crate::carrying::follow_regroup;
