@@ -1,11 +1,14 @@
 pub mod Asked
+pub mod Behind
 pub mod CarriedOver
+pub mod Carries
 pub mod Counted
 pub mod Draining
 pub mod Fitting
 pub mod Tries
 pub mod Keys
 pub mod Led
+pub mod Loads
 pub mod Moving
 pub mod Numbers
 pub mod Places
@@ -15,3 +18,4 @@ pub mod Renewed
 pub mod Replied
 pub mod SetAll
 pub mod Stepped
+pub mod Undrained
