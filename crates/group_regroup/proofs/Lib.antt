@@ -1,5 +1,7 @@
 pub mod Asked
+pub mod Behind
 pub mod CarriedOver
+pub mod Carries
 pub mod Counted
 pub mod Draining
 pub mod Fitting
@@ -7,6 +9,7 @@ pub mod Tries
 pub mod Keys
 pub mod Lasting
 pub mod Led
+pub mod Loads
 pub mod Moving
 pub mod Numbers
 pub mod Places
@@ -16,3 +19,4 @@ pub mod Renewed
 pub mod Replied
 pub mod SetAll
 pub mod Stepped
+pub mod Undrained

@@ -13,9 +13,6 @@ use crate::loading::load;
 use crate::regroup::Regroup;
 use group_core::World;
 use group_eras::CarryFault;
-use group_eras::laws::{
-    carries_are_short, carries_keep, counts_are_low, reads_may_come, sets_may_come,
-};
 use group_types::{Partition, Shape};
 use std::alloc::Global;
 
@@ -35,13 +32,11 @@ impl Regroup {
         ensures fault { IfErr result (IsRefused self.old.world shape) }
         ensures left { IfErr result (IsLeft self.old self.new) }
     {
-        reads_may_come();
-        sets_may_come();
-        counts_are_low();
-        carries_are_short();
-        carries_keep();
         self.world.run();
-        let items = loads(self.alloc, &self.world, shape)?;
+        let items = match loads(self.alloc, &self.world, shape) {
+            Ok(items) => items,
+            Err(fault) => return Err(fault),
+        };
         if self.past.reserve(1).is_err() {
             return Err(CarryFault::Want);
         }
@@ -96,7 +91,9 @@ fn loads_at_rest(alloc: Global, world: &World, shape: Shape) -> Result<Vec<Item>
 {
     let mut items = Vec::new(alloc);
     'partitions: for d in 0..world.shape().k() {
-        load_from(&mut items, world, Partition(d), shape.space())?;
+        if let Err(fault) = load_from(&mut items, world, Partition(d), shape.space()) {
+            return Err(fault);
+        }
     }
     Ok(items)
 }

@@ -40,6 +40,7 @@ pub(crate) fn renew(
     requires up { ¬ (IsDown world.old) }
     requires loads { StandFor items.items (loads world.old) }
     requires within { AreWithin world.old.shape.k items.items }
+    requires shape { IsShape shape }
     requires partitions { shape.k ≡ world.old.shape.k }
     ensures world { OnOk result (world.new ≡ (reading world.old).world) }
     ensures fresh { IfOk result (IsFresh (reading world.old).world bases.now lowered.now shape (reading world.old).parcels) }
@@ -58,6 +59,7 @@ fn fill(
     parcels: Vec<Parcel>,
     shape: Shape,
 ) -> Result<Fresh, AllocError>
+    requires shape { IsShape shape }
     requires within { AreAllWithin shape.k parcels.items }
     ensures { IfOk result (IsFresh world.now bases.now lowered.now shape (parcels_as parcels.items)) }
 {
@@ -69,6 +71,7 @@ fn fill(
 
 /// A fresh world in which items are set.
 fn filled(alloc: Global, shape: Shape, parcels: Vec<Parcel>) -> Result<World, AllocError>
+    requires shape { IsShape shape }
     requires within { AreAllWithin shape.k parcels.items }
     ensures { IfOk result (λ world. world ≡ world_after (opening shape) (setting (opening shape) (parcels_as parcels.items))) }
 {
@@ -92,8 +95,19 @@ fn next_bases(alloc: Global, world: &World, bases: &[u64]) -> Result<Vec<u64>, A
 fn next_base(world: &World, bases: &[u64], partition: u32) -> Result<u64, AllocError>
     ensures { IfOk result (λ next. next ≡ at 0 bases.now partition + count_logged world.now partition) }
 {
-    let more = updates(world.shape().k(), partition, world.log()) as u64;
-    base_of(bases, partition)
-        .checked_add(more)
-        .ok_or(AllocError)
+    let more = updates_in(world, partition);
+    sum(base_of(bases, partition), more as u64)
+}
+
+/// How many updates of a partition a world's log has.
+fn updates_in(world: &World, partition: u32) -> usize
+    ensures { result ≡ count_logged world.now partition }
+{
+    updates(world.shape().k(), partition, world.log())
+}
+
+fn sum(base: u64, more: u64) -> Result<u64, AllocError>
+    ensures { IfOk result (λ sum. sum ≡ base + more) }
+{
+    base.checked_add(more).ok_or(AllocError)
 }
