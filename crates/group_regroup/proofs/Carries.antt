@@ -1,7 +1,6 @@
 -- A carry, and the beginning of one, as deeds that lead on.
-use Rattle.std.proofs.Common.{◌≡◌, ℕ, zero, suc, ◌+◌, ◌<◌, ◌≤◌, ◌^◌, List, [], ◌∷◌, ◌++◌, length, map, take, refl, sym, ap, subst, ◌∙◌, length-append, arith}
+use Rattle.std.proofs.Common.{◌≡◌, ℕ, zero, suc, ◌+◌, ◌<◌, ◌≤◌, ◌^◌, List, [], ◌∷◌, ◌++◌, length, take, sym, ap, subst, ◌∙◌, length-append, arith}
 use Rattle.std.specs.Prelude.{All}
-use Rattle.std.specs.List.{range_with_len}
 use Rattle.std.proofs.lemmas.List.Elements.{All-nil, All-weaker}
 use Rattle.group_types.specs.Dimensions.{Dimensions}
 use Rattle.group_types.specs.Each.{Each}
@@ -14,7 +13,7 @@ use Rattle.group_run.specs.World.{World, opening, step, world_after}
 use Rattle.law_moves.proofs.Reading.{grown-is}
 use Rattle.group_core.specs.Runs.{HasRun}
 use Rattle.group_eras.specs.Carry.{IsBegun, begun, carried, reading, setting}
-use Rattle.group_eras.specs.Eras.{Eras, eras_after}
+use Rattle.group_eras.specs.Eras.{Eras}
 use Rattle.group_eras.specs.Items.{loads}
 use Rattle.group_eras.specs.Promise.{HasCarried, IsLed}
 use Rattle.group_eras.specs.Promise.Deed.{Begins, Carries}
@@ -25,8 +24,8 @@ use Rattle.group_eras.proofs.Lists.{take-whole}
 use Rattle.group_eras.proofs.Promises.{carries_keep, reads_may_come, sets_may_come}
 use Rattle.group_eras.proofs.Short.{carries_are_short}
 use Rattle.scenario_run.proofs.Leading.{keeps-shape}
-use Rattle.group_regroup.specs.Carrying.{IsFresh, bases_after}
-use Rattle.group_regroup.specs.Kept.{AreKept, AreLed, IsLowBase, eras_of}
+use Rattle.group_regroup.specs.Carrying.{IsFresh}
+use Rattle.group_regroup.specs.Kept.{AreLed, IsLowBase, eras_of}
 use Rattle.group_regroup.specs.Parts.{IsPart}
 use Rattle.group_regroup.specs.declared.changing.Lowered.{Lowered}
 use Rattle.group_regroup.specs.declared.fresh.Fresh.{Fresh}

@@ -1,6 +1,6 @@
 -- The items of partitions, as their heads tell them, stand for the loads of a group.
 use Rattle.std.proofs.Common.{◌≡◌, ℕ, zero, suc, ◌+◌, ◌<◌, ◌≤◌, ◌⊎◌, inl, inr, Bool, true, false, cond, if◌then◌else◌, List, [], ◌∷◌, ◌++◌, length, map, Result, Ok, Err, refl, sym, ap, subst, ◌∙◌, append-nil, append_assoc, arith}
-use Rattle.std.specs.Prelude.{All, IfErr, OnOk, filter, fold, sum_by}
+use Rattle.std.specs.Prelude.{IfErr, OnOk, filter, fold, sum_by}
 use Rattle.std.specs.List.{range_with_len}
 use Rattle.std.proofs.lemmas.Bool.{cases_lt}
 use Rattle.std.proofs.lemmas.List.{length-map}
@@ -8,7 +8,6 @@ use Rattle.std.proofs.lemmas.List.Elements.{All-append, All-cons, All-nil}
 use Rattle.group_types.specs.Dimensions.{Dimensions, space_of}
 use Rattle.group_types.specs.declared.process.Partition.{Partition}
 use Rattle.group_types.specs.declared.process.ProcessId.{ProcessId}
-use Rattle.item_index.specs.declared.slot.Slot.{Slot}
 use Rattle.memc_table.specs.Expiry.{is_live}
 use Rattle.group_run.specs.Applying.{replica_of}
 use Rattle.group_run.specs.Meaning.{process_of}
@@ -18,7 +17,7 @@ use Rattle.group_core.specs.Items.{ListsItems, head_of, heads_of}
 use Rattle.group_core.specs.declared.items.ItemHead.{ItemHead}
 use Rattle.group_eras.specs.Items.{Load, bytes_in, load_from, loads, loads_in, settled_items}
 use Rattle.group_eras.specs.Items as eras
-use Rattle.group_eras.specs.Refusal.{CanCarry, IsAtRest, IsFirstTooLong, IsRefused}
+use Rattle.group_eras.specs.Refusal.{IsAtRest, IsRefused}
 use Rattle.group_eras.specs.declared.fault.CarryFault.{CarryFault}
 use Rattle.group_eras.specs.declared.fault.CarryFault.TheVariants.{Down, NoSpace, NotDrained, Want}
 use Rattle.group_eras.proofs.Finding.{head-is}

@@ -7,8 +7,8 @@ use Rattle.group_types.proofs.Names.{index-process_at, process_at-in}
 use Rattle.group_message.specs.declared.message.Message.{Message}
 use Rattle.group_calls.specs.declared.event.Event.{Event}
 use Rattle.group_run.specs.Draining.{next_delivery, node_at, some_message}
-use Rattle.group_run.specs.Meaning.{IsDown, IsDrained, Lives, link}
-use Rattle.group_run.specs.World.{World, after}
+use Rattle.group_run.specs.Meaning.{IsDown, IsDrained, link}
+use Rattle.group_run.specs.World.{World}
 use Rattle.law_progress.specs.Drains.{NextComes}
 use Rattle.law_progress.proofs.Next.{Waits, next-waits}
 use Rattle.law_progress.proofs.Whole.{next-comes}

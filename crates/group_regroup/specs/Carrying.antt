@@ -7,7 +7,7 @@ use Rattle.group_run.specs.Meaning.{count_logged}
 use Rattle.group_run.specs.World.{World, opening, world_after}
 use Rattle.group_eras.specs.Carry.{IsBegun, Parcel, setting}
 use Rattle.group_eras.specs.Eras.{Eras}
-use Rattle.group_eras.specs.Items.{Load, bytes_in, loads}
+use Rattle.group_eras.specs.Items.{Load, bytes_in}
 use Rattle.group_eras.specs.Told.{Bases}
 use Rattle.group_eras.specs.declared.fault.CarryFault.{CarryFault}
 use Rattle.group_eras.specs.declared.fault.CarryFault.TheVariants.{Down, NoSpace, NotDrained, Want}
