@@ -31,7 +31,7 @@ use Rattle.law_log.proofs.Turnings.{asks_counted, get-last}
 use Rattle.law_headline.proofs.Headlines.{headline_always}
 use Rattle.law_answers.proofs.Entries.{after-more, run-more, turns-more}
 use Rattle.group_eras.specs.Eras.{EraEntry, Eras, era_step, logged_in_era}
-use Rattle.group_eras.specs.Promise.{AreTold, IsAskOf, IsEra, IsTold, asks_among}
+use Rattle.group_eras.specs.Promise.{AreTold, IsAskOf, IsEra, TellsEntry, asks_among}
 use Rattle.group_eras.specs.Told.{Bases, event_in, op_in, op_out, told_entry, told_op, told_reply, with_base, with_cas, without_base}
 use Rattle.group_eras.proofs.Asking.{WasAsked, among-all, among-before, among-in, among-map, turn-event, turns-asks, turns-long, was-asked}
 use Rattle.group_eras.proofs.Joins.{key-cas}
@@ -100,7 +100,7 @@ told-later bases k asked more era [] [] told = tt
 told-later bases k asked more era [] (y ∷ ys) told = told
 told-later bases k asked more era (x ∷ xs) [] told = told
 told-later bases k asked more era (x ∷ xs) (y ∷ ys) told =
-    let one : IsTold bases k asked x y.1 = told.1 in
+    let one : TellsEntry bases k asked x y.1 = told.1 in
     (told.0, record { name = one.name; was_asked = ask-later asked more (name_of y.1) y.1.op one.was_asked; op = one.op; reply = one.reply }, told-later bases k asked more era xs ys told.2)
 
 pub told-append : (bases : Bases) (k : ℕ) (asked : List Event) (era : ℕ) (xs us : List Entry) (ys vs : List EraEntry) → AreTold bases k asked era xs ys → AreTold bases k asked era us vs
@@ -271,7 +271,7 @@ module _ (e : Eras) (era : IsEra e) (event : Event) (may : MayCome e.world event
       own : same_call (next_name e.world entry.caller) name ≡ true
       own = ap (λ (n : ℕ). same_call (record { caller = entry.caller; call = n }) name) call-is ∙ call-refl name
 
-    pub is-told : IsTold e.bases k asked entry (told_entry e.bases k (call_of e.world event) entry)
+    pub is-told : TellsEntry e.bases k asked entry (told_entry e.bases k (call_of e.world event) entry)
     is-told =
         let f : Found = found in
         let is : told_op e.bases k (call_of e.world event) entry ≡ f.op = told-is f (cases_lt f.place (length era.asked)) in

@@ -72,7 +72,7 @@ pub record IsAskOf (events : List Event) (name : CallName) (op : Asked) : Type 0
   pub counted : asks_among name.caller (take place events) ≡ name.call
 
 -- an entry of an era's log tells one of its world's: of the same call, with the op as it was asked, and with its number
-pub record IsTold (bases : Bases) (k : ℕ) (asked : List Event) (entry told : Entry) : Type 0 where
+pub record TellsEntry (bases : Bases) (k : ℕ) (asked : List Event) (entry told : Entry) : Type 0 where
   pub name : name_of told ≡ name_of entry
   pub was_asked : IsAskOf asked (name_of told) told.op
   pub op : entry.op ≡ op_in bases k told.op
@@ -81,7 +81,7 @@ pub record IsTold (bases : Bases) (k : ℕ) (asked : List Event) (entry told : E
 -- entry by entry
 abbrev pub AreTold : Bases → ℕ → List Event → ℕ → List Entry → List EraEntry → Type 0
 AreTold bases k asked era [] [] = Unit {0}
-AreTold bases k asked era (x ∷ xs) (y ∷ ys) = (y.0 ≡ era) × IsTold bases k asked x y.1 × AreTold bases k asked era xs ys
+AreTold bases k asked era (x ∷ xs) (y ∷ ys) = (y.0 ≡ era) × TellsEntry bases k asked x y.1 × AreTold bases k asked era xs ys
 AreTold bases k asked era [] (y ∷ ys) = ⊥
 AreTold bases k asked era (x ∷ xs) [] = ⊥
 

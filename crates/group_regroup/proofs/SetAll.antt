@@ -10,11 +10,11 @@ use Rattle.group_eras.specs.Carry as carry
 use Rattle.scenario_run.proofs.Leading.{keeps-shape}
 use Rattle.group_regroup.specs.declared.items.Parcel.{Parcel}
 use Rattle.group_regroup.specs.Items.{AreAllWithin, parcel_as, parcels_as}
-use Rattle.group_regroup.specs.Parts.{IsAsk}
+use Rattle.group_regroup.specs.Parts.{MayAsk}
 use Rattle.group_regroup.proofs.Tries.{after-append}
 
 -- a set may be asked of the data process of its partition
-pub set-ask : (w : World) (x : carry.Parcel) → x.partition < w.shape.k → All (λ b. b < 256) x.value → IsAsk w (set_of x)
+pub set-ask : (w : World) (x : carry.Parcel) → x.partition < w.shape.k → All (λ b. b < 256) x.value → MayAsk w (set_of x)
 set-ask w x low bytes = record { caller = _; op = _; at = _; is = refl; may = (omega arith, low, bytes) }
 
 -- some items were set

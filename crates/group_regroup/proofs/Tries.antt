@@ -20,16 +20,16 @@ use Rattle.group_eras.specs.Carry.{Getting, bytes_of, drained, draining, get_wit
 use Rattle.group_eras.specs.Items.{first_living, head_of}
 use Rattle.group_eras.proofs.Draining.{up-still}
 use Rattle.scenario_run.proofs.Leading.{keeps-shape}
-use Rattle.group_regroup.specs.Parts.{IsAsk, IsPart}
+use Rattle.group_regroup.specs.Parts.{MayAsk, IsPart}
 use Rattle.group_regroup.specs.Reading.{IsFound, found_in, tried}
 use Rattle.group_regroup.proofs.Draining.{after-push, take-front}
 
-pub ask-up : (w v : World) (e : Event) → IsAsk w e → ¬ (IsDown w) → v ≡ (step w e).world → ¬ (IsDown v)
+pub ask-up : (w v : World) (e : Event) → MayAsk w e → ¬ (IsDown w) → v ≡ (step w e).world → ¬ (IsDown v)
 ask-up w v e ask up is = subst (λ (u : World). ¬ (IsDown u)) (sym is) (up-still w e (λ fails. by e ask.is fails) up) where
   by : (e : Event) → e ≡ Ask ask.caller ask.op ask.at → IsFailure e → ⊥
   by e is fails = subst IsFailure is fails
 
-pub ask-later : (w v : World) (e : Event) → IsAsk w e → v.shape ≡ w.shape → IsAsk v e
+pub ask-later : (w v : World) (e : Event) → MayAsk w e → v.shape ≡ w.shape → MayAsk v e
 ask-later w v e ask same = record {
   caller = ask.caller;
   op = ask.op;
@@ -97,7 +97,7 @@ part-whole w v es is = (length es, is ∙ ap (world_after w) (sym (whole es))) w
 
 -- a get was made so often, and this is what the last found
 pub record Trying (w : World) (get : Event) (v : World) (value : Option (List ℕ)) (tries : ℕ) : Type 0 where
-  pub ask : IsAsk v get
+  pub ask : MayAsk v get
   pub up : ¬ (IsDown v)
   pub before : List Event
   pub last : WorldStep
@@ -106,7 +106,7 @@ pub record Trying (w : World) (get : Event) (v : World) (value : Option (List �
   pub after : v ≡ world_after w (before ++ get ∷ [])
   pub whole : tried w get ≡ got_behind before (get_with tries get last)
 
-pub Trying-first : (w v : World) (get : Event) (value : Option (List ℕ)) → IsAsk w get → ¬ (IsDown v) → v ≡ (step w get).world → IsFound (step w get).turn.answer value → Trying w get v value w.shape.blocks
+pub Trying-first : (w v : World) (get : Event) (value : Option (List ℕ)) → MayAsk w get → ¬ (IsDown v) → v ≡ (step w get).world → IsFound (step w get).turn.answer value → Trying w get v value w.shape.blocks
 Trying-first w v get value ask up is found = record {
   ask = ask-later w v get ask (ap (λ (x : World). x.shape) is);
   up = up;

@@ -11,7 +11,7 @@ abbrev pub IsPart : World → List Event → World → Type 0
 IsPart w events v = (many : ℕ) × (v ≡ world_after w (take many events))
 
 -- the event is an ask that may come
-pub record IsAsk (w : World) (e : Event) : Type 0 where
+pub record MayAsk (w : World) (e : Event) : Type 0 where
   pub caller : ℕ
   pub op : Asked
   pub at : ProcessId

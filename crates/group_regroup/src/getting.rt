@@ -5,7 +5,7 @@ ghost use Rattle.group_run.specs.Meaning.{IsDown};
 ghost use Rattle.group_run.specs.World.{step};
 ghost use Rattle.group_eras.specs.Carry.{bytes_of};
 ghost use Rattle.group_eras.specs.Items.{head_of};
-ghost use Rattle.group_regroup.specs.Parts.{IsAsk, IsPart};
+ghost use Rattle.group_regroup.specs.Parts.{MayAsk, IsPart};
 ghost use Rattle.group_regroup.specs.Reading.{IsFound, get_at, got_on, tried};
 
 use crate::drain::{drain, make};
@@ -51,7 +51,7 @@ fn ask_at(world: &mut World, key: Key, at: ProcessId) -> Result<Payload, AllocEr
 
 /// The same by an event.
 fn ask_event(world: &mut World, event: Event) -> Result<Payload, AllocError>
-    requires may { IsAsk world.old event }
+    requires may { MayAsk world.old event }
     requires up { ¬ (IsDown world.old) }
     ensures up { ¬ (IsDown world.new) }
     ensures world { OnOk result (world.new ≡ (tried world.old event).world) }
@@ -63,7 +63,7 @@ fn ask_event(world: &mut World, event: Event) -> Result<Payload, AllocError>
 
 /// Asks, and where a block has to be rebuilt first drains and asks again.
 fn ask(world: &mut World, event: &Event) -> Result<Payload, AllocError>
-    requires may { IsAsk world.old event.now }
+    requires may { MayAsk world.old event.now }
     requires up { ¬ (IsDown world.old) }
     ensures up { ¬ (IsDown world.new) }
     ensures world { OnOk result (world.new ≡ (tried world.old event.now).world) }
@@ -87,7 +87,7 @@ fn ask(world: &mut World, event: &Event) -> Result<Payload, AllocError>
 
 /// Asks once, and gives the value: none where the call has to be asked again.
 fn ask_once(world: &mut World, event: &Event) -> Result<Option<Payload>, AllocError>
-    requires may { IsAsk world.old event.now }
+    requires may { MayAsk world.old event.now }
     requires up { ¬ (IsDown world.old) }
     ensures up { ¬ (IsDown world.new) }
     ensures world { OnOk result (world.new ≡ (step world.old event.now).world) }

@@ -4,6 +4,7 @@ ghost use Rattle.group_regroup.specs.Last.{entries_of};
 
 use crate::changing::Lowered;
 use crate::entries::told_at;
+use crate::log::copy;
 use crate::regroup::Regroup;
 use group_calls::Entry;
 use std::alloc::{AllocError, Global};
@@ -46,19 +47,6 @@ fn copies(alloc: Global, log: &[Entry], from: usize) -> Result<Vec<Entry>, Alloc
         entries.push(copy(&log[place])?)?;
     }
     Ok(entries)
-}
-
-fn copy(entry: &Entry) -> Result<Entry, AllocError>
-    ensures { IfOk result (λ copy. copy ≡ entry.now) }
-{
-    let op = entry.op.clone()?;
-    let reply = entry.reply.clone()?;
-    Ok(Entry {
-        caller: entry.caller,
-        call: entry.call,
-        op,
-        reply,
-    })
 }
 
 // The entries of the current world's log from a place on, as they are told.

@@ -48,7 +48,7 @@ fn told_in(
     Ok(Some(entry))
 }
 
-fn copy(entry: &Entry) -> Result<Entry, AllocError>
+pub(crate) fn copy(entry: &Entry) -> Result<Entry, AllocError>
     ensures { IfOk result (λ copy. copy ≡ entry.now) }
 {
     let op = entry.op.clone()?;

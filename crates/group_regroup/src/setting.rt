@@ -3,7 +3,7 @@ ghost use Rattle.group_run.specs.Meaning.{IsDown};
 ghost use Rattle.group_run.specs.World.{step, world_after};
 ghost use Rattle.group_eras.specs.Carry.{drained, expiry_of, set_of, setting};
 ghost use Rattle.group_regroup.specs.Items.{AreAllWithin, parcel_as, parcels_as};
-ghost use Rattle.group_regroup.specs.Parts.{IsAsk};
+ghost use Rattle.group_regroup.specs.Parts.{MayAsk};
 
 use crate::drain::{drain, make};
 use crate::getting::CARRIER;
@@ -39,7 +39,7 @@ fn set(world: &mut World, parcel: Parcel) -> Result<(), AllocError>
 
 /// The same by an event.
 fn set_event(world: &mut World, event: Event) -> Result<(), AllocError>
-    requires may { IsAsk world.old event }
+    requires may { MayAsk world.old event }
     requires up { ¬ (IsDown world.old) }
     ensures up { OnOk result (¬ (IsDown world.new)) }
     ensures world { OnOk result (world.new ≡ drained (step world.old event).world) }
