@@ -128,6 +128,7 @@ fn follow_in(
         | Line::Group { .. }
         | Line::Fail { .. }
         | Line::Drain
+        | Line::Places
         | Line::Time { .. }
         | Line::Stop => return Err(ClusterFault::BadLine),
     };
@@ -158,6 +159,7 @@ fn follow_plain(
         | Line::Deliver { .. }
         | Line::Fail { .. }
         | Line::Flush { .. }
+        | Line::Places
         | Line::Trace { .. }
         | Line::Show { .. } => Err(ClusterFault::BadLine),
     }

@@ -13,7 +13,7 @@ use Rattle.group_cluster.specs.Plan.{IsPlan, Plan}
 use Rattle.scenario_text.specs.Meaning.{IsLineOf, is_skipped, line_of}
 use Rattle.scenario_text.specs.Words.{words_of}
 use Rattle.scenario_text.specs.declared.line.Line.{Line}
-use Rattle.scenario_text.specs.declared.line.Line.TheVariants.{Skipped, Group, Ask, Collect, Deliver, Fail, Flush, Trace, Drain, Show, Time, Stop}
+use Rattle.scenario_text.specs.declared.line.Line.TheVariants.{Skipped, Group, Ask, Collect, Deliver, Fail, Flush, Trace, Drain, Show, Places, Time, Stop}
 use Rattle.scenario_text.specs.declared.line.LineFault.{LineFault}
 use Rattle.scenario_text.proofs.Lines.{line_of-within}
 use Rattle.scenario_run.specs.Course.{Ends, Goes, Refused}
@@ -92,6 +92,7 @@ module _ (plan : Plan) where
   in-leads p j (Group shape) next turns text led low within is = absurd (cc is)
   in-leads p j (Fail from keep) next turns text led low within is = absurd (cc is)
   in-leads p j Drain next turns text led low within is = absurd (cc is)
+  in-leads p j Places next turns text led low within is = absurd (cc is)
   in-leads p j (Time moment) next turns text led low within is = absurd (cc is)
   in-leads p j Stop next turns text led low within is = absurd (cc is)
 
@@ -119,6 +120,7 @@ module _ (plan : Plan) where
   then-leads p (Flush from) next turns text led is = absurd (cc is)
   then-leads p (Trace caller call d from) next turns text led is = absurd (cc is)
   then-leads p (Show from run) next turns text led is = absurd (cc is)
+  then-leads p Places next turns text led is = absurd (cc is)
 
   -- a line that is read so
   line-in : (p : ClusterPlay) (j : ℕ) (l : Result Line LineFault) (next : Option ClusterPlay) (turns : List ClusterTurn) (text : List ℕ) → IsLedTo plan p.cluster → j < plan.groups

@@ -17,7 +17,7 @@ use Rattle.group_cluster.specs.Plan.{Plan}
 use Rattle.scenario_text.specs.Meaning.{is_skipped, line_of}
 use Rattle.scenario_text.specs.Words.{words_of}
 use Rattle.scenario_text.specs.declared.line.Line.{Line}
-use Rattle.scenario_text.specs.declared.line.Line.TheVariants.{Skipped, Group, Ask, Collect, Deliver, Fail, Flush, Trace, Drain, Show, Time, Stop}
+use Rattle.scenario_text.specs.declared.line.Line.TheVariants.{Skipped, Group, Ask, Collect, Deliver, Fail, Flush, Trace, Drain, Show, Places, Time, Stop}
 use Rattle.scenario_text.specs.declared.line.LineFault.{LineFault}
 use Rattle.scenario_run.specs.Course.{Next, Goes, Ends, Refused}
 use Rattle.scenario_run.specs.Playing.{draining, look}
@@ -107,6 +107,7 @@ then_in p j Skipped = Refused BadLine
 then_in p j (Group shape) = Refused BadLine
 then_in p j (Fail from keep) = Refused BadLine
 then_in p j Drain = Refused BadLine
+then_in p j Places = Refused BadLine
 then_in p j (Time moment) = Refused BadLine
 then_in p j Stop = Refused BadLine
 

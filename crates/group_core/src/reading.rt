@@ -1,4 +1,4 @@
-ghost use Rattle.std.specs.Prelude.{◌≡◌, ◌+◌, ◌≤◌, ◌<◌, ◌↔◌, IsTrue, IfOk};
+ghost use Rattle.std.specs.Prelude.{◌≡◌, ◌+◌, ◌≤◌, ◌<◌, ◌↔◌, [], IsTrue, IfOk};
 ghost use Rattle.group_types.specs.Dimensions.{space_of};
 ghost use Rattle.group_types.specs.Lists.{at};
 ghost use Rattle.group_types.specs.Names.{IsProcess};
@@ -11,7 +11,7 @@ ghost use Rattle.group_core.specs.Runs.{HasHeadline, HasRun};
 
 use crate::world::World;
 use group_calls::Entry;
-use group_types::{Payload, ProcessId, Run, Shape};
+use group_types::{Partition, Payload, ProcessId, Run, Shape};
 use std::alloc::AllocError;
 
 impl World {
@@ -52,6 +52,14 @@ impl World {
         ensures headline { HasHeadline self.now }
     {
         self.ledger.log()
+    }
+
+    /// The run of each logged update of a partition, by number: none of an update that writes no value.
+    pub fn places(&self, partition: Partition) -> &[Option<Run>]
+        requires { partition.0 < self.now.shape.k }
+        ensures { result.now ≡ at [] self.now.places partition.0 }
+    {
+        self.ledger.places(partition)
     }
 
     /// The numbers up to which a process has settled or applied: its own partition's alone of a data process, one for

@@ -103,6 +103,14 @@ impl Ledger {
         self.places[partition.0 as usize].len() as u64
     }
 
+    /// The run of each logged update of a partition, by number.
+    pub fn places(&self, partition: Partition) -> &[Option<Run>]
+        requires { partition.0 < self.now.books.shape.k }
+        ensures { result.now ≡ at [] self.now.books.places partition.0 }
+    {
+        &self.places[partition.0 as usize]
+    }
+
     /// Makes room for a call and for this many settled updates. Room that isn't used doesn't pile up.
     pub fn reserve(&mut self, settled: usize) -> Result<(), AllocError>
         ensures books { self.new.books ≡ self.old.books }

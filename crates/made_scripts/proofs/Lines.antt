@@ -12,7 +12,7 @@ use Rattle.group_run.specs.World.{World, step, world_after}
 use Rattle.law_moves.proofs.Notices.{both}
 use Rattle.scenario_text.specs.Meaning.{line_of}
 use Rattle.scenario_text.specs.declared.line.Line.{Line}
-use Rattle.scenario_text.specs.declared.line.Line.TheVariants.{Skipped, Group, Ask, Collect, Deliver, Fail, Flush, Trace, Drain, Show, Time, Stop}
+use Rattle.scenario_text.specs.declared.line.Line.TheVariants.{Skipped, Group, Ask, Collect, Deliver, Fail, Flush, Trace, Drain, Show, Places, Time, Stop}
 use Rattle.scenario_text.specs.declared.line.LineFault.{LineFault}
 use Rattle.scenario_run.specs.Lines.{lines_of, without_empty_last}
 use Rattle.scenario_text.specs.declared.line.LineFault.TheVariants.{BadLine}
@@ -106,6 +106,7 @@ module _ (s : Dimensions) where
     by (Ok (Collect caller call at)) is plain = absurd (cc plain)
     by (Ok (Trace caller call d at)) is plain = absurd (cc plain)
     by (Ok (Show at run)) is plain = absurd (cc plain)
+    by (Ok Places) is plain = absurd (cc plain)
     by (Ok (Time moment)) is plain = absurd (cc plain)
     by (Ok Stop) is plain = absurd (cc plain)
 

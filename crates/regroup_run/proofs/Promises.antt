@@ -12,7 +12,7 @@ use Rattle.law_headline.proofs.Truth.{truth_always}
 use Rattle.scenario_text.specs.Meaning.{IsLineOf, line_of}
 use Rattle.scenario_text.specs.Texts.{shown_text}
 use Rattle.scenario_text.specs.declared.line.Line.{Line}
-use Rattle.scenario_text.specs.declared.line.Line.TheVariants.{Skipped, Group, Ask, Collect, Deliver, Fail, Flush, Trace, Drain, Show, Time, Stop}
+use Rattle.scenario_text.specs.declared.line.Line.TheVariants.{Skipped, Group, Ask, Collect, Deliver, Fail, Flush, Trace, Drain, Show, Places, Time, Stop}
 use Rattle.scenario_text.specs.declared.line.LineFault.{LineFault}
 use Rattle.scenario_text.specs.declared.line.LineFault.TheVariants.{BadLine}
 use Rattle.scenario_text.proofs.Lines.{line_of-within}
@@ -87,6 +87,7 @@ module _ (s : Dimensions) where
   true-line p (Ok (Flush from)) led within = tt
   true-line p (Ok (Trace caller call d from)) led within = tt
   true-line p (Ok Drain) led within = tt
+  true-line p (Ok Places) led within = tt
   true-line p (Ok (Time moment)) led within = tt
   true-line p (Ok Stop) led within = tt
 

@@ -16,7 +16,7 @@ use Rattle.scenario_text.specs.Words.{number_below, key_of_word, value_of_word, 
 use Rattle.scenario_text.specs.declared.keyword.Keyword.{Keyword}
 use Rattle.scenario_text.specs.declared.keyword.Keyword.TheVariants as keyword
 use Rattle.scenario_text.specs.declared.line.Line.{Line}
-use Rattle.scenario_text.specs.declared.line.Line.TheVariants.{Skipped, Ask, Collect, Deliver, Fail, Flush, Trace, Drain, Show, Time, Stop}
+use Rattle.scenario_text.specs.declared.line.Line.TheVariants.{Skipped, Ask, Collect, Deliver, Fail, Flush, Trace, Drain, Show, Places, Time, Stop}
 use Rattle.scenario_text.specs.declared.read_act.Store.{Store}
 use Rattle.scenario_text.specs.declared.verb.StoreMode.{StoreMode}
 use Rattle.scenario_text.specs.declared.verb.StoreMode.TheVariants.{Set, Add, Replace}
@@ -193,6 +193,8 @@ line_by-low s keyword.Show (at ∷ from ∷ len ∷ []) l is =
     let r = bound (run_of from len) _ l p.2 in
     look-low s p.0 r.0 l r.2
 line_by-low s keyword.Show (a ∷ b ∷ d ∷ e ∷ ws) l is = cc is
+line_by-low s keyword.Places [] l is = low_as Places l is tt
+line_by-low s keyword.Places (a ∷ ws) l is = cc is
 line_by-low s keyword.Time [] l is = cc is
 line_by-low s keyword.Time (moment ∷ []) l is = let n = mapped Time (number_below (2 ^ 62 + 1) moment) l is in subst IsLowLine n.2 tt
 line_by-low s keyword.Time (a ∷ b ∷ ws) l is = cc is

@@ -19,7 +19,7 @@ use Rattle.memc_table.specs.Asked.{Asked}
 use Rattle.scenario_text.specs.Meaning.{IsLineOf, first_out_of_range, line_of}
 use Rattle.scenario_text.specs.Words.{words_of}
 use Rattle.scenario_text.specs.declared.line.Line.{Line}
-use Rattle.scenario_text.specs.declared.line.Line.TheVariants.{Skipped, Group, Ask, Collect, Deliver, Fail, Flush, Trace, Drain, Show, Time, Stop}
+use Rattle.scenario_text.specs.declared.line.Line.TheVariants.{Skipped, Group, Ask, Collect, Deliver, Fail, Flush, Trace, Drain, Show, Places, Time, Stop}
 use Rattle.scenario_text.specs.declared.line.LineFault.{LineFault}
 use Rattle.scenario_text.specs.declared.line.LineFault.TheVariants.{BadLine}
 use Rattle.scenario_text.proofs.Limits.{shape-of}
@@ -109,6 +109,7 @@ then-leads s p Drain next deeds text ready within low is =
     let both = parts (Some q) next (map Makes es) deeds _ text is in
     record { play = q; is = both.0; leads = subst (Leads p.eras q.eras) (sym both.1) (makes-lead p.eras es (drains p.eras.world.shape p.eras (world-led s p.eras ready.led))); moment = ready.moment }
 then-leads s p (Show from run) next deeds text ready within low is = stays p p next deeds _ text refl ready.moment is
+then-leads s p Places next deeds text ready within low is = stays p p next deeds _ text refl ready.moment is
 then-leads s p (Time moment) next deeds text ready within low is = stays p (record { eras = p.eras; moment = moment }) next deeds [] text refl within is
 then-leads s p Stop next deeds text ready within low is = absurd (cc is)
 
@@ -244,6 +245,7 @@ first-opens (Flush from) next deeds text within is = absurd within
 first-opens (Trace caller call d from) next deeds text within is = absurd within
 first-opens Drain next deeds text within is = absurd within
 first-opens (Show from run) next deeds text within is = absurd within
+first-opens Places next deeds text within is = absurd within
 first-opens (Time moment) next deeds text within is = absurd within
 first-opens Stop next deeds text within is = absurd within
 
@@ -266,6 +268,7 @@ never-ends-by (Flush from) within is = within
 never-ends-by (Trace caller call d from) within is = within
 never-ends-by Drain within is = within
 never-ends-by (Show from run) within is = within
+never-ends-by Places within is = within
 never-ends-by (Time moment) within is = within
 never-ends-by Stop within is = within
 

@@ -11,6 +11,7 @@ mod group_player;
 pub mod laws;
 pub mod make;
 mod next;
+mod placing;
 mod page;
 pub mod play;
 pub mod player;

@@ -83,6 +83,7 @@ fn follow(alloc: Global, play: &mut Play, line: Line) -> Result<Option<Vec<u8>>,
         }
         Line::Drain => play.drain(alloc)?,
         Line::Show { at, run } => play.show(alloc, at, run)?,
+        Line::Places => play.places(alloc)?,
         Line::Time { moment } => {
             play.set_moment(moment);
             Vec::new(alloc)

@@ -4,11 +4,13 @@ ghost use Rattle.group_types.specs.Names.{IsProcess};
 ghost use Rattle.group_run.specs.Headline.{MayCome};
 ghost use Rattle.group_run.specs.World.{opening, step, turns_from, world_after};
 ghost use Rattle.group_run.specs.Shown.{held};
+ghost use Rattle.scenario_run.specs.Placing.{placed_text};
 ghost use Rattle.scenario_run.specs.Playing.{draining, drained_text, look, turn_text};
 ghost use Rattle.scenario_play.specs.Ends.{IsLight};
 
 use crate::deliveries::drain;
 use crate::entries::write_last;
+use crate::placing::write_placed;
 use crate::showing::write_look;
 use group_calls::Event;
 use group_core::World;
@@ -104,5 +106,11 @@ impl Play {
         let mut text = write_look(alloc, &self.world, at, run)?;
         text.push(b'\n')?;
         Ok(text)
+    }
+    /// The runs of the updates that were logged.
+    pub(crate) fn places(&self, alloc: Global) -> Result<Vec<u8>, AllocError>
+        ensures { IfOk result (λ text. text.items ≡ placed_text [] self.now.world) }
+    {
+        write_placed(alloc, &self.world)
     }
 }

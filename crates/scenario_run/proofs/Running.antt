@@ -12,7 +12,7 @@ use Rattle.group_run.specs.World as machine
 use Rattle.group_run.specs.World.{World, after, opening, step, world_after}
 use Rattle.scenario_text.specs.Meaning.{IsLineOf, line_of}
 use Rattle.scenario_text.specs.declared.line.Line.{Line}
-use Rattle.scenario_text.specs.declared.line.Line.TheVariants.{Skipped, Group, Ask, Collect, Deliver, Fail, Flush, Trace, Drain, Show, Time, Stop}
+use Rattle.scenario_text.specs.declared.line.Line.TheVariants.{Skipped, Group, Ask, Collect, Deliver, Fail, Flush, Trace, Drain, Show, Places, Time, Stop}
 use Rattle.scenario_text.specs.declared.line.LineFault.{LineFault}
 use Rattle.scenario_text.specs.declared.line.LineFault.TheVariants.{BadLine}
 use Rattle.scenario_text.proofs.Lines.{line_of-within}
@@ -72,6 +72,8 @@ then-leads s p Drain next turns text led within is =
     record { play = record { world = v; moment = p.moment }; is = both.0; leads = record { events = draining p.world; run = drain.run; turns_are = sym both.1; to = refl }; light = let lighter = drain.light in omega (arith, lighter) }
 then-leads s p (Show from run) next turns text led within is =
     record { play = p; is = cc; leads = record { events = []; run = tt; turns_are = cc; to = refl }; light = omega arith }
+then-leads s p Places next turns text led within is =
+    record { play = p; is = cc; leads = record { events = []; run = tt; turns_are = cc; to = refl }; light = omega arith }
 then-leads s p (Time moment) next turns text led within is = stays p (record { world = p.world; moment = moment }) next turns text refl is
 then-leads s p Stop next turns text led within is = absurd (cc is)
 
@@ -103,6 +105,7 @@ first-opens (Flush from) next turns text within is = absurd within
 first-opens (Trace caller call d from) next turns text within is = absurd within
 first-opens Drain next turns text within is = absurd within
 first-opens (Show from run) next turns text within is = absurd within
+first-opens Places next turns text within is = absurd within
 first-opens (Time moment) next turns text within is = absurd within
 first-opens Stop next turns text within is = absurd within
 
@@ -125,6 +128,7 @@ never-ends-by (Flush from) within is = within
 never-ends-by (Trace caller call d from) within is = within
 never-ends-by Drain within is = within
 never-ends-by (Show from run) within is = within
+never-ends-by Places within is = within
 never-ends-by (Time moment) within is = within
 never-ends-by Stop within is = within
 

@@ -16,10 +16,11 @@ use Rattle.group_run.specs.Shown.{held, is_down, stamp_of}
 use Rattle.scenario_text.specs.Meaning.{line_of}
 use Rattle.scenario_text.specs.Texts.{answer_text, entries_text, shown_text}
 use Rattle.scenario_text.specs.declared.line.Line.{Line}
-use Rattle.scenario_text.specs.declared.line.Line.TheVariants.{Skipped, Group, Ask, Collect, Deliver, Fail, Flush, Trace, Drain, Show, Time, Stop}
+use Rattle.scenario_text.specs.declared.line.Line.TheVariants.{Skipped, Group, Ask, Collect, Deliver, Fail, Flush, Trace, Drain, Show, Places, Time, Stop}
 use Rattle.scenario_text.specs.declared.line.LineFault.{LineFault}
 use Rattle.scenario_text.specs.declared.line.LineFault.TheVariants.{BadLine}
 use Rattle.scenario_run.specs.Course.{Next, Goes, Ends, Refused}
+use Rattle.scenario_run.specs.Placing.{placed_text}
 
 -- the group of a script, and the moment of the asks that follow
 pub record Play : Type 0 where
@@ -65,6 +66,10 @@ look w p bytes = if is_down w then codes "down" else (if is_dead w p then codes 
 abbrev pub by_show : Play → ProcessId → Run → PlayNext
 by_show p from run = Goes (Some p) [] (look p.world from (held p.world from run) ++ 10 ∷ [])
 
+-- the runs of the updates that were logged
+abbrev pub by_places : Play → PlayNext
+by_places p = Goes (Some p) [] (placed_text [] p.world)
+
 -- what a line of this meaning does where the group isn't named yet
 abbrev pub first_by : Line → PlayNext
 first_by Skipped = quietly None
@@ -83,6 +88,7 @@ then_by p (Flush from) = by_event p (happens.Flush from)
 then_by p (Trace caller call partition from) = by_trace p caller call (happens.Trace caller call partition from)
 then_by p Drain = by_drain p (draining p.world)
 then_by p (Show from run) = by_show p from run
+then_by p Places = by_places p
 then_by p (Time moment) = quietly (Some (record { world = p.world; moment = moment }))
 then_by p Stop = Ends
 

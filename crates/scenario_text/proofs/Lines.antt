@@ -24,7 +24,7 @@ use Rattle.scenario_text.specs.declared.keyword.Keyword.TheVariants as keyword
 use Rattle.scenario_text.specs.declared.line.Line.{Line}
 use Rattle.scenario_text.specs.declared.line.LineFault.{LineFault}
 use Rattle.scenario_text.specs.declared.line.LineFault.TheVariants.{BadLine}
-use Rattle.scenario_text.specs.declared.line.Line.TheVariants.{Skipped, Group, Ask, Collect, Deliver, Fail, Flush, Trace, Drain, Show, Time, Stop}
+use Rattle.scenario_text.specs.declared.line.Line.TheVariants.{Skipped, Group, Ask, Collect, Deliver, Fail, Flush, Trace, Drain, Show, Places, Time, Stop}
 
 if_below-under : (limit : ℕ) (number : Option ℕ) (n : ℕ) → if_below limit number ≡ Some n → n < limit
 if_below-under limit None n is = cc is
@@ -133,6 +133,8 @@ line_by-within s keyword.Show (at ∷ from ∷ len ∷ []) l is =
     let r = bound (run_of from len) _ l p.2 in
     look-within s p.0 r.0 l (process_of_word-within s at p.0 p.1) r.2
 line_by-within s keyword.Show (a ∷ b ∷ d ∷ e ∷ ws) l is = cc is
+line_by-within s keyword.Places [] l is = within_as s Places l is tt
+line_by-within s keyword.Places (a ∷ ws) l is = cc is
 line_by-within s keyword.Time [] l is = cc is
 line_by-within s keyword.Time (moment ∷ []) l is =
     let n = mapped Time (number_below (2 ^ 62 + 1) moment) l is in

@@ -15,7 +15,7 @@ use Rattle.scenario_text.specs.Words.{◌>>=◌, words_of, number_below, process
 use Rattle.scenario_text.specs.declared.keyword.Keyword.{Keyword}
 use Rattle.scenario_text.specs.declared.keyword.Keyword.TheVariants as keyword
 use Rattle.scenario_text.specs.declared.line.Line.{Line}
-use Rattle.scenario_text.specs.declared.line.Line.TheVariants.{Skipped, Group, Ask, Collect, Deliver, Fail, Flush, Trace, Drain, Show, Time, Stop}
+use Rattle.scenario_text.specs.declared.line.Line.TheVariants.{Skipped, Group, Ask, Collect, Deliver, Fail, Flush, Trace, Drain, Show, Places, Time, Stop}
 use Rattle.scenario_text.specs.declared.line.LineFault.{LineFault}
 use Rattle.scenario_text.specs.declared.line.LineFault.TheVariants.{BadLine, BadShape}
 
@@ -65,9 +65,10 @@ keyword_of word =
     else (if bytes_eq word (codes "trace") then Some keyword.Trace
     else (if bytes_eq word (codes "drain") then Some keyword.Drain
     else (if bytes_eq word (codes "show") then Some keyword.Show
+    else (if bytes_eq word (codes "places") then Some keyword.Places
     else (if bytes_eq word (codes "time") then Some keyword.Time
     else (if bytes_eq word (codes "stop") then Some keyword.Stop
-    else None)))))))))
+    else None))))))))))
 
 -- a delivery between two different processes
 abbrev pub delivery : ProcessId → ProcessId → Option Line
@@ -109,6 +110,7 @@ line_by shape keyword.Show (at ∷ from ∷ len ∷ []) = do
   at ← process_of_word shape at
   run ← run_of from len
   look shape at run
+line_by shape keyword.Places [] = Some Places
 line_by shape keyword.Time (moment ∷ []) = option_map Time (number_below (2 ^ 62 + 1) moment)
 line_by shape keyword.Stop [] = Some Stop
 line_by _ _ _ = None
@@ -145,6 +147,7 @@ IsWithin s (Flush at) = IsProcess s at
 IsWithin s (Trace caller call partition at) = (caller < callers) × (partition.0 < s.k) × IsProcess s at
 IsWithin s Drain = ⊤
 IsWithin s (Show at run) = IsProcess s at × (run.at + run.len ≤ space_of s)
+IsWithin s Places = ⊤
 IsWithin s (Time moment) = moment ≤ 2 ^ 62
 IsWithin s Stop = ⊤
 

@@ -1,5 +1,6 @@
-use Rattle.std.specs.Prelude.{ℕ, ℤ, pos, negsuc, ◌==◌, List, [], ◌∷◌, ◌++◌, codes, if◌then◌else◌}
+use Rattle.std.specs.Prelude.{ℕ, ℤ, suc, pos, negsuc, ◌==◌, List, [], ◌∷◌, ◌++◌, codes, Option, Some, None, if◌then◌else◌}
 use Rattle.std.specs.Fmt.{decimal, signed_decimal}
+use Rattle.group_types.specs.declared.run.Run.{Run}
 use Rattle.hex.specs.Hex.{encode_lower}
 use Rattle.memc_table.specs.declared.act.Act.{Act}
 use Rattle.memc_table.specs.declared.act.Act.TheVariants.{Get, Set, Add, Replace, Cas, Delete, Touch, Append, Prepend, Incr, Decr}
@@ -104,6 +105,22 @@ entries_text (entry ∷ entries) = entry_text entry ++ 10 ∷ entries_text entri
 abbrev pub behind_commas : List ℕ → List ℕ
 behind_commas [] = []
 behind_commas (n ∷ ns) = codes "," ++ decimal n ++ behind_commas ns
+
+-- the run of an update of a partition, by its number
+abbrev pub place_text : ℕ → ℕ → Run → List ℕ
+place_text partition number run = codes "place" ++ next_number partition ++ next_number number ++ next_number run.at ++ next_number run.len
+
+-- the runs of a partition's updates behind this number, each on a line; an update that has none has no line
+abbrev pub places_text : ℕ → ℕ → List (Option Run) → List ℕ
+places_text partition number [] = []
+places_text partition number (None ∷ runs) = places_text partition (suc number) runs
+places_text partition number (Some run ∷ runs) = place_text partition (suc number) run ++ 10 ∷ places_text partition (suc number) runs
+
+-- how many lines these are
+abbrev pub many_placed : List (Option Run) → ℕ
+many_placed [] = 0
+many_placed (None ∷ runs) = many_placed runs
+many_placed (Some run ∷ runs) = suc (many_placed runs)
 
 -- the numbers of a stamp, joined by commas
 abbrev pub stamp_text : List ℕ → List ℕ

@@ -12,6 +12,7 @@ pub enum Keyword {
     Trace,
     Drain,
     Show,
+    Places,
     Time,
     Stop,
 }
@@ -30,6 +31,7 @@ pub(crate) fn keyword_named(word: &[u8]) -> Option<Keyword>
         _ if word == b"trace".as_slice() => Some(Keyword::Trace),
         _ if word == b"drain".as_slice() => Some(Keyword::Drain),
         _ if word == b"show".as_slice() => Some(Keyword::Show),
+        _ if word == b"places".as_slice() => Some(Keyword::Places),
         _ if word == b"time".as_slice() => Some(Keyword::Time),
         _ if word == b"stop".as_slice() => Some(Keyword::Stop),
         _ => None,

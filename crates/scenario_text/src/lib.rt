@@ -16,6 +16,7 @@ pub mod split;
 pub mod verb;
 pub mod write_answer;
 pub mod write_entry;
+pub mod write_places;
 pub mod write_shown;
 
 pub use line::{Line, LineFault};

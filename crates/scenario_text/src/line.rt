@@ -53,6 +53,8 @@ pub enum Line {
         at: ProcessId,
         run: Run,
     },
+    /// The runs of the updates that were logged.
+    Places,
     /// The moment of the asks that follow.
     Time {
         moment: u64,

@@ -47,6 +47,7 @@ fn read_named(
         Keyword::Trace => trace(shape, words),
         Keyword::Drain => drain(shape, words),
         Keyword::Show => show(shape, words),
+        Keyword::Places => places(shape, words),
         Keyword::Time => time(shape, words),
         Keyword::Stop => stop(shape, words),
     }
@@ -158,6 +159,17 @@ fn show(shape: Shape, words: &[&[u8]]) -> Result<Line, LineFault>
     };
     let at = read_process(shape, at)?;
     look(shape, at, read_run(from, len)?)
+}
+
+#[tactic(auto, unfolding(crate::specs::Meaning::line_by))]
+fn places(shape: Shape, words: &[&[u8]]) -> Result<Line, LineFault>
+    ensures meaning { IsReadAs result (line_by shape Keyword.Places (map (λ word. word.now) words.now)) }
+    ensures within { IfOk result (IsWithin shape) }
+{
+    let [] = words else {
+        return Err(LineFault::BadLine);
+    };
+    Ok(Line::Places)
 }
 
 #[tactic(auto, unfolding(crate::specs::Meaning::line_by))]
