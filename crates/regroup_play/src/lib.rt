@@ -9,6 +9,7 @@ pub mod laws;
 mod next;
 pub mod play;
 mod player;
+mod placing;
 mod playing;
 mod reading;
 mod showing;

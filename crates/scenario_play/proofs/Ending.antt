@@ -13,7 +13,7 @@ use Rattle.scenario_play.specs.Played.{IsPlayed, IsWritten}
 use Rattle.scenario_play.specs.Player.{HasPlayed}
 use Rattle.scenario_play.specs.Status.{HasFaultOf, IsEarly, IsRefusal, IsTold, IsUnread, TellsOfScript, last_line, longest_script}
 use Rattle.scenario_play.specs.declared.status.Status.{Status}
-use Rattle.scenario_play.specs.declared.status.Status.TheVariants.{Done, BadWords, BadLine, BadShape, BadCount, TooLong, ReadFault, WriteFault, Want, Cut, LineTooLong, Worn, BadFrame, BadConfig, AcceptFault}
+use Rattle.scenario_play.specs.declared.status.Status.TheVariants.{Done, BadWords, BadLine, BadShape, BadCount, TooLong, ReadFault, WriteFault, Want, Cut, LineTooLong, Worn, BadFrame, Refused, BadConfig, AcceptFault}
 
 short : (n : ℕ) → n ≤ longest_script → nat_lt longest_script n ≡ false
 short n within = grind (arith, nat_tests)
@@ -64,6 +64,7 @@ module _ (l : Language) (a b : Outside) (text : List ℕ) (within : length text 
   fault LineTooLong played = absurd played.0
   fault Worn played = absurd played.0
   fault (BadFrame n) played = absurd played.0
+  fault (Refused n) played = absurd played.0
   fault (BadConfig key) played = absurd played.0
   fault AcceptFault played = absurd played.0
   fault TooLong played = absurd played.0
@@ -84,6 +85,7 @@ module _ (l : Language) (a b : Outside) (same : b.held ≡ a.held) where
   treated-unread LineTooLong read = absurd read
   treated-unread Worn read = absurd read
   treated-unread (BadFrame n) read = absurd read
+  treated-unread (Refused n) read = absurd read
   treated-unread (BadConfig key) read = absurd read
   treated-unread AcceptFault read = absurd read
   treated-unread (BadLine n) read = absurd read
@@ -106,6 +108,7 @@ read-fault input now read_before read_now writes Cut read = tt
 read-fault input now read_before read_now writes LineTooLong read = tt
 read-fault input now read_before read_now writes Worn read = tt
 read-fault input now read_before read_now writes (BadFrame n) read = tt
+read-fault input now read_before read_now writes (Refused n) read = tt
 read-fault input now read_before read_now writes (BadConfig key) read = tt
 read-fault input now read_before read_now writes AcceptFault read = tt
 
@@ -124,6 +127,7 @@ play-fault held held_now read_before read_now written_before written_now text ve
 play-fault held held_now read_before read_now written_before written_now text verdict LineTooLong played = tt
 play-fault held held_now read_before read_now written_before written_now text verdict Worn played = tt
 play-fault held held_now read_before read_now written_before written_now text verdict (BadFrame n) played = tt
+play-fault held held_now read_before read_now written_before written_now text verdict (Refused n) played = tt
 play-fault held held_now read_before read_now written_before written_now text verdict (BadConfig key) played = tt
 play-fault held held_now read_before read_now written_before written_now text verdict AcceptFault played = tt
 
@@ -187,6 +191,7 @@ module _ (l : Language) (script : List ℕ) (a b c : Outside) (kept : c.input �
   is-told LineTooLong end = absurd end.0
   is-told Worn end = absurd end.0
   is-told (BadFrame n) end = absurd end.0
+  is-told (Refused n) end = absurd end.0
   is-told (BadConfig key) end = absurd end.0
   is-told AcceptFault end = absurd end.0
 
@@ -205,6 +210,7 @@ module _ (l : Language) (script : List ℕ) (a b c : Outside) (kept : c.input �
   is-long LineTooLong end all = absurd end.0
   is-long Worn end all = absurd end.0
   is-long (BadFrame n) end all = absurd end.0
+  is-long (Refused n) end all = absurd end.0
   is-long (BadConfig key) end all = absurd end.0
   is-long AcceptFault end all = absurd end.0
 
@@ -233,6 +239,7 @@ module _ (l : Language) (script : List ℕ) (a b c : Outside) (kept : c.input �
   stops LineTooLong status early end front = absurd end.0
   stops Worn status early end front = absurd end.0
   stops (BadFrame n) status early end front = absurd end.0
+  stops (Refused n) status early end front = absurd end.0
   stops (BadConfig key) status early end front = absurd end.0
   stops AcceptFault status early end front = absurd end.0
 
@@ -249,6 +256,7 @@ module _ (l : Language) (script : List ℕ) (a b c : Outside) (kept : c.input �
   refused LineTooLong end refusal tells = absurd refusal
   refused Worn end refusal tells = absurd refusal
   refused (BadFrame n) end refusal tells = absurd refusal
+  refused (Refused n) end refusal tells = absurd refusal
   refused (BadConfig key) end refusal tells = absurd refusal
   refused AcceptFault end refusal tells = absurd refusal
   refused TooLong end refusal tells = absurd refusal
@@ -273,6 +281,7 @@ module _ (l : Language) (script : List ℕ) (a b c : Outside) (kept : c.input �
   unread-told LineTooLong end unread tells = absurd unread
   unread-told Worn end unread tells = absurd unread
   unread-told (BadFrame n) end unread tells = absurd unread
+  unread-told (Refused n) end unread tells = absurd unread
   unread-told (BadConfig key) end unread tells = absurd unread
   unread-told AcceptFault end unread tells = absurd unread
 

@@ -14,7 +14,7 @@ use Rattle.scenario_play.specs.Played.{IsPlayed}
 use Rattle.scenario_play.specs.Status.{IsEarly, IsRefusal, IsTold, last_line, longest_script, told_at, told_of}
 use Rattle.scenario_play.specs.Whole.{PlaysAll, PlaysAllAlways}
 use Rattle.scenario_play.specs.declared.status.Status.{Status}
-use Rattle.scenario_play.specs.declared.status.Status.TheVariants.{Done, BadWords, BadLine, BadShape, BadCount, TooLong, ReadFault, WriteFault, Want, Cut, LineTooLong, Worn, BadFrame, BadConfig, AcceptFault}
+use Rattle.scenario_play.specs.declared.status.Status.TheVariants.{Done, BadWords, BadLine, BadShape, BadCount, TooLong, ReadFault, WriteFault, Want, Cut, LineTooLong, Worn, BadFrame, Refused, BadConfig, AcceptFault}
 use Rattle.scenario_play.proofs.Ending.{nothing-written, told-long}
 
 -- no line of a language's scripts is told by a fault of its source
@@ -42,6 +42,7 @@ not-both Cut refusal early = refusal
 not-both LineTooLong refusal early = refusal
 not-both Worn refusal early = refusal
 not-both (BadFrame n) refusal early = refusal
+not-both (Refused n) refusal early = refusal
 not-both (BadConfig key) refusal early = refusal
 not-both AcceptFault refusal early = refusal
 
@@ -76,6 +77,7 @@ module _ (l : Language) (never : NeverReadFault l) (before now : Outside) (statu
   told-early LineTooLong is early = absurd early
   told-early Worn is early = absurd early
   told-early (BadFrame n) is early = absurd early
+  told-early (Refused n) is early = absurd early
   told-early (BadConfig key) is early = absurd early
   told-early AcceptFault is early = absurd early
 

@@ -8,7 +8,7 @@ use Rattle.edge_io.specs.Writing.{HasWritten}
 use Rattle.scenario_play.specs.Player.{EndsAt, HasMetEnd, HasPlayed, Telling}
 use Rattle.scenario_play.specs.Status.{IsRefusal}
 use Rattle.scenario_play.specs.declared.status.Status.{Status}
-use Rattle.scenario_play.specs.declared.status.Status.TheVariants.{Done, BadWords, BadLine, BadShape, BadCount, TooLong, ReadFault, WriteFault, Want, Cut, LineTooLong, Worn, BadFrame, BadConfig, AcceptFault}
+use Rattle.scenario_play.specs.declared.status.Status.TheVariants.{Done, BadWords, BadLine, BadShape, BadCount, TooLong, ReadFault, WriteFault, Want, Cut, LineTooLong, Worn, BadFrame, Refused, BadConfig, AcceptFault}
 
 -- some of a text was written, and this is the rest
 pub record Written (before now : List ℕ) (rest all : List ℕ) : Type 0 where
@@ -68,6 +68,7 @@ module _ (held held_now : List ℕ) (writes writes_now : ℕ) (all : List ℕ) (
   refused LineTooLong refusal is bytes = absurd refusal
   refused Worn refusal is bytes = absurd refusal
   refused (BadFrame n) refusal is bytes = absurd refusal
+  refused (Refused n) refusal is bytes = absurd refusal
   refused (BadConfig key) refusal is bytes = absurd refusal
   refused AcceptFault refusal is bytes = absurd refusal
 

@@ -10,7 +10,7 @@ use Rattle.scenario_run.specs.Course.{Fault}
 use Rattle.scenario_run.specs.Script.{first_fault}
 use Rattle.scenario_play.specs.declared.status.Count.TheVariants.{Groups, Nodes}
 use Rattle.scenario_play.specs.declared.status.Status.{Status}
-use Rattle.scenario_play.specs.declared.status.Status.TheVariants.{Done, BadWords, BadLine, BadShape, BadCount, TooLong, ReadFault, WriteFault, Want, Cut, LineTooLong, Worn, BadFrame, BadConfig, AcceptFault}
+use Rattle.scenario_play.specs.declared.status.Status.TheVariants.{Done, BadWords, BadLine, BadShape, BadCount, TooLong, ReadFault, WriteFault, Want, Cut, LineTooLong, Worn, BadFrame, Refused, BadConfig, AcceptFault}
 
 -- the number with which the program ends
 abbrev pub number_of_status : Status → ℕ
@@ -29,6 +29,7 @@ number_of_status Cut = 10
 number_of_status LineTooLong = 11
 number_of_status Worn = 12
 number_of_status (BadFrame _) = 13
+number_of_status (Refused _) = 14
 
 -- the last line of settings that are refused at a key
 abbrev pub config_line : ConfigKey → List ℕ
@@ -43,7 +44,7 @@ config_line key.Connections = codes "fault: config connections\n"
 config_line key.Control = codes "fault: config control\n"
 config_line key.Unknown = codes "fault: config unknown\n"
 
--- the last line, of a bad line and of a bad frame what stands before its number
+-- the last line, of a bad line, a bad frame and a line that fails what stands before its number
 abbrev pub text_of_status : Status → List ℕ
 text_of_status Done = []
 text_of_status BadWords = codes "fault: words\n"
@@ -64,11 +65,13 @@ text_of_status Cut = []
 text_of_status LineTooLong = []
 text_of_status Worn = []
 text_of_status (BadFrame _) = codes "fault: frame "
+text_of_status (Refused _) = codes "refused "
 
 -- the last line that is written at a status
 abbrev pub last_line : Status → List ℕ
 last_line (BadLine n) = codes "fault: line " ++ decimal n ++ codes "\n"
 last_line (BadFrame at) = codes "fault: frame " ++ decimal at ++ codes "\n"
+last_line (Refused n) = codes "refused " ++ decimal n ++ codes "\n"
 last_line Done = text_of_status Done
 last_line BadWords = text_of_status BadWords
 last_line (BadShape field) = text_of_status (BadShape field)

@@ -44,6 +44,8 @@ pub enum Status {
     Worn,
     /// The place in the input at which the first frame begins that is no spelling of a message.
     BadFrame(u64),
+    /// The first line of a transcript that fails.
+    Refused(u64),
 }
 
 impl Status {
@@ -56,8 +58,8 @@ impl Status {
         self.row().0
     }
 
-    /// The last line that is written, with its end: of `BadLine` and `BadFrame` what stands before the
-    /// number, and nothing where no line is written.
+    /// The last line that is written, with its end: of `BadLine`, `BadFrame` and `Refused` what stands
+    /// before the number, and nothing where no line is written.
     pub(crate) fn text(self) -> &'static str
         ensures { result.now ≡ text_of_status self }
     {
@@ -88,6 +90,7 @@ impl Status {
             Status::LineTooLong => (11, ""),
             Status::Worn => (12, ""),
             Status::BadFrame(_) => (13, "fault: frame "),
+            Status::Refused(_) => (14, "refused "),
         }
     }
 }

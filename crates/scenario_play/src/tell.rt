@@ -15,7 +15,7 @@ pub fn tell<K: Sink>(alloc: Global, sink: &mut K, status: Status) -> Status
     ensures later { K.faults sink.old ≤ K.faults sink.new }
 {
     match status {
-        Status::BadLine(number) | Status::BadFrame(number) => {
+        Status::BadLine(number) | Status::BadFrame(number) | Status::Refused(number) => {
             match format!(in alloc; "{}{number}\n", status.text()) {
                 Ok(line) => write_line(sink, status, line.as_bytes()),
                 Err(AllocError) => write_line(sink, Status::Want, Status::Want.text().as_bytes()),
