@@ -25,6 +25,7 @@ deliver <from> <to>
 fail <process> <keep>|all
 flush <process>
 show <process> <at> <len>
+places
 time <n>
 drain
 stop
@@ -43,6 +44,7 @@ deliver <from> <to>
 fail <process> <keep>|all
 flush <process>
 show <process> <at> <len>
+places
 time <n>
 drain
 regroup <m> <blocks> <block>

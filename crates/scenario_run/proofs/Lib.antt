@@ -1,6 +1,7 @@
-pub mod Leading
-pub mod Truth
-pub mod Following
 pub mod Draining
-pub mod Running
+pub mod Following
+pub mod Leading
+pub mod Placing
 pub mod Promises
+pub mod Running
+pub mod Truth

@@ -1,5 +1,6 @@
 pub mod Limits
 pub mod Lines
+mod Placing
 pub mod Read
 pub mod Stamps
 pub mod Values
