@@ -254,8 +254,8 @@ fn follow_event(
     ensures { HasDone (Some play.old) (by_event play.old event.now) (Some play.new) (text_in result) }
 {
     let from = play.regroup.world().log().len();
-    let answer = make(&mut play.regroup, event)?;
-    let mut text = write_answer_line(alloc, &answer)?;
+    let out = make(&mut play.regroup, event)?;
+    let mut text = write_answer_line(alloc, &out.answer)?;
     write_since(alloc, &play.regroup, play.regroup.era(), from, &mut text)?;
     Ok(Some(text))
 }
