@@ -9,8 +9,8 @@ use Rattle.scenario_run.specs.Placing.{many_runs, runs_text}
 -- the first d partitions' runs are written: what they and those of the partitions to come will have written, and how
 -- many there are
 pub record ArePlaced (bases : List ℕ) (w : World) (d : ℕ) (text : List ℕ) (count : ℕ) : Type 0 where
-  pub text : text ++ runs_text bases w (range_with_len d (w.shape.k - d)) ≡ runs_text bases w (range_with_len 0 w.shape.k)
-  pub count : count + many_runs w (range_with_len d (w.shape.k - d)) ≡ many_runs w (range_with_len 0 w.shape.k)
+  pub written : text ++ runs_text bases w (range_with_len d (w.shape.k - d)) ≡ runs_text bases w (range_with_len 0 w.shape.k)
+  pub counted : count + many_runs w (range_with_len d (w.shape.k - d)) ≡ many_runs w (range_with_len 0 w.shape.k)
   pub few : count ≤ length text
 
 module _ (bases : List ℕ) (w : World) where
@@ -18,8 +18,8 @@ module _ (bases : List ℕ) (w : World) where
   placed-none text is =
       let all : w.shape.k - 0 ≡ w.shape.k = omega arith in
       record {
-        text = rw (is, all) refl;
-        count = rw all refl;
+        written = rw (is, all) refl;
+        counted = rw all refl;
         few = omega arith;
       }
 
@@ -29,27 +29,27 @@ module _ (bases : List ℕ) (w : World) where
   pub placed-next : (d : ℕ) (text more : List ℕ) (count lines : ℕ) → d < w.shape.k → ArePlaced bases w d text count → more ≡ text ++ places_text d (at 0 bases d) (at [] w.places d)
       → lines ≡ many_placed (at [] w.places d) → length text + lines ≤ length more → ArePlaced bases w (d + 1) more (count + lines)
   placed-next d text more count lines below are gained many long =
-      let was = are.text in
-      let were = are.count in
+      let was = are.written in
+      let were = are.counted in
       let was_split = rw (next-range d below) at was in
       let were_split = rw (next-range d below) at were in
       let few = are.few in
       record {
-        text = rw gained (append_assoc text (places_text d (at 0 bases d) (at [] w.places d)) (runs_text bases w (range_with_len (d + 1) (w.shape.k - (d + 1)))) ∙ was_split);
-        count = omega (arith, were_split, many);
+        written = rw gained (append_assoc text (places_text d (at 0 bases d) (at [] w.places d)) (runs_text bases w (range_with_len (d + 1) (w.shape.k - (d + 1)))) ∙ was_split);
+        counted = omega (arith, were_split, many);
         few = omega (arith, few, long);
       }
 
   pub placed-all : (text : List ℕ) (count : ℕ) → ArePlaced bases w w.shape.k text count → text ≡ runs_text bases w (range_with_len 0 w.shape.k)
   placed-all text count are =
       let none : w.shape.k - w.shape.k ≡ 0 = omega arith in
-      let was = are.text in
+      let was = are.written in
       let is = rw none at was in
       sym (append_nil text) ∙ is
 
   pub counted-all : (text : List ℕ) (count : ℕ) → ArePlaced bases w w.shape.k text count → count ≡ many_runs w (range_with_len 0 w.shape.k)
   counted-all text count are =
       let none : w.shape.k - w.shape.k ≡ 0 = omega arith in
-      let was = are.count in
+      let was = are.counted in
       let is = rw none at was in
       omega (arith, is)
