@@ -1,5 +1,6 @@
 -- The runs of updates, partition by partition.
-use Rattle.std.proofs.Common.{◌≡◌, ◌≤◌, ◌<◌, ◌+◌, ◌-◌, ℕ, List, [], ◌∷◌, ◌++◌, ◌∙◌, length, refl, sym, ap, append_assoc, append_nil, arith}
+use Rattle.std.proofs.Common.{◌≡◌, ◌≤◌, ◌<◌, ◌+◌, ◌-◌, ℕ, suc, List, [], ◌∷◌, ◌++◌, ◌∙◌, length, refl, sym, ap, append_assoc, arith}
+use Rattle.std.proofs.lemmas.List.{append-nil}
 use Rattle.std.specs.List.{range_with_len}
 use Rattle.group_types.specs.Lists.{at}
 use Rattle.group_run.specs.World.{World}
@@ -19,12 +20,12 @@ module _ (bases : List ℕ) (w : World) where
       let all : w.shape.k - 0 ≡ w.shape.k = omega arith in
       record {
         written = rw (is, all) refl;
-        counted = rw all refl;
+        counted = (let same = ap (λ (n : ℕ). many_runs w (range_with_len 0 n)) all in omega (arith, same));
         few = omega arith;
       }
 
   next-range : (d : ℕ) → d < w.shape.k → range_with_len d (w.shape.k - d) ≡ d ∷ range_with_len (d + 1) (w.shape.k - (d + 1))
-  next-range d below = let many : w.shape.k - d ≡ (w.shape.k - (d + 1)) + 1 = omega (arith, below) in ap (range_with_len d) many
+  next-range d below = let many : w.shape.k - d ≡ suc (w.shape.k - (d + 1)) = omega (arith, below) in ap (range_with_len d) many
 
   pub placed-next : (d : ℕ) (text more : List ℕ) (count lines : ℕ) → d < w.shape.k → ArePlaced bases w d text count → more ≡ text ++ places_text d (at 0 bases d) (at [] w.places d)
       → lines ≡ many_placed (at [] w.places d) → length text + lines ≤ length more → ArePlaced bases w (d + 1) more (count + lines)
@@ -45,7 +46,7 @@ module _ (bases : List ℕ) (w : World) where
       let none : w.shape.k - w.shape.k ≡ 0 = omega arith in
       let was = are.written in
       let is = rw none at was in
-      sym (append_nil text) ∙ is
+      sym (append-nil text) ∙ is
 
   pub counted-all : (text : List ℕ) (count : ℕ) → ArePlaced bases w w.shape.k text count → count ≡ many_runs w (range_with_len 0 w.shape.k)
   counted-all text count are =
