@@ -152,8 +152,8 @@ impl DataProcess {
     }
 
     /// How many updates wait in its logs.
-    pub fn waiting(&self) -> Result<usize, AllocError>
-        ensures { IfOk result (λ n. n ≡ waiting self.now.process.replicas) }
+    pub fn waiting(&self) -> usize
+        ensures { result ≡ min (waiting self.now.process.replicas) (2 ^ 64 - 1) }
     {
         self.service.waiting()
     }

@@ -1,7 +1,6 @@
 -- How many updates an event settles.
-use Rattle.std.proofs.Common.{ℕ, suc, ◌≡◌, ◌≤◌, ◌+◌, Bool, true, false, List, [], ◌∷◌, Result, Ok, Err, IfOk, length, refl, ap, arith}
+use Rattle.std.proofs.Common.{ℕ, suc, ◌≡◌, ◌≤◌, ◌<◌, ◌+◌, ◌-◌, ◌^◌, Bool, true, false, List, [], ◌∷◌, length, refl, ap, arith, min}
 use Rattle.std.specs.List.{range_with_len}
-use Rattle.std.specs.declared.alloc.AllocError.{AllocError}
 use Rattle.group_types.specs.Dimensions.{Dimensions}
 use Rattle.group_types.specs.Lists.{at}
 use Rattle.group_types.specs.Names.{index_of}
@@ -79,7 +78,6 @@ module _ (w : World) where
     by true = omega arith
     by false = omega arith
 
--- what is at most a number, where that comes out
-pub at-most : (r : Result ℕ AllocError) (n m : ℕ) → IfOk r (λ x. x ≡ m) → n ≤ m → IfOk r (λ x. n ≤ x)
-at-most (Ok x) n m is low = omega (arith, is, low)
-at-most (Err e) n m is low = tt
+-- no more than a number and one more, where the number is capped and the cap isn't reached
+pub capped : (n r long : ℕ) → r ≡ min n (2 ^ 64 - 1) → long ≤ n + 1 → r < 2 ^ 64 - 1 → long ≤ suc r
+capped n r long is low less = omega (arith, is, low, less)

@@ -1,4 +1,4 @@
-ghost use Rattle.std.specs.Prelude.{◌≡◌, ◌≤◌, ◌<◌, ◌+◌, ◌^◌, length, IfOk, OnErr};
+ghost use Rattle.std.specs.Prelude.{◌≡◌, ◌≤◌, ◌<◌, ◌-◌, ◌^◌, suc, length, IfOk, OnErr};
 ghost use Rattle.group_run.specs.Headline.{MayCome};
 ghost use Rattle.group_run.specs.World.{group_step, opening, step};
 
@@ -47,7 +47,7 @@ impl World {
         ensures logged { IfOk result (λ out. out.logged ≡ length (step self.old event.now).turn.logged) }
         ensures err { OnErr result (self.new ≡ self.old) }
     {
-        let most = self.settles(event)?;
+        let most = self.settles(event);
         self.ledger.reserve(most)?;
         let turn = self.nodes.turn(&self.ledger, event)?;
         let logged = self
@@ -59,27 +59,18 @@ impl World {
         })
     }
 
-    // No more updates are settled by an event.
-    fn settles(&self, event: &Event) -> Result<usize, AllocError>
+    // No more updates but one are settled by an event, or as many as a list is asked to have room for.
+    fn settles(&self, event: &Event) -> usize
         requires { MayCome self.now event.now }
-        ensures { IfOk result (λ most. length (group_step self.now event.now).settled ≤ most) }
+        ensures { result < 2 ^ 64 - 1 → length (group_step self.now event.now).settled ≤ suc result }
     {
         match event {
-            Event::Ask { at, .. } => {
-                let waiting = self.nodes.node(*at).waiting()?;
-                one_more(waiting)
-            }
+            Event::Ask { at, .. } => self.nodes.node(*at).waiting(),
             Event::Deliver { to, .. } => self.nodes.node(*to).waiting(),
-            Event::Collect { .. } => Ok(0),
-            Event::Fail { .. } => Ok(0),
-            Event::Flush { .. } => Ok(0),
-            Event::Trace { .. } => Ok(0),
+            Event::Collect { .. } => 0,
+            Event::Fail { .. } => 0,
+            Event::Flush { .. } => 0,
+            Event::Trace { .. } => 0,
         }
     }
-}
-
-fn one_more(n: usize) -> Result<usize, AllocError>
-    ensures { IfOk result (λ more. more ≡ n + 1) }
-{
-    n.checked_add(1).ok_or(AllocError)
 }

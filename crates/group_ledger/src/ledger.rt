@@ -1,4 +1,4 @@
-ghost use Rattle.std.specs.Prelude.{◌≡◌, ◌<◌, ◌^◌, [], suc, length, IfOk, IfSome, OnErr, OnOk};
+ghost use Rattle.std.specs.Prelude.{◌≡◌, ◌<◌, ◌^◌, ◌+◌, [], length, IfOk, IfSome, OnErr, OnOk};
 ghost use Rattle.group_types.specs.Lists.{at};
 ghost use Rattle.group_run.specs.Replica.{callers};
 ghost use Rattle.group_run.specs.World.{opening};
@@ -111,13 +111,14 @@ impl Ledger {
         &self.places[partition.0 as usize]
     }
 
-    /// Makes room for a call and for this many settled updates. Room that isn't used doesn't pile up.
+    /// Makes room for a call and for this many settled updates and one more. Room that isn't used doesn't pile up.
     pub fn reserve(&mut self, settled: usize) -> Result<(), AllocError>
         ensures books { self.new.books ≡ self.old.books }
-        ensures ok { OnOk result (self.new.room ≡ suc settled) }
+        ensures ok { OnOk result (self.new.room ≡ settled + 2) }
+        ensures few { OnOk result (self.new.room < 2 ^ 64) }
     {
         self.room = 0;
-        let room = settled.saturating_add(1);
+        let room = settled.saturating_add(2);
         self.log.reserve(room)?;
         self.tickets.reserve(1)?;
         reserve_each(&mut self.places, room)?;

@@ -113,8 +113,8 @@ impl Node {
     }
 
     /// How many updates wait in its logs.
-    pub fn waiting(&self) -> Result<usize, AllocError>
-        ensures { IfOk result (λ n. n ≡ waiting self.now.node.process.replicas) }
+    pub fn waiting(&self) -> usize
+        ensures { result ≡ min (waiting self.now.node.process.replicas) (2 ^ 64 - 1) }
     {
         self.process.waiting()
     }

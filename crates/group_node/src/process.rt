@@ -158,8 +158,8 @@ impl Process {
     }
 
     /// How many updates wait in its logs.
-    pub fn waiting(&self) -> Result<usize, AllocError>
-        ensures { IfOk result (λ n. n ≡ waiting self.now.process.replicas) }
+    pub fn waiting(&self) -> usize
+        ensures { result ≡ min (waiting self.now.process.replicas) (2 ^ 64 - 1) }
     {
         match &self.role {
             Role::Data(process) => process.waiting(),

@@ -37,7 +37,7 @@ impl Service {
         let mut notice = Notice {
             known,
             heads: Vec::with_capacity(self.alloc, self.shape.k() as usize)?,
-            settled: Vec::with_capacity(self.alloc, self.waiting()?)?,
+            settled: Vec::with_capacity(self.alloc, self.waiting())?,
         };
         'partitions: for d in 0..self.shape.k() {
             let due = self.is_due(known, Partition(d));
@@ -83,17 +83,17 @@ impl Service {
 }
 
 impl Service {
-    /// How many updates wait in all logs.
-    pub fn waiting(&self) -> Result<usize, AllocError>
-        ensures { IfOk result (λ n. n ≡ waiting self.now.replicas) }
+    /// How many updates wait in all logs, or the most that a list is asked to have room for.
+    pub fn waiting(&self) -> usize
+        ensures { result ≡ min (waiting self.now.replicas) (2 ^ 64 - 1) }
     {
         let mut all = 0usize;
         let mut d = self.replicas.len();
         'partitions: while 0 < d {
             d -= 1;
-            all = all.checked_add(long(&self.replicas[d])).ok_or(AllocError)?;
+            all = all.saturating_add(long(&self.replicas[d]));
         }
-        Ok(all)
+        all
     }
 }
 

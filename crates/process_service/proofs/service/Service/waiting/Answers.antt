@@ -25,5 +25,7 @@ partitions-preserved c =
     = sum_by-drop_more (λ (r : Replica). length r.log) rs i empty_replica (omega (arith, wide, within))
     ∙ ap (λ (r : Replica). length r.log + waiting (drop (i + 1) rs)) here
     ∙ ap (λ (n : ℕ). length c.index.result.now.replica.log + waiting (drop n rs)) (back c.partitions.d c.partitions-test.true) in
-    let sum : c.in_ok-all.all ≡ c.partitions.all + c.long.result = grind (arith, common_steps) in
-    record { within = omega (arith, c.partitions.invariant.within); all = omega (arith, sum, step, c.partitions.invariant.all, c.long.ensures) }
+    let was = c.partitions.invariant.all in
+    let long = c.long.ensures in
+    let sum : c.saturating_add.result ≡ min (c.partitions.all + c.long.result) (2 ^ 64 - 1) = grind (arith, common_steps) in
+    record { within = omega (arith, c.partitions.invariant.within); all = omega (arith, sum, step, was, long) }
