@@ -6,4 +6,3 @@ pub mod Recovery
 pub mod Solutions
 pub mod Filling
 pub mod Progress
-pub mod Additions

@@ -6,7 +6,6 @@
 
 mod column;
 mod decoding;
-mod encoding;
 mod pass;
 mod square;
 mod two_columns;
@@ -18,7 +17,6 @@ ghost use Rattle.field_byte.specs.Vectors.{add_bytes, scale};
 ghost use Rattle.erasure_code.specs.Code.{coefficient};
 
 pub use decoding::decode;
-pub use encoding::add_columns;
 use field_byte::inv;
 use lane_kernel::mul_add_into;
 

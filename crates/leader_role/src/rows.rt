@@ -1,4 +1,4 @@
-ghost use Rattle.std.specs.Prelude.{◌≡◌, length, IfOk};
+ghost use Rattle.std.specs.Prelude.{◌≡◌, IfOk};
 ghost use Rattle.group_run.specs.Leaders.{lost_of, rows_of};
 ghost use Rattle.group_run.specs.Process.{Process};
 ghost use Rattle.leader_role.specs.Starting.{living_parity};
@@ -22,16 +22,12 @@ pub fn lost(alloc: Global, shape: Shape, known: &Members) -> Result<Vec<u32>, Al
 }
 
 /// The rows of a session: of the parity processes that aren't known dead the lowest, as many as are lost.
-pub fn rows(
-    alloc: Global,
-    shape: Shape,
-    known: &Members,
-    lost: usize,
-) -> Result<Vec<u32>, AllocError>
-    ensures { IfOk result (λ rows. (p : Process) → p.known ≡ known.now → lost ≡ length (lost_of shape p) → rows.items ≡ rows_of shape p) }
+pub fn rows(alloc: Global, shape: Shape, known: &Members) -> Result<Vec<u32>, AllocError>
+    ensures { IfOk result (λ rows. (p : Process) → p.known ≡ known.now → rows.items ≡ rows_of shape p) }
 {
+    let lost = lost(alloc, shape, known)?;
     let mut rows = living_parity(alloc, shape, known)?;
-    rows.truncate(lost);
+    rows.truncate(lost.len());
     Ok(rows)
 }
 

@@ -143,12 +143,6 @@ impl Pages {
         let _pages = &self.pages;
     }
 
-    pub(crate) fn room(&self) -> u32
-        ensures { result ≡ self.now.room }
-    {
-        self.room
-    }
-
     // Takes a page out, if there is one.
     pub(crate) fn pop(&mut self) -> Option<Page>
         ensures none { IfNone result (made_in self.old ≡ 0) }

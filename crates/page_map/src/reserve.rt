@@ -7,14 +7,15 @@ use group_types::ByteList;
 use std::alloc::{AllocError, Global};
 
 impl Pages {
-    /// Makes the pages of the `len` addresses from `at` on that aren't there, all zero.
+    /// Makes the pages of the `len` addresses from `at` on that aren't there, all zero, where no room was made for others.
     pub fn reserve(&mut self, at: u32, len: u32) -> Result<(), AllocError>
-        requires { at + len ≤ self.old.blocks * self.old.block }
+        requires within { at + len ≤ self.old.blocks * self.old.block }
+        requires room { self.old.room ≡ 0 }
         ensures pages { OnOk result (MakesZeros self.old self.new at len) }
         ensures there { OnOk result (HasPages self.new at len) }
         ensures bytes { (a : ℕ) → byte_in self.new a ≡ byte_in self.old a }
         ensures rising { OnOk result (IsStrictlyIncreasing (numbers_in self.new)) }
-        ensures room { OnOk result (self.new.room ≡ self.old.room) }
+        ensures room { OnOk result (self.new.room ≡ 0) }
         ensures dimensions { SameDimensions self.old self.new }
         ensures err { OnErr result (self.new ≡ self.old) }
         ensures succeeds { HasPages self.old at len → IsOk result }
@@ -27,18 +28,18 @@ impl Pages {
     }
 
     fn make_missing(&mut self, at: u32, len: u32) -> Result<(), AllocError>
-        requires { at + len ≤ self.old.blocks * self.old.block }
+        requires within { at + len ≤ self.old.blocks * self.old.block }
+        requires room { self.old.room ≡ 0 }
         ensures pages { OnOk result (MakesZeros self.old self.new at len) }
         ensures there { OnOk result (HasPages self.new at len) }
         ensures bytes { (a : ℕ) → byte_in self.new a ≡ byte_in self.old a }
         ensures rising { OnOk result (IsStrictlyIncreasing (numbers_in self.new)) }
-        ensures room { OnOk result (self.new.room ≡ self.old.room) }
+        ensures room { OnOk result (self.new.room ≡ 0) }
         ensures dimensions { SameDimensions self.old self.new }
         ensures err { OnErr result (self.new ≡ self.old) }
     {
         let fresh = self.missing(at, len)?;
-        let room = self.room().checked_add(fresh.made()).ok_or(AllocError)?;
-        self.make_room(room)?;
+        self.make_room(fresh.made())?;
         self.add_all(fresh);
         self.numbers_rise();
         Ok(())

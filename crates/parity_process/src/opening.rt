@@ -106,7 +106,7 @@ impl Plan {
     {
         let known = service.known();
         let lost = lost(alloc, service.shape(), &known)?;
-        let rows = rows(alloc, service.shape(), &known, lost.len())?;
+        let rows = rows(alloc, service.shape(), &known)?;
         Ok(Plan { lost, rows })
     }
 }

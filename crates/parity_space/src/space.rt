@@ -31,7 +31,7 @@ impl Model for ParitySpace {
 
     ghost view = { λ s. space_in s.shape s.number s.pages };
 
-    ghost invariant = { λ s. ArePrepared s.shape s.number s.coefs.items × (s.pages.blocks ≡ s.shape.blocks) × (s.pages.block ≡ s.shape.block) };
+    ghost invariant = { λ s. ArePrepared s.shape s.number s.coefs.items × (s.pages.blocks ≡ s.shape.blocks) × (s.pages.block ≡ s.shape.block) × (s.pages.room ≡ 0) };
 }
 
 impl ParitySpace {

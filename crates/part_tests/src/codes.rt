@@ -4,7 +4,7 @@ ghost use Rattle.group_types.specs.Pieces.{numbers_of};
 ghost use Rattle.erasure_code.specs.Columns.{AreDifferent, IsEachBelow};
 
 use crate::fixtures::{same, shape};
-use cauchy_code::{add_columns, add_delta, decode};
+use cauchy_code::{add_delta, decode};
 use group_types::{PieceList, Shape};
 use std::alloc::{AllocError, Global};
 
@@ -17,15 +17,6 @@ fn three_bytes_in_two_parity_processes(rt: HostRuntime) {
         add_delta(2, 1, d, &byte, &mut p1);
     }
     same(&rt, (p0, p1), ([0xB2], [0x01]));
-}
-
-// The first bytes of the columns are 1, 2 and 3.
-#[test]
-fn three_columns_in_two_parity_processes(rt: HostRuntime) {
-    let columns = data(rt.alloc(), &[0, 1, 2]).expect(&rt, "columns");
-    let (mut p0, mut p1) = ([0u8; 16], [0u8; 16]);
-    add_columns(2, 0, 1, &columns, &mut p0, &mut p1);
-    same(&rt, (p0[0], p1[0]), (0xB2, 0x01));
 }
 
 // The column of partition `d`, whose first byte is d + 1.

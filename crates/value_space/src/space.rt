@@ -27,7 +27,7 @@ impl Model for ValueSpace {
 
     ghost view = { λ s. space_in s.shape s.pages };
 
-    ghost invariant = { λ s. (s.pages.blocks ≡ s.shape.blocks) × (s.pages.block ≡ s.shape.block) };
+    ghost invariant = { λ s. (s.pages.blocks ≡ s.shape.blocks) × (s.pages.block ≡ s.shape.block) × (s.pages.room ≡ 0) };
 }
 
 impl ValueSpace {
@@ -103,6 +103,7 @@ fn add(pages: &mut Pages, at: u32, bytes: &[u8])
     ensures bytes { bytes_of pages.new ≡ added_at at bytes.now (bytes_of pages.old) }
     ensures made { numbers_in pages.new ≡ numbers_in pages.old }
     ensures dimensions { SameDimensions pages.old pages.new }
+    ensures room { pages.new.room ≡ pages.old.room }
 {
     pages.add(at, None, bytes);
 }
