@@ -53,4 +53,3 @@ answered-one ways told before after request answered = record {
   bytes = let text : List ℕ = answer_text request answered.calls in
       subst (Appends before.held after.held) (sym (append-nil (text ++ []) ∙ append-nil text)) answered.bytes;
 }
-

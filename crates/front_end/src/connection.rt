@@ -131,10 +131,21 @@ impl Connection {
         if answer_at(alloc, caller, sink, clock, request, self.keys)? {
             self.answered += 1;
             self.keys = 0;
+            self.give_back(alloc);
         } else {
             self.keys += 1;
         }
         Ok(())
+    }
+
+    // Gives back the memory of the requests once all are answered.
+    fn give_back(&mut self, alloc: Global)
+        ensures { self.new ≡ self.old }
+    {
+        if self.answered == self.given.requests().len() {
+            self.given = Requests::from(Vec::new(alloc));
+            self.answered = 0;
+        }
     }
 
     /// How the connection ends by what was read, if it does, once all of it is answered: a line that is too long is told.

@@ -28,7 +28,15 @@ pub fn serve_connection<C: Caller, S: Source, K: Sink, T: Clock>(
 {
     let mut connection = Connection::new(alloc);
     let mut room = vec![in alloc; 0; PIECE]?;
-    serve_pieces(alloc, caller, source, sink, clock, &mut connection, &mut room)
+    serve_pieces(
+        alloc,
+        caller,
+        source,
+        sink,
+        clock,
+        &mut connection,
+        &mut room,
+    )
 }
 
 /// Reads piece by piece into `room`, and answers each before the next is read.
