@@ -18,14 +18,14 @@ unsafe impl Send for Past {}
 
 impl Past {
     /// Nothing was moved.
-    pub(crate) fn new() -> Past
+    pub fn new() -> Past
         ensures { result.bytes ≡ [] }
     {
         Past {}
     }
 
     /// The piece was moved.
-    pub(crate) fn add(&mut self, _piece: &[u8])
+    pub fn add(&mut self, _piece: &[u8])
         ensures { self.new.bytes ≡ self.old.bytes ++ _piece.now }
     {}
 }

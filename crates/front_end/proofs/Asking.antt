@@ -1,4 +1,4 @@
-use Rattle.std.proofs.Common.{◌≡◌, ℕ, ◌+◌, min, map, Bool, true, false, List, [], ◌∷◌, ◌++◌, length, take, Option, Result, Ok, Err, OnOk, MatchResult, MatchBool, if◌then◌else◌, append-nil, refl, sym, ap, ◌∙◌, subst, arith}
+use Rattle.std.proofs.Common.{◌≡◌, ℕ, ◌+◌, min, map, Bool, true, false, List, [], ◌∷◌, ◌++◌, length, take, Option, Result, OnOk, MatchResult, MatchBool, if◌then◌else◌, append-nil, refl, sym, ap, ◌∙◌, subst, arith}
 use Rattle.edge_io.proofs.Moving.{Appends-trans}
 use Rattle.std.proofs.Math.Seq.{take-append-add}
 use Rattle.std.proofs.lemmas.List.{take-append-le, take_min}
@@ -58,46 +58,6 @@ answered-stop ways told before after with_cas key keys first = record {
   bytes = subst (λ (b : Bool). Appends before.held after.held (key_text with_cas key first.call ++ (if b then get_text with_cas keys [] else []))) first.replied_is
       (subst (Appends before.held after.held) (sym (append-nil (key_text with_cas key first.call))) first.bytes);
 }
-
--- the first keys of a get were asked, so what comes of the rest comes of the whole
-pub record AreAsked {C : Type 0} (ways : Ways C) (told : Option ℕ) (before now : Stand C) (with_cas : Bool) (keys rest : List (List ℕ)) : Type 0 where
-  pub answered : (after : Stand C) → IsAnswered ways told now after (Get rest with_cas) → IsAnswered ways told before after (Get keys with_cas)
-  pub broken : (after : Stand C) (fault : ConnectionFault) → IsBroken ways told now after fault (Get rest with_cas) → IsBroken ways told before after fault (Get keys with_cas)
-
-pub asked-none : {C : Type 0} (ways : Ways C) (told : Option ℕ) (before : Stand C) (with_cas : Bool) (keys rest : List (List ℕ)) → rest ≡ keys → AreAsked ways told before before with_cas keys rest
-asked-none ways told before with_cas keys rest same = record {
-  answered = λ after answered. subst (λ (ks : List (List ℕ)). IsAnswered ways told before after (Get ks with_cas)) same answered;
-  broken = λ after fault broken. subst (λ (ks : List (List ℕ)). IsBroken ways told before after fault (Get ks with_cas)) same broken;
-}
-
-pub asked-more : {C : Type 0} (ways : Ways C) (told : Option ℕ) (before now next : Stand C) (with_cas : Bool) (keys rest : List (List ℕ)) (key : List ℕ) (after_it : List (List ℕ))
-    → AreAsked ways told before now with_cas keys rest → rest ≡ key ∷ after_it → (replied : Bool) → replied ≡ true → IsKeyAnswered ways told now next with_cas key replied → AreAsked ways told before next with_cas keys after_it
-asked-more ways told before now next with_cas keys rest key after_it asked is replied replies first =
-    let here : IsKeyAnswered ways told now next with_cas key true = subst (λ (b : Bool). IsKeyAnswered ways told now next with_cas key b) replies first in
-    record {
-      answered = λ after answered. asked.answered after (subst (λ (ks : List (List ℕ)). IsAnswered ways told now after (Get ks with_cas)) (sym is) (answered-more ways told now next after with_cas key after_it here answered));
-      broken = λ after fault broken. asked.broken after fault (subst (λ (ks : List (List ℕ)). IsBroken ways told now after fault (Get ks with_cas)) (sym is) (broken-more ways told now next after fault with_cas key after_it here broken));
-    }
-
-pub asked-stop : {C : Type 0} (ways : Ways C) (told : Option ℕ) (before now after : Stand C) (with_cas : Bool) (keys rest : List (List ℕ)) (key : List ℕ) (after_it : List (List ℕ))
-    → AreAsked ways told before now with_cas keys rest → rest ≡ key ∷ after_it → (replied : Bool) → replied ≡ false → IsKeyAnswered ways told now after with_cas key replied → IsAnswered ways told before after (Get keys with_cas)
-asked-stop ways told before now after with_cas keys rest key after_it asked is replied stops first =
-    asked.answered after (subst (λ (ks : List (List ℕ)). IsAnswered ways told now after (Get ks with_cas)) (sym is)
-    (answered-stop ways told now after with_cas key after_it (subst (λ (b : Bool). IsKeyAnswered ways told now after with_cas key b) stops first)))
-
-pub asked-broken : {C : Type 0} (ways : Ways C) (told : Option ℕ) (before now after : Stand C) (fault : ConnectionFault) (with_cas : Bool) (keys rest : List (List ℕ)) (key : List ℕ) (after_it : List (List ℕ))
-    → AreAsked ways told before now with_cas keys rest → rest ≡ key ∷ after_it → ((others : List (List ℕ)) → IsBroken ways told now after fault (Get (key ∷ others) with_cas)) → IsBroken ways told before after fault (Get keys with_cas)
-asked-broken ways told before now after fault with_cas keys rest key after_it asked is broken =
-    asked.broken after fault (subst (λ (ks : List (List ℕ)). IsBroken ways told now after fault (Get ks with_cas)) (sym is) (broken after_it))
-
--- what comes of the rest of a get comes of the whole
-pub asked-rest : {C : Type 0} (ways : Ways C) (told : Option ℕ) (before now after : Stand C) (with_cas : Bool) (keys rest by : List (List ℕ)) (result : Result (Unit {0}) ConnectionFault)
-    → AreAsked ways told before now with_cas keys rest → rest ≡ by → MatchResult result (λ _. IsAnswered ways told now after (Get by with_cas)) (λ fault. IsBroken ways told now after fault (Get by with_cas))
-    → MatchResult result (λ _. IsAnswered ways told before after (Get keys with_cas)) (λ fault. IsBroken ways told before after fault (Get keys with_cas))
-asked-rest ways told before now after with_cas keys rest by (Ok _) asked is answered =
-    asked.answered after (subst (λ (ks : List (List ℕ)). IsAnswered ways told now after (Get ks with_cas)) (sym is) answered)
-asked-rest ways told before now after with_cas keys rest by (Err fault) asked is broken =
-    asked.broken after fault (subst (λ (ks : List (List ℕ)). IsBroken ways told now after fault (Get ks with_cas)) (sym is) broken)
 
 -- a get of no key
 pub asked-nothing : {C : Type 0} (ways : Ways C) (told : Option ℕ) (at : C) (held now : List ℕ) (with_cas : Bool) (keys : List (List ℕ)) (text : List ℕ) (result : Result (Unit {0}) ConnectionFault)

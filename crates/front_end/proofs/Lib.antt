@@ -3,4 +3,5 @@ pub mod Asking
 pub mod Handing
 pub mod Piecing
 pub mod Serving
+pub mod Stepping
 pub mod Turning

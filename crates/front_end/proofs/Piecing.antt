@@ -10,12 +10,13 @@ use Rattle.memc_proto.specs.Text.{too_long_text}
 use Rattle.memc_proto.specs.declared.request.Request.{Request}
 use Rattle.front_end.specs.Answers.{Stand, stand, AreAnswered, AreHalted}
 use Rattle.front_end.specs.Calls.{Ways}
-use Rattle.front_end.specs.Faults.{HasSinkCause}
-use Rattle.front_end.specs.Piece.{IsServed}
+use Rattle.front_end.specs.Faults.{HasSinkCause, IsOfSink}
+use Rattle.front_end.specs.Progress.{IsClosed}
+use Rattle.front_end.specs.Piece.{IsServed, HasTaken}
 use Rattle.front_end.specs.declared.end.ConnectionFault.{ConnectionFault}
 use Rattle.front_end.specs.declared.end.ConnectionFault.TheVariants.{ReadFault, WriteFault, Want}
 use Rattle.front_end.specs.declared.end.End.{End}
-use Rattle.front_end.specs.declared.end.End.TheVariants.{Quit, LineTooLong}
+use Rattle.front_end.specs.declared.end.End.TheVariants.{Quit, Ended, Cut, LineTooLong, Worn}
 use Rattle.front_end.proofs.Turning.{answered-append}
 
 -- a fault came while the requests of a piece were answered, or behind them
@@ -36,44 +37,58 @@ answered-then ways told before at held now requests more answered bytes =
     subst (λ (rs : List Request). AreAnswered ways told before (stand at now) rs more) (append-nil requests)
     (answered-append ways told before (stand at held) (stand at now) requests [] more answered (record { turns = []; asked = refl; whole = tt; leads = refl; bytes = bytes }))
 
--- the write of the text at a line that is too long failed
-pub halted-closing : {C : Type 0} (ways : Ways C) (told : Option ℕ) (before : Stand C) (at : C) (held now : List ℕ) (fault : ConnectionFault) (requests : List Request) (rest text : List ℕ)
-    → AreAnswered ways told before (stand at held) requests [] → IsTooLong rest → text ≡ too_long_text → HasWritten held now text → AreHalted ways told before (stand at now) fault [] requests rest
-halted-closing ways told before at held now fault requests rest text answered long is part =
-    inr (take part.count text, inr (long, (part.count, ap (λ (bs : List ℕ). take part.count bs) is)), answered-then ways told before at held now requests (take part.count text) answered part.bytes)
-
 -- whether one of the requests is a quit, where no earlier one is
 quit-of : (earlier given : List Request) (b : Bool) → list_any is_quit earlier ≡ false → b ≡ list_any is_quit given → list_any is_quit (earlier ++ given) ≡ b
 quit-of earlier given b none is = list_any-append is_quit earlier given ∙ ap (λ (x : Bool). x || list_any is_quit given) none ∙ sym is
 
-pub served-quit : {C : Type 0} (ways : Ways C) (told : Option ℕ) (before after : Stand C) (kept : Kept) (input : List ℕ) (earlier : List Request) (piece : List ℕ) (given : List Request) (ends : Bool)
-    → HasRead kept (input ++ piece) (earlier ++ given) → AreAnswered ways told before after given [] → list_any is_quit earlier ≡ false → ends ≡ list_any is_quit given → ends ≡ true
-    → IsServed ways told before after kept input earlier piece (Ok (Some Quit))
-served-quit ways told before after kept input earlier piece given ends has_read answered none is yes_quit = (record { given = given; has_read = has_read }, answered, quit-of earlier given ends none is ∙ yes_quit)
+-- the requests of a piece were answered, and the connection was closed or goes on
+pub served-closed : {C : Type 0} (ways : Ways C) (told : Option ℕ) (before : Stand C) (at : C) (held now : List ℕ) (kept : Kept) (input : List ℕ) (earlier : List Request) (piece : List ℕ) (given : List Request) (quits : Bool) (result : Result (Option End) ConnectionFault)
+    → (has_read : HasRead kept (input ++ piece) (earlier ++ given)) → list_any is_quit earlier ≡ false → quits ≡ list_any is_quit given → AreAnswered ways told before (stand at held) given []
+    → (list_any is_quit (earlier ++ given) ≡ quits → IsClosed quits has_read.rest held now result) → IsServed ways told before (stand at now) kept input earlier piece result
+served-closed {C} ways told before at held now kept input earlier piece given quits result has_read none quits_is answered closing = by_result result (closing quit)
+  where
+    quit : list_any is_quit (earlier ++ given) ≡ quits
+    quit = quit-of earlier given quits none quits_is
 
--- what a reader says of a line that is too long, where no request is a quit
-pub is_long : (earlier given : List Request) (ends long : Bool) (P : Type 0) → list_any is_quit earlier ≡ false → ends ≡ list_any is_quit given → ends ≡ false → (list_any is_quit (earlier ++ given) ≡ false → (IsTrue long ↔ P)) → long ≡ true → P
-is_long earlier given ends long P none is no_quit iff yes_long = (iff (quit-of earlier given ends none is ∙ no_quit)).0 yes_long
+    taken : HasTaken kept input earlier piece
+    taken = record { given = given; has_read = has_read }
 
-not_long : (long : Bool) (P : Type 0) → (IsTrue long ↔ P) → long ≡ false → ¬ P
-not_long true P iff is holds = cc
-not_long false P iff is holds = let e : false ≡ true = iff.1 holds in cc
+    stays : now ≡ held → AreAnswered ways told before (stand at now) given []
+    stays same = subst (λ (bs : List ℕ). AreAnswered ways told before (stand at bs) given []) (sym same) answered
 
-pub served-long : {C : Type 0} (ways : Ways C) (told : Option ℕ) (before : Stand C) (at : C) (held now : List ℕ) (kept : Kept) (input : List ℕ) (earlier : List Request) (piece : List ℕ) (given : List Request) (ends long : Bool) (text : List ℕ)
-    → (has_read : HasRead kept (input ++ piece) (earlier ++ given)) → AreAnswered ways told before (stand at held) given [] → list_any is_quit earlier ≡ false → ends ≡ list_any is_quit given → ends ≡ false
-    → (list_any is_quit (earlier ++ given) ≡ false → (IsTrue long ↔ IsTooLong has_read.rest)) → long ≡ true → text ≡ too_long_text → Appends held now text
-    → IsServed ways told before (stand at now) kept input earlier piece (Ok (Some LineTooLong))
-served-long ways told before at held now kept input earlier piece given ends long text has_read answered none is no_quit iff yes_long text_is bytes =
-    let goes = quit-of earlier given ends none is ∙ no_quit in
-    (record { given = given; has_read = has_read }, answered-then ways told before at held now given too_long_text answered (subst (Appends held now) text_is bytes), goes, (iff goes).0 yes_long)
+    halted : (fault : ConnectionFault) → IsTooLong has_read.rest → HasWritten held now too_long_text → AreHalted ways told before (stand at now) fault [] given has_read.rest
+    halted fault long part = inr (take part.count too_long_text, inr (long, (part.count, refl)), answered-then ways told before at held now given (take part.count too_long_text) answered part.bytes)
 
-pub served-on : {C : Type 0} (ways : Ways C) (told : Option ℕ) (before after : Stand C) (kept : Kept) (input : List ℕ) (earlier : List Request) (piece : List ℕ) (given : List Request) (ends long : Bool)
-    → (has_read : HasRead kept (input ++ piece) (earlier ++ given)) → AreAnswered ways told before after given [] → list_any is_quit earlier ≡ false → ends ≡ list_any is_quit given → ends ≡ false
-    → (list_any is_quit (earlier ++ given) ≡ false → (IsTrue long ↔ IsTooLong has_read.rest)) → long ≡ false → IsServed ways told before after kept input earlier piece (Ok None)
-served-on ways told before after kept input earlier piece given ends long has_read answered none is no_quit iff no_long =
-    let goes = quit-of earlier given ends none is ∙ no_quit in
-    (record { given = given; has_read = has_read }, answered, goes, not_long long (IsTooLong has_read.rest) (iff goes) no_long)
+    by_result : (result : Result (Option End) ConnectionFault) → IsClosed quits has_read.rest held now result → IsServed ways told before (stand at now) kept input earlier piece result
+    by_result (Ok None) closed = (taken, stays closed.2, quit ∙ closed.0, closed.1)
+    by_result (Ok (Some Quit)) closed = (taken, stays closed.1, quit ∙ closed.0)
+    by_result (Ok (Some LineTooLong)) closed = (taken, answered-then ways told before at held now given too_long_text answered closed.2, quit ∙ closed.0, closed.1)
+    by_result (Ok (Some Ended)) closed = absurd closed
+    by_result (Ok (Some Cut)) closed = absurd closed
+    by_result (Ok (Some Worn)) closed = absurd closed
+    by_result (Err ReadFault) closed = absurd closed
+    by_result (Err WriteFault) closed = (taken, halted WriteFault closed.1 closed.2)
+    by_result (Err Want) closed = inr (taken, halted Want closed.1 closed.2)
 
--- the requests that a reader gave, by another name
-pub read-as : (kept : Kept) (input : List ℕ) (earlier fed given : List Request) → HasRead kept input (earlier ++ fed) → given ≡ fed → HasRead kept input (earlier ++ given)
-read-as kept input earlier fed given has_read is = subst (λ (rs : List Request). HasRead kept input (earlier ++ rs)) (sym is) has_read
+-- the write of the text at a line that is too long failed
+pub closed-fault : (before now : List ℕ) (faults faults_now : ℕ) (quits : Bool) (result : Result (Option End) ConnectionFault) (fault : ConnectionFault) (rest text : List ℕ) → quits ≡ false → IsTooLong rest → text ≡ too_long_text
+    → HasWritten before now text → HasSinkCause {T = Unit {0}} faults faults_now (Err fault) → IsErrAnd result (λ e. e ≡ fault) → IsClosed quits rest before now result
+closed-fault before now faults faults_now quits (Ok _) fault rest text no_quit long is part cause same = absurd same
+closed-fault before now faults faults_now quits (Err e) fault rest text no_quit long is part cause same = subst (λ (f : ConnectionFault). IsClosed quits rest before now (Err f)) (sym same) (by fault cause.cause)
+  where
+    by : (f : ConnectionFault) → IsOfSink faults faults_now f → IsClosed quits rest before now (Err f)
+    by ReadFault of = absurd of
+    by WriteFault of = (no_quit, long, subst (HasWritten before now) is part)
+    by Want of = (no_quit, long, subst (HasWritten before now) is part)
+
+pub closed-told : (before now text : List ℕ) → text ≡ too_long_text → Appends before now text → Appends before now too_long_text
+closed-told before now text is whole = subst (Appends before now) is whole
+
+-- what a reader read, by another name of what it keeps
+pub read-as : (kept now : Kept) (input : List ℕ) (requests : List Request) → now ≡ kept → HasRead kept input requests → HasRead now input requests
+read-as kept now input requests same has_read = subst (λ (k : Kept). HasRead k input requests) (sym same) has_read
+
+-- a test that says no
+pub not-so : (test : Bool) (P : Type 0) → (IsTrue test ↔ P) → test ≡ false → ¬ P
+not-so true P iff is holds = cc
+not-so false P iff is holds = let e : false ≡ true = iff.1 holds in cc

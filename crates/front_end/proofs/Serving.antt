@@ -1,4 +1,4 @@
-use Rattle.std.proofs.Common.{◌≡◌, ℕ, ◌+◌, ◌<◌, ◌≤◌, ◌↔◌, IsTrue, Bool, true, false, List, [], ◌∷◌, ◌++◌, length, take, Option, None, Some, Result, Ok, Err, append-nil, length-append, append_assoc, refl, sym, ap, ◌∙◌, subst, inl, inr, arith}
+use Rattle.std.proofs.Common.{◌≡◌, ℕ, ◌+◌, ◌<◌, ◌≤◌, false, List, [], ◌∷◌, ◌++◌, length, take, Option, None, Some, Result, Ok, Err, append-nil, length-append, append_assoc, refl, sym, ap, ◌∙◌, subst, inl, inr, arith}
 use Rattle.std.specs.List.{list_any}
 use Rattle.std.specs.Result.{IsErrAnd}
 use Rattle.edge_io.specs.Moving.{Input, IsEnded, Takes}
@@ -28,8 +28,8 @@ pub record GoesOn {C : Type 0} (ways : Ways C) (told : Option ℕ) (input input_
   pub counted : length read ≡ count
 
 -- nothing was read
-pub goes_on-none : {C : Type 0} (ways : Ways C) (told : Option ℕ) (input : Input) (at : Stand C) (kept : Kept) → HasRead kept [] [] → GoesOn ways told input input at at kept 0
-goes_on-none ways told input at kept has_read = record {
+pub goes_on-none : {C : Type 0} (ways : Ways C) (told : Option ℕ) (input : Input) (at : Stand C) (kept : Kept) (count : ℕ) → HasRead kept [] [] → count ≡ 0 → GoesOn ways told input input at at kept count
+goes_on-none ways told input at kept count has_read zero = record {
   read = [];
   consumed = Takes-none input;
   requests = [];
@@ -37,7 +37,7 @@ goes_on-none ways told input at kept has_read = record {
   no_quit = refl;
   short = λ long. let over : 32768 < length has_read.rest = long.long in let none : [] ≡ has_read.rest = has_read.reads.0 in omega (arith, over, ap length none);
   answered = answered-none ways told at;
-  counted = refl;
+  counted = sym zero;
 }
 
 is_open : {C : Type 0} (ways : Ways C) (told : Option ℕ) (input input_now : Input) (before now : Stand C) (kept : Kept) (count : ℕ) (goes : GoesOn ways told input input_now before now kept count) → IsOpen goes.read goes.requests goes.has_read.rest
@@ -219,11 +219,6 @@ served-early ways told input at kept (Err e) has_read is = subst (λ (f : Connec
   reads = has_read.reads;
   halted = inr ([], inl refl, answered-none ways told at);
 })
-
--- a test that says no
-pub not_at_start : (test : Bool) (P : Type 0) → (IsTrue test ↔ P) → test ≡ false → ¬ P
-not_at_start true P iff is holds = cc
-not_at_start false P iff is holds = let e : false ≡ true = iff.1 holds in cc
 
 -- what a piece came to, by what was answered
 pub served-some : {C : Type 0} (ways : Ways C) (told : Option ℕ) (input middle input_now : Input) (before now after : Stand C) (kept next : Kept) (count : ℕ) (goes : GoesOn ways told input middle before now kept count) (piece : List ℕ)

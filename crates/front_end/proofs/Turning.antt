@@ -2,10 +2,9 @@ use Rattle.std.proofs.Common.{◌≡◌, ℕ, List, [], ◌∷◌, ◌++◌, Opt
 use Rattle.edge_io.proofs.Moving.{Appends-nil, Appends-trans}
 use Rattle.edge_io.specs.Moving.{Appends}
 use Rattle.memc_proto.specs.declared.request.Request.{Request}
-use Rattle.front_end.specs.Answers.{Stand, IsAnswered, IsBroken, AreAnswered, AreBroken}
+use Rattle.front_end.specs.Answers.{Stand, IsAnswered, AreAnswered}
 use Rattle.front_end.specs.Calls.{Call, Ways, Leads}
 use Rattle.front_end.specs.Turns.{Turn, AreWhole, answer_text, calls_in, text_in, requests_in}
-use Rattle.front_end.specs.declared.end.ConnectionFault.{ConnectionFault}
 
 leads-append : {C : Type 0} (ways : Ways C) (before middle after : C) (calls more : List Call) → Leads ways before calls middle → Leads ways middle more after → Leads ways before (calls ++ more) after
 leads-append ways before middle after [] more first then = subst (λ (c : _). Leads ways c more after) first then
@@ -45,7 +44,7 @@ answered-append ways told before middle after requests others more first then = 
       (Appends-trans before.held middle.held after.held (text_in first.turns ++ []) (text_in then.turns ++ more) first.bytes then.bytes);
 }
 
-answered-one : {C : Type 0} (ways : Ways C) (told : Option ℕ) (before after : Stand C) (request : Request) → IsAnswered ways told before after request → AreAnswered ways told before after (request ∷ []) []
+pub answered-one : {C : Type 0} (ways : Ways C) (told : Option ℕ) (before after : Stand C) (request : Request) → IsAnswered ways told before after request → AreAnswered ways told before after (request ∷ []) []
 answered-one ways told before after request answered = record {
   turns = record { request = request; calls = answered.calls } ∷ [];
   asked = refl;
@@ -53,37 +52,4 @@ answered-one ways told before after request answered = record {
   leads = subst (λ (calls : List Call). Leads ways before.caller calls after.caller) (sym (append-nil answered.calls)) answered.leads;
   bytes = let text : List ℕ = answer_text request answered.calls in
       subst (Appends before.held after.held) (sym (append-nil (text ++ []) ∙ append-nil text)) answered.bytes;
-}
-
--- some of the requests were answered, and these are the rest
-pub record AnsweredUpTo {C : Type 0} (ways : Ways C) (told : Option ℕ) (before now : Stand C) (requests rest : List Request) : Type 0 where
-  pub done : List Request
-  pub all : done ++ rest ≡ requests
-  pub answered : AreAnswered ways told before now done []
-
-pub up_to-none : {C : Type 0} (ways : Ways C) (told : Option ℕ) (at : Stand C) (requests : List Request) → AnsweredUpTo ways told at at requests requests
-up_to-none ways told at requests = record { done = []; all = refl; answered = answered-none ways told at }
-
-pub up_to-more : {C : Type 0} (ways : Ways C) (told : Option ℕ) (before now after : Stand C) (requests rest others : List Request) (request : Request)
-    → AnsweredUpTo ways told before now requests rest → rest ≡ request ∷ others → IsAnswered ways told now after request → AnsweredUpTo ways told before after requests others
-up_to-more ways told before now after requests rest others request up_to is answered = record {
-  done = up_to.done ++ request ∷ [];
-  all = append_assoc up_to.done (request ∷ []) others ∙ ap (λ (rs : List Request). up_to.done ++ rs) (sym is) ∙ up_to.all;
-  answered = answered-append ways told before now after up_to.done (request ∷ []) [] up_to.answered (answered-one ways told now after request answered);
-}
-
-pub up_to-all : {C : Type 0} (ways : Ways C) (told : Option ℕ) (before now : Stand C) (requests rest : List Request) → AnsweredUpTo ways told before now requests rest → rest ≡ [] → AreAnswered ways told before now requests []
-up_to-all ways told before now requests rest up_to none =
-    subst (λ (rs : List Request). AreAnswered ways told before now rs []) (sym (append-nil up_to.done) ∙ ap (λ (rs : List Request). up_to.done ++ rs) (sym none) ∙ up_to.all) up_to.answered
-
-pub up_to-broken : {C : Type 0} (ways : Ways C) (told : Option ℕ) (before now after : Stand C) (fault : ConnectionFault) (requests rest others : List Request) (request : Request)
-    → AnsweredUpTo ways told before now requests rest → rest ≡ request ∷ others → IsBroken ways told now after fault request → AreBroken ways told before after fault [] requests
-up_to-broken ways told before now after fault requests rest others request up_to is broken = record {
-  next = up_to.done;
-  request = request;
-  others = others;
-  given = sym (ap (λ (rs : List Request). up_to.done ++ rs) (sym is) ∙ up_to.all);
-  middle = now;
-  answered = up_to.answered;
-  broken = broken;
 }

@@ -3,4 +3,5 @@ pub mod Calls
 pub mod Connection
 pub mod Faults
 pub mod Piece
+pub mod Progress
 pub mod Turns

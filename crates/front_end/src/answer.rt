@@ -1,10 +1,11 @@
-ghost use Rattle.std.specs.Prelude.{◌≡◌, [], ◌∷◌, IfOk, OnOk, OnErr};
+ghost use Rattle.std.specs.Prelude.{◌≡◌, [], ◌∷◌, drop, false, IfOk, OnOk, OnErr};
 ghost use Rattle.edge_io.specs.Moving.{Appends};
 ghost use Rattle.edge_io.specs.Writing.{HasWritten};
 ghost use Rattle.memc_proto.specs.Text.{end_text};
 ghost use Rattle.front_end.specs.Answers.{stand, ComesOf, ComesOfKey, IsMade};
 ghost use Rattle.front_end.specs.Calls.{ways_of};
 ghost use Rattle.front_end.specs.Faults.{HasSinkCause};
+ghost use Rattle.front_end.specs.Progress.{is_get, ComesOfStep};
 ghost use Rattle.front_end.specs.Turns.{is_reply, last_text};
 
 use crate::caller::Caller;
@@ -17,7 +18,7 @@ use memc_proto::{
 use memc_table::{Act, Op};
 use std::alloc::{AllocError, Global};
 
-/// Answers one request: makes its calls, and writes the text of each behind it.
+/// Answers one request that is no get: makes its call, and writes the text behind it.
 pub(crate) fn answer_request<C: Caller, K: Sink, T: Clock>(
     alloc: Global,
     caller: &mut C,
@@ -25,15 +26,14 @@ pub(crate) fn answer_request<C: Caller, K: Sink, T: Clock>(
     clock: &T,
     request: &Request,
 ) -> Result<(), ConnectionFault>
+    requires no_get { is_get request.now ≡ false }
     ensures answer { ComesOf (ways_of C.made C.failed C.kept) (T.moment clock.now)
         (stand caller.old (K.held sink.old)) (stand caller.new (K.held sink.new))
         request.now result }
     ensures cause { HasSinkCause (K.faults sink.old) (K.faults sink.new) result }
 {
     match request {
-        Request::Get { keys, with_cas } => {
-            answer_get(alloc, caller, sink, clock, keys.keys(), *with_cas)
-        }
+        Request::Get { .. } => unreachable!(),
         Request::Change { act, noreply } => {
             answer_change(alloc, caller, sink, clock, act, *noreply)
         }
@@ -67,28 +67,30 @@ fn answer_change<C: Caller, K: Sink, T: Clock>(
     write_end(alloc, sink, act.key(), false, end)
 }
 
-fn answer_get<C: Caller, K: Sink, T: Clock>(
+/// Asks the first of the keys that a get still asks, and says whether that was the rest of the get.
+pub(crate) fn answer_first<C: Caller, K: Sink, T: Clock>(
     alloc: Global,
     caller: &mut C,
     sink: &mut K,
     clock: &T,
     keys: &[Key],
     with_cas: bool,
-) -> Result<(), ConnectionFault>
-    ensures answer { ComesOf (ways_of C.made C.failed C.kept) (T.moment clock.now)
+) -> Result<bool, ConnectionFault>
+    ensures answer { ComesOfStep (ways_of C.made C.failed C.kept) (T.moment clock.now)
         (stand caller.old (K.held sink.old)) (stand caller.new (K.held sink.new))
-        (Request.Get keys.now with_cas) result }
+        (Request.Get keys.now with_cas) (Request.Get (drop 1 keys.now) with_cas) result }
     ensures cause { HasSinkCause (K.faults sink.old) (K.faults sink.new) result }
 {
-    let Some((last, first)) = keys.split_last() else {
-        return write_text(sink, end_of_items());
+    let Some((key, others)) = keys.split_first() else {
+        write_text(sink, end_of_items())?;
+        return Ok(true);
     };
-    'keys: for key in first {
-        if !answer_key(alloc, caller, sink, clock, key, with_cas)? {
-            return Ok(());
-        }
+    if others.is_empty() {
+        answer_last_key(alloc, caller, sink, clock, key, with_cas)?;
+        return Ok(true);
     }
-    answer_last_key(alloc, caller, sink, clock, last, with_cas)
+    let goes_on = answer_key(alloc, caller, sink, clock, key, with_cas)?;
+    Ok(!goes_on)
 }
 
 /// Makes the call on the last key of a get, and writes its text and what stands behind it at once.

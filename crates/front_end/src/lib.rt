@@ -6,10 +6,13 @@
 mod answer;
 mod answers;
 mod caller;
+mod connection;
 mod end;
 mod piece;
 mod serve;
+mod step;
 
 pub use caller::Caller;
+pub use connection::Connection;
 pub use end::{ConnectionFault, End};
 pub use serve::serve_connection;
