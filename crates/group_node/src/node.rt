@@ -1,4 +1,4 @@
-ghost use Rattle.std.specs.Prelude.{◌≡◌, ◌==◌, [], length, IfOk};
+ghost use Rattle.std.specs.Prelude.{◌≡◌, ◌==◌, [], length, IfOk, ◌-◌, ◌^◌, min};
 ghost use Rattle.group_types.specs.Lists.{at};
 ghost use Rattle.group_types.specs.Names as names;
 ghost use Rattle.group_types.specs.Names.{IsProcess};

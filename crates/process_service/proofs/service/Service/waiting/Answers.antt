@@ -1,4 +1,4 @@
-use Rattle.std.proofs.Common.{ℕ, ◌≡◌, ◌<◌, ◌+◌, ◌-◌, List, length, drop, get_or, ap, sym, ◌∙◌, arith}
+use Rattle.std.proofs.Common.{ℕ, ◌≡◌, ◌<◌, ◌+◌, ◌-◌, ◌^◌, List, length, drop, get_or, ap, sym, ◌∙◌, arith, min}
 use Rattle.std.proofs.lemmas.Grind.{common_steps}
 use Rattle.std.proofs.lemmas.List.Sums.{sum_by-drop_more}
 use Rattle.group_types.specs.Lists.{at}
@@ -27,5 +27,5 @@ partitions-preserved c =
     ∙ ap (λ (n : ℕ). length c.index.result.now.replica.log + waiting (drop n rs)) (back c.partitions.d c.partitions-test.true) in
     let was = c.partitions.invariant.all in
     let long = c.long.ensures in
-    let sum : c.saturating_add.result ≡ min (c.partitions.all + c.long.result) (2 ^ 64 - 1) = grind (arith, common_steps) in
+    let sum : c.saturating_add-all.result ≡ min (c.partitions.all + c.long.result) (2 ^ 64 - 1) = grind (arith, common_steps) in
     record { within = omega (arith, c.partitions.invariant.within); all = omega (arith, sum, step, was, long) }
