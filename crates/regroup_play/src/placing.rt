@@ -34,7 +34,12 @@ fn write_runs(alloc: Global, regroup: &Regroup, text: &mut Vec<u8>) -> Result<u6
 }
 
 /// Writes the runs of a partition's updates.
-fn write_partition(alloc: Global, regroup: &Regroup, partition: u32, text: &mut Vec<u8>) -> Result<u64, AllocError>
+fn write_partition(
+    alloc: Global,
+    regroup: &Regroup,
+    partition: u32,
+    text: &mut Vec<u8>,
+) -> Result<u64, AllocError>
     requires { partition < regroup.now.world.shape.k }
     ensures text { OnOk result (text.new.items ≡ text.old.items ++ places_text partition (at 0 regroup.now.bases partition) (at [] regroup.now.world.places partition)) }
     ensures count { IfOk result (λ count. count ≡ many_placed (at [] regroup.now.world.places partition)) }
@@ -42,5 +47,11 @@ fn write_partition(alloc: Global, regroup: &Regroup, partition: u32, text: &mut 
 {
     let runs = regroup.world().places(Partition(partition));
     with_base(regroup, partition, runs.len() as u64)?;
-    write_places(alloc, Partition(partition), regroup.base(Partition(partition)), runs, text)
+    write_places(
+        alloc,
+        Partition(partition),
+        regroup.base(Partition(partition)),
+        runs,
+        text,
+    )
 }

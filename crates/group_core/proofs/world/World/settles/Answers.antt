@@ -25,7 +25,7 @@ returns-in-Deliver c less =
     let n : ℕ = waiting c.node-in-Deliver.result.now.node.process.replicas in
     let here = c.node-in-Deliver.ensures.node ∙ ap (λ (v : World). node_of v c.in-Deliver.to) c.self.view_is in
     let few = subst (λ (e : Event). length (group_step w e).settled ≤ n) (sym c.in-Deliver.is)
-        (delivery-settles w n c.in-Deliver.from c.in-Deliver.to (ap (λ (x : Node). waiting x.process.replicas) here)) in
+    (delivery-settles w n c.in-Deliver.from c.in-Deliver.to (ap (λ (x : Node). waiting x.process.replicas) here)) in
     capped n c.waiting-in-Deliver.result (length (group_step w c.args.event.now).settled) c.waiting-in-Deliver.ensures (omega (arith, few)) less
 
 pub returns-in-Collect : goal.returns-in-Collect
