@@ -13,9 +13,9 @@ none long is = omega (arith, is)
 pub returns-in-Ask : goal.returns-in-Ask
 returns-in-Ask c less =
     let w = c.args.self.now in
-    let n : ℕ = waiting c.node-in-Ask.result.now.node.process.replicas in
-    let here = c.node-in-Ask.ensures.node ∙ ap (λ (v : World). node_of v c.in-Ask.at) c.self.view_is in
-    capped n c.waiting-in-Ask.result (length (group_step w c.args.event.now).settled) c.waiting-in-Ask.ensures
+    let n : ℕ = waiting c.node.result.now.node.process.replicas in
+    let here = c.node.ensures.node ∙ ap (λ (v : World). node_of v c.in-Ask.at) c.self.view_is in
+    capped n c.waiting.result (length (group_step w c.args.event.now).settled) c.waiting.ensures
     (subst (λ (e : Event). length (group_step w e).settled ≤ n + 1) (sym c.in-Ask.is)
     (ask-settles w c.in-Ask.caller n c.in-Ask.op c.in-Ask.at (ap (λ (x : Node). waiting x.process.replicas) here))) less
 
