@@ -6,10 +6,12 @@
 mod front;
 mod outbox;
 mod reading;
+mod try_edge;
 mod try_sink;
 mod try_source;
 
 pub use outbox::Outbox;
 pub use reading::Reading;
+pub use try_edge::TryEdge;
 pub use try_sink::TrySink;
 pub use try_source::TrySource;

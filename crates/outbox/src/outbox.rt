@@ -7,7 +7,7 @@ use std::alloc::{AllocError, Global};
 use std::marker::Model;
 
 /// The most memory that an outbox keeps while nothing waits in it, in bytes.
-const KEPT: usize = 4_096;
+const KEPT: usize = 2_048;
 
 /// What was written and is not sent yet: a sink with no fault but want of memory.
 #[derive(Drop)]
