@@ -1,8 +1,7 @@
 ghost use Rattle.std.specs.Prelude.{◌≡◌, ◌<◌, [], false};
 
 use crate::reading::Reading;
-use crate::try_sink::TrySink;
-use crate::try_source::TrySource;
+use crate::try_stream::TryStream;
 use edge_io::{Failed, Past};
 use std::io::{ErrorKind, Read, Write};
 
@@ -38,17 +37,28 @@ impl<X: Read + Write> TryEdge<X> {
     }
 }
 
-impl<X: Read> TrySource for TryEdge<X> {
-    ghost use Rattle.std.specs.Prelude.{◌≡◌, is_err, if◌then◌else◌};
-    ghost use Rattle.edge_io.specs.Faults.{HasCause, raised};
-    ghost use Rattle.edge_io.specs.Moving.{Input};
-    ghost use Rattle.outbox.specs.Trying.{IsWithin, TryTakes};
+impl<X: Read + Write> TryStream for TryEdge<X> {
+    ghost use Rattle.std.specs.Prelude.{◌≡◌, None};
+    ghost use Rattle.std.specs.Io.{WritesAtMost};
+    ghost use Rattle.std.specs.Io.KnownBytes.{WriteAppends};
+    ghost use Rattle.edge_io.specs.Faults.{HasCause};
+    ghost use Rattle.edge_io.specs.Moving.{Input, WriteMoves};
+    ghost use Rattle.outbox.specs.Trying.{IsWithin, TryConsumes, TryTakes};
 
-    ghost input = { λ s. record { taken = s.incoming.bytes; ended = s.ended; left = X.remaining s.inner } };
+    ghost input = { λ s. record { taken = s.incoming.bytes; ended = s.ended; left = None } };
+
+    ghost held = { λ s. s.outgoing.bytes };
 
     ghost faults = { λ s. s.faults };
 
-    fn try_read(&mut self, into: &mut [u8]) -> Result<Reading, Failed> {
+    fn try_read(&mut self, into: &mut [u8]) -> Result<Reading, Failed>
+        ensures bound { IsWithin result into.old into.new }
+        ensures bytes { TryTakes (record { taken = self.old.incoming.bytes; ended = self.old.ended; left = None })
+            (record { taken = self.new.incoming.bytes; ended = self.new.ended; left = None }) result into.new }
+        ensures inner { TryConsumes (X.remaining self.old.inner) (X.remaining self.new.inner) result into.new }
+        ensures held { self.new.outgoing.bytes ≡ self.old.outgoing.bytes }
+        ensures cause { HasCause self.old.faults self.new.faults result }
+    {
         'tries: for _ in 0..=RETRIES {
             match self.inner.read(into) {
                 Ok(n) => {
@@ -66,23 +76,12 @@ impl<X: Read> TrySource for TryEdge<X> {
         self.faults = self.faults.saturating_add(1);
         Err(Failed)
     }
-}
-
-impl<X: Write> TrySink for TryEdge<X> {
-    ghost use Rattle.std.specs.Prelude.{◌≡◌};
-    ghost use Rattle.std.specs.Io.{WritesAtMost};
-    ghost use Rattle.std.specs.Io.KnownBytes.{WriteAppends};
-    ghost use Rattle.edge_io.specs.Faults.{HasCause};
-    ghost use Rattle.edge_io.specs.Moving.{WriteMoves};
-
-    ghost held = { λ s. s.outgoing.bytes };
-
-    ghost faults = { λ s. s.faults };
 
     fn try_write(&mut self, piece: &[u8]) -> Result<usize, Failed>
         ensures bound { WritesAtMost result piece.now }
         ensures bytes { WriteMoves self.old.outgoing.bytes self.new.outgoing.bytes result piece.now }
         ensures inner { WriteAppends (X.contents self.old.inner) (X.contents self.new.inner) result piece.now }
+        ensures unread { (self.new.incoming.bytes ≡ self.old.incoming.bytes) × (self.new.ended ≡ self.old.ended) }
         ensures cause { HasCause self.old.faults self.new.faults result }
     {
         'tries: for _ in 0..=RETRIES {
