@@ -1,7 +1,3 @@
-ghost use Rattle.std.specs.Prelude.{◌≡◌, ℕ, IfErr, IfOk, OnErr};
-ghost use Rattle.edge_io.specs.Faults.{HasCause, HasCauseOf};
-ghost use Rattle.node_worker.specs.Served.{HasAccepted};
-ghost use Rattle.node_worker.specs.declared.fault.ServeFault.{ServeFault};
 
 use crate::hall::Hall;
 use crate::lane::Lane;
@@ -14,7 +10,7 @@ use std::io;
 use std::net::Net;
 use std::sync::Wait;
 use std::thread;
-use std::thread::{Scope, Threads};
+use std::thread::{Parker, Scope, Threads};
 use std::time::Duration;
 use tcp_edge::TcpEdge;
 
@@ -140,6 +136,7 @@ fn accept_all<R: Wait, N: Net>(
     hall: &Hall,
     connections: u64,
 ) -> Result<u64, Failed> {
+    let pause = Parker::new();
     let mut accepted = 0;
     'connections: for _ in rt.forever() {
         if connections != 0 && accepted == connections {
@@ -154,7 +151,7 @@ fn accept_all<R: Wait, N: Net>(
                 if hall.open() == 0 {
                     return Err(Failed);
                 }
-                thread::sleep(rt, Duration::from_millis(PUT_OFF));
+                pause.park_timeout(rt, Duration::from_millis(PUT_OFF));
             }
         }
     }

@@ -1,4 +1,4 @@
-use crate::client::{Client, Turn};
+use ready_client::{Client, Turn};
 use crate::lane::{Lane, WAKER};
 use edge_io::Clock;
 use front_end::Caller;

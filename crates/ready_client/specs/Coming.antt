@@ -1,5 +1,5 @@
 -- How far a connection has come that is served step by step.
-use Rattle.std.specs.Prelude.{ℕ, ◌≡◌, ◌≢◌, ◌+◌, ◌≤◌, ◌⊎◌, List, [], ◌++◌, length, Option, Some, None, Result}
+use Rattle.std.specs.Prelude.{ℕ, zero, suc, ◌≡◌, ◌≢◌, ◌+◌, ◌≤◌, ◌⊎◌, List, [], ◌++◌, length, Option, Some, None, Result, Ok, Err}
 use Rattle.std.specs.List.{list_any}
 use Rattle.edge_io.specs.Moving.{Input, Takes}
 use Rattle.memc_proto.specs.Reader.{Kept, HasRead}
@@ -12,6 +12,9 @@ use Rattle.front_end.specs.Progress.{Progress, HasStepped}
 use Rattle.front_end.specs.declared.end.ConnectionFault.{ConnectionFault}
 use Rattle.front_end.specs.declared.end.End.{End}
 use Rattle.front_end.proofs.Serving.{GoesOn}
+use Rattle.ready_client.specs.Apart.{apart, written}
+use Rattle.ready_client.specs.declared.step.Step.{Step}
+use Rattle.ready_client.specs.declared.step.Step.TheVariants.{Goes, Waits, Ends}
 
 -- so many steps were made at requests that were given, and these wait
 abbrev pub Steps : {C : Type 0} → Ways C → Option ℕ → ℕ → Stand C → List Request → Stand C → List Request → Type 0
@@ -42,3 +45,26 @@ HasComeTo ways told input input_now before now progress None =
     (progress.waiting ≡ [] × GoesOn ways told input input_now before now progress.kept progress.count)
     ⊎ (progress.waiting ≢ [] × IsUnderWay ways told input input_now before now progress)
 HasComeTo ways told input input_now before now progress (Some result) = HasServed ways told input input_now before now result
+
+-- how a connection ended by what its close said
+abbrev pub by_close : Result (Option End) ConnectionFault → Option (Result End ConnectionFault)
+by_close (Ok None) = None
+by_close (Ok (Some end)) = Some (Ok end)
+by_close (Err fault) = Some (Err fault)
+
+-- how it ended by what a step came to
+abbrev pub end_by : Result Step ConnectionFault → Option (Result End ConnectionFault)
+end_by (Ok Goes) = None
+end_by (Ok Waits) = None
+end_by (Ok (Ends end)) = Some (Ok end)
+end_by (Err fault) = Some (Err fault)
+
+-- the same of a connection among others of one caller, which began with these bytes held and now has these
+abbrev pub Comes : {C : Type 0} → Ways C → Option ℕ → Input → Input → List ℕ → List ℕ → Progress → Option (Result End ConnectionFault) → Type 0
+Comes ways told input input_now before held progress end = HasComeTo (apart ways) told input input_now (written before) (written held) progress end
+
+abbrev pub IsUnderWayApart : {C : Type 0} → Ways C → Option ℕ → Input → Input → List ℕ → List ℕ → Progress → Type 0
+IsUnderWayApart ways told input input_now before held progress = IsUnderWay (apart ways) told input input_now (written before) (written held) progress
+
+abbrev pub GoesOnApart : {C : Type 0} → Ways C → Option ℕ → Input → Input → List ℕ → List ℕ → Progress → Type 0
+GoesOnApart ways told input input_now before held progress = GoesOn (apart ways) told input input_now (written before) (written held) progress.kept progress.count
