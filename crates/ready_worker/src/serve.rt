@@ -1,3 +1,7 @@
+ghost use Rattle.std.specs.Prelude.{◌≡◌, ℕ, Err, IfErr, IfOk, OnErr, OnOk, false};
+ghost use Rattle.edge_io.specs.Faults.{HasCause, HasCauseOf};
+ghost use Rattle.node_worker.specs.Served.{HasAccepted, IsDone};
+ghost use Rattle.node_worker.specs.declared.fault.ServeFault.{ServeFault};
 
 use crate::hall::Hall;
 use crate::lane::Lane;
@@ -6,12 +10,11 @@ use edge_io::{Clock, Failed};
 use front_end::Caller;
 use node_worker::{Port, ServeFault};
 use std::alloc::Global;
-use std::io;
 use std::net::Net;
 use std::sync::Wait;
-use std::thread;
 use std::thread::{Parker, Scope, Threads};
 use std::time::Duration;
+use std::{io, thread};
 use tcp_edge::TcpEdge;
 
 /// How long an accept that failed is put off while connections are open, in milliseconds.
@@ -34,15 +37,28 @@ pub fn serve_ready<R: Threads + Wait + Sync, N: Net, P: Port, T: Clock>(
     workers: u32,
     connections: u64,
     clock: &T,
-) -> Result<u64, ServeFault> {
+) -> Result<u64, ServeFault>
+    ensures accepted { IfOk result (λ n. HasAccepted listener.old.accepted listener.new.accepted connections n) }
+    ensures done { IfOk result (λ n. IsDone connections n false) }
+    ensures fault { HasCauseOf listener.old.faults listener.new.faults result ServeFault.AcceptFault }
+    ensures at_fault { OnErr result ((n : ℕ) × HasAccepted listener.old.accepted listener.new.accepted connections n) }
+    ensures want { result ≡ Err ServeFault.Want → listener.new ≡ listener.old }
+{
     let Ok(crew) = crew_of(alloc, listener, workers) else {
         return Err(ServeFault::Want);
     };
     let Ok(hall) = Hall::new(alloc, &crew) else {
         return Err(ServeFault::Want);
     };
-    let Accepted { listener: _, end } =
-        serve_in_scope::<R, N, P::Lent, P, T>(rt, listener, &hall, crew, port, clock, connections);
+    let Accepted { listener: _, end } = serve_in_scope::<R, N, P::Lent, P, T>(
+        rt,
+        listener,
+        &hall,
+        crew,
+        port,
+        clock,
+        connections,
+    );
     end
 }
 
@@ -72,17 +88,50 @@ fn serve_in_scope<
     port: &P,
     clock: &T,
     connections: u64,
-) -> Accepted<'a, N> {
-    thread::scope(thread::scope_env(), rt, move |scope| -> Accepted<'_, N> {
-        start_all::<_, R, Q, P, T>(rt, scope, hall, crew, port, clock);
-        let end = if hall.has_worker() {
-            accept_all(rt, listener, hall, connections).map_err(ServeFault::from)
-        } else {
-            Err(ServeFault::Want)
-        };
-        hall.end();
-        Accepted { listener, end }
-    })
+) -> Accepted<'a, N>
+    ensures same { result.listener.ghost_name ≡ listener.entry.ghost_name }
+    ensures accepted { IfOk result.end (λ n. HasAccepted listener.old.accepted result.listener.now.accepted connections n) }
+    ensures done { IfOk result.end (λ n. IsDone connections n false) }
+    ensures fault { HasCauseOf listener.old.faults result.listener.now.faults result.end ServeFault.AcceptFault }
+    ensures at_fault { OnErr result.end ((n : ℕ) × HasAccepted listener.old.accepted result.listener.now.accepted connections n) }
+    ensures want { result.end ≡ Err ServeFault.Want → result.listener.now ≡ listener.old }
+{
+    thread::scope(
+        thread::scope_env(),
+        rt,
+        move |scope| -> Accepted<'_, N>
+            ensures { (result.listener.ghost_name ≡ listener.entry.ghost_name)
+                × IfOk result.end (λ n. HasAccepted listener.entry.now.accepted result.listener.now.accepted connections n)
+                × IfOk result.end (λ n. IsDone connections n false)
+                × HasCauseOf listener.entry.now.faults result.listener.now.faults result.end ServeFault.AcceptFault
+                × OnErr result.end ((n : ℕ) × HasAccepted listener.entry.now.accepted result.listener.now.accepted connections n)
+                × (result.end ≡ Err ServeFault.Want → result.listener.now ≡ listener.entry.now) }
+        {
+            start_all::<_, R, Q, P, T>(rt, scope, hall, crew, port, clock);
+            let end = accept_by(rt, listener, hall, connections);
+            hall.end();
+            Accepted { listener, end }
+        },
+    )
+}
+
+/// Accepts connections, if a worker runs.
+fn accept_by<R: Wait, N: Net>(
+    rt: &R,
+    listener: &mut TcpEdge<N>,
+    hall: &Hall,
+    connections: u64,
+) -> Result<u64, ServeFault>
+    ensures accepted { IfOk result (λ n. HasAccepted listener.old.accepted listener.new.accepted connections n) }
+    ensures done { IfOk result (λ n. IsDone connections n false) }
+    ensures fault { HasCauseOf listener.old.faults listener.new.faults result ServeFault.AcceptFault }
+    ensures at_fault { OnErr result ((n : ℕ) × HasAccepted listener.old.accepted listener.new.accepted connections n) }
+    ensures want { result ≡ Err ServeFault.Want → listener.new ≡ listener.old }
+{
+    if !hall.has_worker() {
+        return Err(ServeFault::Want);
+    }
+    accept_all(rt, listener, hall, connections).map_err(ServeFault::from)
 }
 
 /// Has each worker run in a thread of its own, with a caller of its own.
@@ -135,7 +184,12 @@ fn accept_all<R: Wait, N: Net>(
     listener: &mut TcpEdge<N>,
     hall: &Hall,
     connections: u64,
-) -> Result<u64, Failed> {
+) -> Result<u64, Failed>
+    ensures accepted { IfOk result (λ n. HasAccepted listener.old.accepted listener.new.accepted connections n) }
+    ensures done { IfOk result (λ n. IsDone connections n false) }
+    ensures fault { HasCause listener.old.faults listener.new.faults result }
+    ensures at_fault { OnErr result ((n : ℕ) × HasAccepted listener.old.accepted listener.new.accepted connections n) }
+{
     let pause = Parker::new();
     let mut accepted = 0;
     'connections: for _ in rt.forever() {

@@ -1,10 +1,12 @@
-use ready_client::{Client, Turn};
+ghost use Rattle.std.specs.Prelude.{◌≡◌, vec_len};
+
 use crate::lane::{Lane, WAKER};
 use edge_io::Clock;
 use front_end::Caller;
 use mio::net::TcpStream;
 use mio::{Events, Interest, Poll, Token};
 use outbox::TryEdge;
+use ready_client::{Client, Turn};
 use slab::Slab;
 use std::alloc::{AllocError, Global};
 use std::collections::VecDeque;
@@ -33,6 +35,7 @@ pub(crate) struct Worker {
     places: Slab<Place>,
     queue: VecDeque<usize>,
     room: Vec<u8>,
+    ghost full: { vec_len room ≡ 65536 },
 }
 
 impl Worker {
@@ -139,9 +142,7 @@ impl Worker {
         let Some(place) = self.places.get_mut(key) else {
             return Turn::Waits;
         };
-        let turn = place
-            .client
-            .turn(self.alloc, caller, clock, &mut self.room);
+        let turn = place.client.turn(self.alloc, caller, clock, &mut self.room);
         place.queued = turn == Turn::More;
         if place.queued && self.queue.push_back(key).is_err() {
             return Turn::Over;
