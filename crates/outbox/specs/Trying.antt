@@ -1,5 +1,6 @@
 -- Which bytes a read moves that does not wait, and what an outbox sends.
-use Rattle.std.specs.Prelude.{◌≡◌, ℕ, ◌<◌, ◌≤◌, List, [], ◌++◌, length, take, Result, Ok, Err, ⊤}
+use Rattle.std.specs.Prelude.{◌≡◌, ℕ, ◌<◌, ◌≤◌, List, [], ◌++◌, length, take, Option, Result, Ok, Err, ⊤}
+use Rattle.std.specs.Io.KnownBytes.{Consumes}
 use Rattle.edge_io.specs.Moving.{Input, IsEnded, Takes, Appends}
 use Rattle.outbox.specs.declared.reading.Reading.{Reading}
 use Rattle.outbox.specs.declared.reading.Reading.TheVariants.{Came, Ended, Waits}
@@ -22,6 +23,13 @@ TryTakes before now (Ok (Came n)) room = Takes before now (take n room) × ¬ (I
 TryTakes before now (Ok Ended) room = Takes before now [] × IsEnded now
 TryTakes before now (Ok Waits) room = Takes before now [] × (now.ended ≡ before.ended)
 TryTakes before now (Err e) room = Takes before now [] × (now.ended ≡ before.ended)
+
+-- what such a read makes of the bytes that are still to come, where they are known
+abbrev pub TryConsumes : {E : Type 0} → Option (List ℕ) → Option (List ℕ) → Result Reading E → List ℕ → Type 0
+TryConsumes before now (Ok (Came n)) room = Consumes before now (take n room)
+TryConsumes before now (Ok Ended) room = Consumes before now []
+TryConsumes before now (Ok Waits) room = Consumes before now []
+TryConsumes before now (Err e) room = Consumes before now []
 
 -- the front of what waited was sent, and the rest of it waits
 pub record Sends (held held_now waiting waiting_now : List ℕ) : Type 0 where

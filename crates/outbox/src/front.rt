@@ -2,18 +2,23 @@ ghost use Rattle.std.specs.Prelude.{◌≡◌, ◌≤◌, length, take, drop, ve
 ghost use Rattle.edge_io.specs.Faults.{HasCause};
 ghost use Rattle.edge_io.specs.Moving.{Appends};
 
-use crate::try_sink::TrySink;
+use crate::try_stream::TryStream;
 use edge_io::Failed;
 
-/// Sends bytes until all are sent or the sink would have to wait, and counts those that went out.
-pub(crate) fn send<W: TrySink>(sink: &mut W, bytes: &[u8], sent: &mut usize) -> Result<(), Failed>
+/// Sends bytes until all are sent or the stream would have to wait, and counts those that went out.
+pub(crate) fn send<S: TryStream>(
+    stream: &mut S,
+    bytes: &[u8],
+    sent: &mut usize,
+) -> Result<(), Failed>
     requires none { sent.old ≡ 0 }
     ensures within { sent.new ≤ length bytes.now }
-    ensures sent { Appends (W.held sink.old) (W.held sink.new) (take sent.new bytes.now) }
-    ensures cause { HasCause (W.faults sink.old) (W.faults sink.new) result }
+    ensures sent { Appends (S.held stream.old) (S.held stream.new) (take sent.new bytes.now) }
+    ensures input { S.input stream.new ≡ S.input stream.old }
+    ensures cause { HasCause (S.faults stream.old) (S.faults stream.new) result }
 {
     'pieces: while *sent < bytes.len() {
-        let n = sink.try_write(&bytes[*sent..])?;
+        let n = stream.try_write(&bytes[*sent..])?;
         if n == 0 {
             break 'pieces;
         }

@@ -6,10 +6,10 @@
 mod front;
 mod outbox;
 mod reading;
-mod try_sink;
-mod try_source;
+mod try_edge;
+mod try_stream;
 
 pub use outbox::Outbox;
 pub use reading::Reading;
-pub use try_sink::TrySink;
-pub use try_source::TrySource;
+pub use try_edge::TryEdge;
+pub use try_stream::TryStream;

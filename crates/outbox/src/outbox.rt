@@ -1,13 +1,13 @@
 ghost use Rattle.std.specs.Prelude.{◌≡◌, []};
 
 use crate::front::{cut_front, send};
-use crate::try_sink::TrySink;
+use crate::try_stream::TryStream;
 use edge_io::{Failed, Sink, SinkFault};
 use std::alloc::{AllocError, Global};
 use std::marker::Model;
 
 /// The most memory that an outbox keeps while nothing waits in it, in bytes.
-const KEPT: usize = 4_096;
+const KEPT: usize = 2_048;
 
 /// What was written and is not sent yet: a sink with no fault but want of memory.
 #[derive(Drop)]
@@ -57,15 +57,16 @@ impl Outbox {
         self.len() == 0
     }
 
-    /// Sends what waits, as far as the sink takes it without waiting, and says whether all of it went out. At a fault
+    /// Sends what waits, as far as the stream takes it without waiting, and says whether all of it went out. At a fault
     /// what was not sent still waits.
-    pub fn write_out<W: TrySink>(&mut self, sink: &mut W) -> Result<bool, Failed>
-        ensures sends { Sends (W.held sink.old) (W.held sink.new) self.old self.new }
+    pub fn write_out<S: TryStream>(&mut self, stream: &mut S) -> Result<bool, Failed>
+        ensures sends { Sends (S.held stream.old) (S.held stream.new) self.old self.new }
+        ensures input { S.input stream.new ≡ S.input stream.old }
         ensures all { IfOk result (λ all. IsTrue all ↔ (self.new ≡ [])) }
-        ensures cause { HasCause (W.faults sink.old) (W.faults sink.new) result }
+        ensures cause { HasCause (S.faults stream.old) (S.faults stream.new) result }
     {
         let mut count = 0;
-        let end = send(sink, &self.bytes[self.sent..], &mut count);
+        let end = send(stream, &self.bytes[self.sent..], &mut count);
         self.skip(count);
         match end {
             Ok(()) => Ok(self.is_empty()),

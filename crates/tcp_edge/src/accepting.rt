@@ -5,13 +5,20 @@ use std::net::{TcpListener, TcpStream};
 /// How many connections in a row may be lost before they are handed out.
 const RETRIES: u32 = 1_000_000;
 
-/// The next connection, as the end to read from and the end to write to. One that is lost on its way, or of which the
-/// system gives no second end, ends alone: the next is taken.
-pub(crate) fn accept_from(listener: &TcpListener) -> io::Result<(TcpStream, TcpStream)> {
+/// What is made of a connection that came.
+pub(crate) trait Ends {
+    /// The ends of the connection, if the system gives them.
+    fn of(incoming: TcpStream) -> io::Result<Self>
+    where
+        Self: Sized;
+}
+
+/// The next connection. One that is lost on its way, or of which the system gives no ends, ends alone: the next is taken.
+pub(crate) fn accept_from<E: Ends>(listener: &TcpListener) -> io::Result<E> {
     'tries: for _ in 0..RETRIES {
         match listener.accept() {
             Ok((incoming, _)) => {
-                if let Ok(ends) = both_ends(incoming) {
+                if let Ok(ends) = E::of(incoming) {
                     return Ok(ends);
                 }
             }
@@ -20,7 +27,7 @@ pub(crate) fn accept_from(listener: &TcpListener) -> io::Result<(TcpStream, TcpS
         }
     }
     let (incoming, _) = listener.accept()?;
-    both_ends(incoming)
+    E::of(incoming)
 }
 
 /// Whether an error of `accept` is of the connection that was next, or of a call that was interrupted, and not of the
@@ -37,9 +44,25 @@ fn is_of_one_connection(kind: ErrorKind) -> bool {
     )
 }
 
-fn both_ends(incoming: TcpStream) -> io::Result<(TcpStream, TcpStream)> {
-    // Answers go out at once; where the system refuses that they go out later.
-    let _ = incoming.set_nodelay(true);
-    let outgoing = incoming.try_clone()?;
-    Ok((incoming, outgoing))
+// The end to read from and the end to write to.
+impl Ends for (TcpStream, TcpStream) {
+    fn of(incoming: TcpStream) -> io::Result<(TcpStream, TcpStream)> {
+        hurry(&incoming);
+        let outgoing = incoming.try_clone()?;
+        Ok((incoming, outgoing))
+    }
+}
+
+// One stream whose reads and writes do not wait.
+impl Ends for mio::net::TcpStream {
+    fn of(incoming: TcpStream) -> io::Result<mio::net::TcpStream> {
+        hurry(&incoming);
+        incoming.set_nonblocking(true)?;
+        Ok(mio::net::TcpStream::from_std(incoming))
+    }
+}
+
+/// Has answers go out at once: where the system refuses that they go out later.
+fn hurry(stream: &TcpStream) {
+    let _ = stream.set_nodelay(true);
 }

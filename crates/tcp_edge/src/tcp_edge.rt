@@ -1,8 +1,9 @@
 ghost use Rattle.std.specs.Prelude.{◌≡◌, ◌^◌, ◌≤◌, None};
 
-use crate::accepting::accept_from;
+use crate::accepting::{Ends, accept_from};
 use crate::listening::listen_at;
 use edge_io::{Failed, Listener, ReadEdge, WriteEdge};
+use mio::Poll;
 use std::io;
 use std::io::ErrorKind;
 use std::net::{Net, SocketAddr, TcpListener, TcpStream};
@@ -71,7 +72,7 @@ impl<N> TcpEdge<N> {
     }
 
     // The next connection of the port, if there is one.
-    fn next(&self) -> io::Result<(TcpStream, TcpStream)>
+    fn next<E: Ends>(&self) -> io::Result<E>
         ensures few { OnOk result (self.now.accepted < 2 ^ 62) }
     {
         if self.accepted >= MOST_CONNECTIONS {
@@ -80,6 +81,33 @@ impl<N> TcpEdge<N> {
         match &self.listener {
             Some(listener) => accept_from(listener),
             None => Err(io::Error::from(ErrorKind::NotConnected)),
+        }
+    }
+}
+
+impl<N: Net> TcpEdge<N> {
+    ghost use Rattle.std.specs.Prelude.{◌≡◌, ◌≤◌, ◌^◌, ◌+◌, OnOk, OnErr, is_err, if◌then◌else◌};
+    ghost use Rattle.edge_io.specs.Faults.{HasCause, raised};
+
+    /// A poll of the system that opened the port: streams that do not wait are waited for at it.
+    pub fn poll(&self) -> io::Result<Poll> {
+        Poll::new(&self.net)
+    }
+
+    /// The next connection of the port, which is waited for, as one stream whose reads and writes do not wait.
+    pub fn accept_stream(&mut self) -> Result<mio::net::TcpStream, Failed>
+        ensures limit { self.new.accepted ≤ 2 ^ 62 }
+        ensures accepts { OnOk result (self.new.accepted ≡ self.old.accepted + 1) }
+        ensures none { OnErr result (self.new.accepted ≡ self.old.accepted) }
+        ensures cause { HasCause self.old.faults self.new.faults result }
+        ensures count { self.new.faults ≡ (if is_err result then raised self.old.faults else self.old.faults) }
+    {
+        match self.next() {
+            Ok(stream) => {
+                self.accepted += 1;
+                Ok(stream)
+            }
+            Err(error) => Err(self.fail(error)),
         }
     }
 }

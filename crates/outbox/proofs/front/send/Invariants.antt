@@ -1,12 +1,13 @@
-use Rattle.std.proofs.Common.{◌-◌, ◌≤◌, length, take}
+use Rattle.std.proofs.Common.{◌≡◌, ◌-◌, ◌≤◌, length, take}
 use Rattle.edge_io.specs.Moving.{Appends}
 use Rattle.outbox.proofs.front.send.Given as goal
 
 abbrev pub invariant-pieces : goal.invariant-pieces
 invariant-pieces g l = record {
-  sends : Appends (g.W.TrySink.held l.initial.sink) (g.W.TrySink.held l.sink) (take l.sent l.bytes);
+  sends : Appends (g.S.TryStream.held l.initial.stream) (g.S.TryStream.held l.stream) (take l.sent l.bytes);
   within : l.sent ≤ length l.bytes;
-  later : g.W.TrySink.faults l.initial.sink ≤ g.W.TrySink.faults l.sink;
+  input : g.S.TryStream.input l.stream ≡ g.S.TryStream.input l.initial.stream;
+  later : g.S.TryStream.faults l.initial.stream ≤ g.S.TryStream.faults l.stream;
 }
 
 abbrev pub decreases-pieces : goal.decreases-pieces

@@ -1,0 +1,202 @@
+ghost use Rattle.std.specs.Prelude.{◌≡◌, ◌≢◌, ◌≤◌, ◌^◌, ◌⊎◌, ◌++◌, ℕ, List, [], None, length, true};
+ghost use Rattle.edge_io.specs.Faults.{Rose};
+ghost use Rattle.edge_io.specs.Moving.{Input};
+ghost use Rattle.memc_proto.specs.Reader.{HasRead};
+ghost use Rattle.front_end.specs.Calls.{ways_of};
+ghost use Rattle.ready_client.specs.Coming.{end_by, Comes};
+
+use crate::step::{Step, advance};
+use edge_io::{Clock, Failed};
+use front_end::{Caller, Connection, ConnectionFault, End};
+use outbox::{Outbox, TryStream};
+use std::alloc::Global;
+
+/// How many steps a turn has: so many requests are answered or pieces read before others are served.
+const STEPS: u32 = 64;
+
+/// The most bytes that may wait to be sent while more is answered.
+const MOST_WAITING: usize = 262_144;
+
+/// What a turn came to.
+#[derive(Clone, Copy, Debug, PartialEq, Eq)]
+pub enum Turn {
+    /// There is more to do at once.
+    More,
+    /// The stream is to be waited for.
+    Waits,
+    /// The connection is over.
+    Over,
+}
+
+/// A connection that is served when its stream is ready: what was read of it, what is not sent yet, and how it ended.
+#[derive(Drop)]
+pub struct Client<S> {
+    stream: S,
+    connection: Connection,
+    outbox: Outbox,
+    end: Option<Result<End, ConnectionFault>>,
+    ghost within: { connection.count ≤ 2 ^ 62 },
+}
+
+impl<S: TryStream> Client<S> {
+    /// A stream of which nothing was read and to which nothing was written.
+    pub fn new(alloc: Global, stream: S) -> Client<S>
+        ensures stream { result.stream ≡ stream }
+        ensures kept { HasRead result.connection.kept [] [] }
+        ensures waiting { result.connection.waiting ≡ [] }
+        ensures count { result.connection.count ≡ 0 }
+        ensures outbox { result.outbox ≡ [] }
+        ensures end { result.end ≡ None }
+    {
+        Client {
+            stream,
+            connection: Connection::new(alloc),
+            outbox: Outbox::new(alloc),
+            end: None,
+        }
+    }
+
+    /// One turn: steps until the stream would have to wait, the connection is over, or others are to be served. It is
+    /// over once it ended and all of its text was sent, or the stream counted a fault.
+    pub fn turn<C: Caller, T: Clock>(
+        &mut self,
+        alloc: Global,
+        caller: &mut C,
+        clock: &T,
+        room: &mut [u8],
+    ) -> Turn
+        requires room { length room.old ≡ 65536 }
+        ensures comes { (input : Input) (before : List ℕ)
+            → Comes (ways_of C.made C.failed C.kept) (T.moment clock.now) input (S.input self.old.stream) before
+            (S.held self.old.stream ++ self.old.outbox) self.old.connection self.old.end
+            → Comes (ways_of C.made C.failed C.kept) (T.moment clock.now) input (S.input self.new.stream) before
+            (S.held self.new.stream ++ self.new.outbox) self.new.connection self.new.end }
+        ensures over { result ≡ Turn.Over
+            → ((self.new.end ≢ None) × (self.new.outbox ≡ [])) ⊎ Rose (S.faults self.old.stream) (S.faults self.new.stream) }
+        ensures later { S.faults self.old.stream ≤ S.faults self.new.stream }
+        ensures room { length room.new ≡ 65536 }
+    {
+        'steps: for _ in 0..STEPS {
+            if self.end.is_some() {
+                return self.finish();
+            }
+            match self.make_room() {
+                Turn::More => {}
+                Turn::Waits => return Turn::Waits,
+                Turn::Over => return Turn::Over,
+            }
+            if self.step(alloc, caller, clock, room) {
+                return self.pause();
+            }
+        }
+        self.send()
+    }
+
+    // Sends what waits, as far as the stream takes it: more where all of it went out.
+    fn send(&mut self) -> Turn
+        ensures text { S.held self.new.stream ++ self.new.outbox ≡ S.held self.old.stream ++ self.old.outbox }
+        ensures input { S.input self.new.stream ≡ S.input self.old.stream }
+        ensures connection { self.new.connection ≡ self.old.connection }
+        ensures end { self.new.end ≡ self.old.end }
+        ensures all { result ≡ Turn.More → self.new.outbox ≡ [] }
+        ensures over { result ≡ Turn.Over → Rose (S.faults self.old.stream) (S.faults self.new.stream) }
+        ensures later { S.faults self.old.stream ≤ S.faults self.new.stream }
+    {
+        match self.outbox.write_out(&mut self.stream) {
+            Ok(true) => Turn::More,
+            Ok(false) => Turn::Waits,
+            Err(Failed) => Turn::Over,
+        }
+    }
+
+    // Sends what waits where it is much: more where the next step may be made.
+    fn make_room(&mut self) -> Turn
+        ensures text { S.held self.new.stream ++ self.new.outbox ≡ S.held self.old.stream ++ self.old.outbox }
+        ensures input { S.input self.new.stream ≡ S.input self.old.stream }
+        ensures connection { self.new.connection ≡ self.old.connection }
+        ensures end { self.new.end ≡ self.old.end }
+        ensures over { result ≡ Turn.Over → Rose (S.faults self.old.stream) (S.faults self.new.stream) }
+        ensures later { S.faults self.old.stream ≤ S.faults self.new.stream }
+    {
+        if self.outbox.len() > MOST_WAITING {
+            self.send()
+        } else {
+            Turn::More
+        }
+    }
+
+    // Sends what waits of a connection that has nothing to do until its stream is ready.
+    fn pause(&mut self) -> Turn
+        ensures text { S.held self.new.stream ++ self.new.outbox ≡ S.held self.old.stream ++ self.old.outbox }
+        ensures input { S.input self.new.stream ≡ S.input self.old.stream }
+        ensures connection { self.new.connection ≡ self.old.connection }
+        ensures end { self.new.end ≡ self.old.end }
+        ensures over { result ≡ Turn.Over → Rose (S.faults self.old.stream) (S.faults self.new.stream) }
+        ensures later { S.faults self.old.stream ≤ S.faults self.new.stream }
+    {
+        match self.send() {
+            Turn::More => Turn::Waits,
+            Turn::Waits => Turn::Waits,
+            Turn::Over => Turn::Over,
+        }
+    }
+
+    // Sends what waits of a connection that ended: it is over where all of it went out.
+    fn finish(&mut self) -> Turn
+        ensures text { S.held self.new.stream ++ self.new.outbox ≡ S.held self.old.stream ++ self.old.outbox }
+        ensures input { S.input self.new.stream ≡ S.input self.old.stream }
+        ensures connection { self.new.connection ≡ self.old.connection }
+        ensures end { self.new.end ≡ self.old.end }
+        ensures over { result ≡ Turn.Over
+            → (self.new.outbox ≡ []) ⊎ Rose (S.faults self.old.stream) (S.faults self.new.stream) }
+        ensures later { S.faults self.old.stream ≤ S.faults self.new.stream }
+    {
+        match self.send() {
+            Turn::More => Turn::Over,
+            Turn::Waits => Turn::Waits,
+            Turn::Over => Turn::Over,
+        }
+    }
+
+    // One step, which may be the last. Says whether the stream is to be waited for.
+    fn step<C: Caller, T: Clock>(
+        &mut self,
+        alloc: Global,
+        caller: &mut C,
+        clock: &T,
+        room: &mut [u8],
+    ) -> bool
+        requires none { self.old.end ≡ None }
+        requires room { length room.old ≡ 65536 }
+        ensures comes { (input : Input) (before : List ℕ)
+            → Comes (ways_of C.made C.failed C.kept) (T.moment clock.now) input (S.input self.old.stream) before
+            (S.held self.old.stream ++ self.old.outbox) self.old.connection self.old.end
+            → Comes (ways_of C.made C.failed C.kept) (T.moment clock.now) input (S.input self.new.stream) before
+            (S.held self.new.stream ++ self.new.outbox) self.new.connection self.new.end }
+        ensures later { S.faults self.old.stream ≤ S.faults self.new.stream }
+        ensures room { length room.new ≡ 65536 }
+    {
+        let result = advance(
+            alloc,
+            caller,
+            clock,
+            &mut self.stream,
+            &mut self.connection,
+            &mut self.outbox,
+            room,
+        );
+        self.end = end_by(&result);
+        matches!(result, Ok(Step::Waits))
+    }
+}
+
+/// How a connection ended by what a step came to, if it did.
+fn end_by(came: &Result<Step, ConnectionFault>) -> Option<Result<End, ConnectionFault>>
+    ensures { result ≡ end_by came.now }
+{
+    match came {
+        Ok(Step::Ends(end)) => Some(Ok(*end)),
+        Ok(_) => None,
+        Err(fault) => Some(Err(*fault)),
+    }
+}

@@ -1,0 +1,81 @@
+use crate::lane::Lane;
+use crate::worker::Worker;
+use mio::net::TcpStream;
+use std::alloc::Global;
+use std::io;
+use std::io::Write;
+use std::sync::Wait;
+
+/// The most connections that are open at a time.
+pub const MOST_OPEN: u64 = 10_000;
+
+/// The lanes of all workers.
+#[derive(Drop)]
+pub(crate) struct Hall {
+    lanes: Vec<Lane>,
+}
+
+impl Hall {
+    /// A lane for each of these workers.
+    pub(crate) fn new(alloc: Global, workers: &[Worker]) -> io::Result<Hall> {
+        let mut lanes = Vec::with_capacity(alloc, workers.len())?;
+        'workers: for worker in workers {
+            lanes.push(Lane::new(alloc, worker.poll())?)?;
+        }
+        Ok(Hall { lanes })
+    }
+
+    /// The lanes, in order.
+    pub(crate) fn lanes(&self) -> &[Lane] {
+        &self.lanes
+    }
+
+    /// How many connections are open.
+    pub(crate) fn open(&self) -> u64 {
+        let mut open: u64 = 0;
+        'lanes: for lane in &self.lanes {
+            open = open.saturating_add(lane.open());
+        }
+        open
+    }
+
+    /// Hands a connection to the worker that has the fewest, or refuses it where too many are open.
+    pub(crate) fn receive<R: Wait>(&self, rt: &R, stream: TcpStream) {
+        match self.emptiest() {
+            Some(lane) if self.open() < MOST_OPEN => lane.hand(rt, stream),
+            _ => refuse(stream),
+        }
+    }
+
+    /// No further connection comes.
+    pub(crate) fn end(&self) {
+        'lanes: for lane in &self.lanes {
+            lane.end();
+        }
+    }
+
+    /// Whether a worker runs.
+    pub(crate) fn has_worker(&self) -> bool {
+        self.emptiest().is_some()
+    }
+
+    // The lane with the fewest connections of those whose workers run.
+    fn emptiest(&self) -> Option<&Lane> {
+        let mut best: Option<&Lane> = None;
+        let mut fewest = u64::MAX;
+        'lanes: for lane in &self.lanes {
+            let open = lane.open();
+            if lane.has_started() && open < fewest {
+                best = Some(lane);
+                fewest = open;
+            }
+        }
+        best
+    }
+}
+
+/// Tells a connection that there are too many, and lets it go.
+fn refuse(stream: TcpStream) {
+    let mut stream = stream;
+    let _ = stream.write(b"SERVER_ERROR too many connections\r\n");
+}

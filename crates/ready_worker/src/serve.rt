@@ -1,0 +1,224 @@
+ghost use Rattle.std.specs.Prelude.{◌≡◌, ℕ, Err, IfErr, IfOk, OnErr, OnOk, false};
+ghost use Rattle.edge_io.specs.Faults.{HasCause, HasCauseOf};
+ghost use Rattle.node_worker.specs.Served.{HasAccepted, IsDone};
+ghost use Rattle.node_worker.specs.declared.fault.ServeFault.{ServeFault};
+
+use crate::hall::Hall;
+use crate::lane::Lane;
+use crate::worker::Worker;
+use edge_io::{Clock, Failed};
+use front_end::Caller;
+use node_worker::{Port, ServeFault};
+use std::alloc::Global;
+use std::net::Net;
+use std::sync::Wait;
+use std::thread::{Parker, Scope, Threads};
+use std::time::Duration;
+use std::{io, thread};
+use tcp_edge::TcpEdge;
+
+/// How long an accept that failed is put off while connections are open, in milliseconds.
+const PUT_OFF: u64 = 10;
+
+/// A port whose connections were accepted, and how that ended.
+struct Accepted<'a, N> {
+    listener: &'a mut TcpEdge<N>,
+    end: Result<u64, ServeFault>,
+}
+
+/// Serves the connections of a port, by so many workers, until `connections` of them were accepted, where that isn't 0.
+/// It returns once all are over. An accept that fails while connections are open is tried again. There is want of
+/// memory only before the first is accepted.
+pub fn serve_ready<R: Threads + Wait + Sync, N: Net, P: Port, T: Clock>(
+    rt: &R,
+    alloc: Global,
+    listener: &mut TcpEdge<N>,
+    port: &P,
+    workers: u32,
+    connections: u64,
+    clock: &T,
+) -> Result<u64, ServeFault>
+    ensures accepted { IfOk result (λ n. HasAccepted listener.old.accepted listener.new.accepted connections n) }
+    ensures done { IfOk result (λ n. IsDone connections n false) }
+    ensures fault { HasCauseOf listener.old.faults listener.new.faults result ServeFault.AcceptFault }
+    ensures at_fault { OnErr result ((n : ℕ) × HasAccepted listener.old.accepted listener.new.accepted connections n) }
+    ensures want { result ≡ Err ServeFault.Want → listener.new ≡ listener.old }
+{
+    let Ok(crew) = crew_of(alloc, listener, workers) else {
+        return Err(ServeFault::Want);
+    };
+    let Ok(hall) = Hall::new(alloc, &crew) else {
+        return Err(ServeFault::Want);
+    };
+    let Accepted { listener: _, end } = serve_in_scope::<R, N, P::Lent, P, T>(
+        rt,
+        listener,
+        &hall,
+        crew,
+        port,
+        clock,
+        connections,
+    );
+    end
+}
+
+/// So many workers, each with a poll of its own.
+fn crew_of<N: Net>(alloc: Global, listener: &TcpEdge<N>, workers: u32) -> io::Result<Vec<Worker>> {
+    let mut crew = Vec::with_capacity(alloc, workers as usize)?;
+    'workers: for _ in 0..workers {
+        let worker = Worker::new(alloc, listener.poll()?)?;
+        crew.push(worker)?;
+    }
+    Ok(crew)
+}
+
+/// Accepts in a scope of threads, and gives the port back once all of them ended.
+fn serve_in_scope<
+    'a,
+    R: Threads + Wait + Sync,
+    N: Net,
+    Q: Caller + Send + Drop,
+    P: Port<Lent = Q>,
+    T: Clock,
+>(
+    rt: &R,
+    listener: &'a mut TcpEdge<N>,
+    hall: &Hall,
+    crew: Vec<Worker>,
+    port: &P,
+    clock: &T,
+    connections: u64,
+) -> Accepted<'a, N>
+    ensures same { result.listener.ghost_name ≡ listener.entry.ghost_name }
+    ensures accepted { IfOk result.end (λ n. HasAccepted listener.old.accepted result.listener.now.accepted connections n) }
+    ensures done { IfOk result.end (λ n. IsDone connections n false) }
+    ensures fault { HasCauseOf listener.old.faults result.listener.now.faults result.end ServeFault.AcceptFault }
+    ensures at_fault { OnErr result.end ((n : ℕ) × HasAccepted listener.old.accepted result.listener.now.accepted connections n) }
+    ensures want { result.end ≡ Err ServeFault.Want → result.listener.now ≡ listener.old }
+{
+    thread::scope(
+        thread::scope_env(),
+        rt,
+        move |scope| -> Accepted<'_, N>
+            ensures { (result.listener.ghost_name ≡ listener.entry.ghost_name)
+                × IfOk result.end (λ n. HasAccepted listener.entry.now.accepted result.listener.now.accepted connections n)
+                × IfOk result.end (λ n. IsDone connections n false)
+                × HasCauseOf listener.entry.now.faults result.listener.now.faults result.end ServeFault.AcceptFault
+                × OnErr result.end ((n : ℕ) × HasAccepted listener.entry.now.accepted result.listener.now.accepted connections n)
+                × (result.end ≡ Err ServeFault.Want → result.listener.now ≡ listener.entry.now) }
+        {
+            start_all::<_, R, Q, P, T>(rt, scope, hall, crew, port, clock);
+            let end = accept_by(rt, listener, hall, connections);
+            hall.end();
+            Accepted { listener, end }
+        },
+    )
+}
+
+/// Accepts connections, if a worker runs.
+fn accept_by<R: Wait, N: Net>(
+    rt: &R,
+    listener: &mut TcpEdge<N>,
+    hall: &Hall,
+    connections: u64,
+) -> Result<u64, ServeFault>
+    ensures accepted { IfOk result (λ n. HasAccepted listener.old.accepted listener.new.accepted connections n) }
+    ensures done { IfOk result (λ n. IsDone connections n false) }
+    ensures fault { HasCauseOf listener.old.faults listener.new.faults result ServeFault.AcceptFault }
+    ensures at_fault { OnErr result ((n : ℕ) × HasAccepted listener.old.accepted listener.new.accepted connections n) }
+    ensures want { result ≡ Err ServeFault.Want → listener.new ≡ listener.old }
+{
+    if !hall.has_worker() {
+        return Err(ServeFault::Want);
+    }
+    accept_all(rt, listener, hall, connections).map_err(ServeFault::from)
+}
+
+/// Has each worker run in a thread of its own, with a caller of its own.
+fn start_all<
+    's,
+    E,
+    R: Threads + Wait + Sync,
+    Q: Caller + Send + Drop + 's,
+    P: Port<Lent = Q>,
+    T: Clock,
+>(
+    rt: &'s R,
+    scope: &'s Scope<'s, E>,
+    hall: &'s Hall,
+    crew: Vec<Worker>,
+    port: &'s P,
+    clock: &'s T,
+) {
+    let mut crew = crew;
+    'lanes: for lane in hall.lanes().iter().rev() {
+        let Some(worker) = crew.pop() else {
+            return;
+        };
+        let caller = borrow::<R, Q, P>(rt, port);
+        let job = move || work::<R, Q, P, T>(rt, lane, worker, caller, port, clock);
+        if scope.spawn(job).is_ok() {
+            lane.start();
+        }
+    }
+}
+
+/// Serves the connections of a lane, and gives the caller back.
+fn work<R: Wait, Q: Caller, P: Port<Lent = Q>, T: Clock>(
+    rt: &R,
+    lane: &Lane,
+    worker: Worker,
+    caller: Q,
+    port: &P,
+    clock: &T,
+) {
+    let (mut worker, mut caller) = (worker, caller);
+    worker.run(rt, lane, &mut caller, clock);
+    drop(worker);
+    port.give_back(caller);
+}
+
+/// Accepts connections, and hands each to a worker.
+fn accept_all<R: Wait, N: Net>(
+    rt: &R,
+    listener: &mut TcpEdge<N>,
+    hall: &Hall,
+    connections: u64,
+) -> Result<u64, Failed>
+    ensures accepted { IfOk result (λ n. HasAccepted listener.old.accepted listener.new.accepted connections n) }
+    ensures done { IfOk result (λ n. IsDone connections n false) }
+    ensures fault { HasCause listener.old.faults listener.new.faults result }
+    ensures at_fault { OnErr result ((n : ℕ) × HasAccepted listener.old.accepted listener.new.accepted connections n) }
+{
+    let pause = Parker::new();
+    let mut accepted = 0;
+    'connections: for _ in rt.forever() {
+        if connections != 0 && accepted == connections {
+            return Ok(accepted);
+        }
+        match listener.accept_stream() {
+            Ok(stream) => {
+                accepted += 1;
+                hall.receive(rt, stream);
+            }
+            Err(Failed) => {
+                if hall.open() == 0 {
+                    return Err(Failed);
+                }
+                pause.park_timeout(rt, Duration::from_millis(PUT_OFF));
+            }
+        }
+    }
+    unreachable!()
+}
+
+/// A caller for a worker, which is asked for until there is one.
+fn borrow<R: Wait, Q: Caller, P: Port<Lent = Q>>(rt: &R, port: &P) -> Q {
+    for _ in rt.forever() {
+        if let Some(caller) = port.lend() {
+            return caller;
+        }
+        thread::yield_now();
+    }
+    unreachable!()
+}
