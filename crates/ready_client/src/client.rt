@@ -14,7 +14,7 @@ use std::alloc::Global;
 /// How many steps a turn has: so many requests are answered or pieces read before others are served.
 const STEPS: u32 = 64;
 
-/// The most bytes that may wait to be sent while more is answered.
+/// The most bytes that may wait to be sent while more is answered: where more wait a turn ends.
 const MOST_WAITING: usize = 262_144;
 
 /// What a turn came to.
@@ -80,10 +80,8 @@ impl<S: TryStream> Client<S> {
             if self.end.is_some() {
                 return self.finish();
             }
-            match self.make_room() {
-                Turn::More => {}
-                Turn::Waits => return Turn::Waits,
-                Turn::Over => return Turn::Over,
+            if self.outbox.len() > MOST_WAITING {
+                return self.send();
             }
             if self.step(alloc, caller, clock, room) {
                 return self.pause();
@@ -106,22 +104,6 @@ impl<S: TryStream> Client<S> {
             Ok(true) => Turn::More,
             Ok(false) => Turn::Waits,
             Err(Failed) => Turn::Over,
-        }
-    }
-
-    // Sends what waits where it is much: more where the next step may be made.
-    fn make_room(&mut self) -> Turn
-        ensures text { S.held self.new.stream ++ self.new.outbox ≡ S.held self.old.stream ++ self.old.outbox }
-        ensures input { S.input self.new.stream ≡ S.input self.old.stream }
-        ensures connection { self.new.connection ≡ self.old.connection }
-        ensures end { self.new.end ≡ self.old.end }
-        ensures over { result ≡ Turn.Over → Rose (S.faults self.old.stream) (S.faults self.new.stream) }
-        ensures later { S.faults self.old.stream ≤ S.faults self.new.stream }
-    {
-        if self.outbox.len() > MOST_WAITING {
-            self.send()
-        } else {
-            Turn::More
         }
     }
 

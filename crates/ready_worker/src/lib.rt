@@ -3,10 +3,14 @@
 //! `Client`, and that the system tells when streams are ready and nobody starves to tests.
 #![tactic(auto)]
 
+mod either;
 mod hall;
 mod lane;
+mod ready_listener;
 mod serve;
 mod worker;
 
+pub use either::serve_either;
 pub use hall::MOST_OPEN;
+pub use ready_listener::ReadyListener;
 pub use serve::serve_ready;

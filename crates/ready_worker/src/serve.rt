@@ -1,47 +1,47 @@
-ghost use Rattle.std.specs.Prelude.{◌≡◌, ℕ, Err, IfErr, IfOk, OnErr, OnOk, false};
+ghost use Rattle.std.specs.Prelude.{◌≡◌, ℕ, Err, IfErr, IfOk, OnErr, OnOk, false, true};
 ghost use Rattle.edge_io.specs.Faults.{HasCause, HasCauseOf};
 ghost use Rattle.node_worker.specs.Served.{HasAccepted, IsDone};
 ghost use Rattle.node_worker.specs.declared.fault.ServeFault.{ServeFault};
 
 use crate::hall::Hall;
 use crate::lane::Lane;
+use crate::ready_listener::ReadyListener;
 use crate::worker::Worker;
 use edge_io::{Clock, Failed};
 use front_end::Caller;
 use node_worker::{Port, ServeFault};
 use std::alloc::Global;
-use std::net::Net;
 use std::sync::Wait;
 use std::thread::{Parker, Scope, Threads};
 use std::time::Duration;
 use std::{io, thread};
-use tcp_edge::TcpEdge;
 
 /// How long an accept that failed is put off while connections are open, in milliseconds.
 const PUT_OFF: u64 = 10;
 
 /// A port whose connections were accepted, and how that ended.
-struct Accepted<'a, N> {
-    listener: &'a mut TcpEdge<N>,
+struct Accepted<'a, L> {
+    listener: &'a mut L,
     end: Result<u64, ServeFault>,
 }
 
 /// Serves the connections of a port, by so many workers, until `connections` of them were accepted, where that isn't 0.
 /// It returns once all are over. An accept that fails while connections are open is tried again. There is want of
 /// memory only before the first is accepted.
-pub fn serve_ready<R: Threads + Wait + Sync, N: Net, P: Port, T: Clock>(
+pub fn serve_ready<R: Threads + Wait + Sync, L: ReadyListener, P: Port, T: Clock>(
     rt: &R,
     alloc: Global,
-    listener: &mut TcpEdge<N>,
+    listener: &mut L,
     port: &P,
     workers: u32,
     connections: u64,
     clock: &T,
 ) -> Result<u64, ServeFault>
-    ensures accepted { IfOk result (λ n. HasAccepted listener.old.accepted listener.new.accepted connections n) }
-    ensures done { IfOk result (λ n. IsDone connections n false) }
-    ensures fault { HasCauseOf listener.old.faults listener.new.faults result ServeFault.AcceptFault }
-    ensures at_fault { OnErr result ((n : ℕ) × HasAccepted listener.old.accepted listener.new.accepted connections n) }
+    requires ready { L.ready listener.old ≡ true }
+    ensures accepted { IfOk result (λ n. HasAccepted (L.accepted listener.old) (L.accepted listener.new) connections n) }
+    ensures done { IfOk result (λ n. IsDone connections n (L.over listener.new)) }
+    ensures fault { HasCauseOf (L.faults listener.old) (L.faults listener.new) result ServeFault.AcceptFault }
+    ensures at_fault { OnErr result ((n : ℕ) × HasAccepted (L.accepted listener.old) (L.accepted listener.new) connections n) }
     ensures want { result ≡ Err ServeFault.Want → listener.new ≡ listener.old }
 {
     let Ok(crew) = crew_of(alloc, listener, workers) else {
@@ -50,7 +50,7 @@ pub fn serve_ready<R: Threads + Wait + Sync, N: Net, P: Port, T: Clock>(
     let Ok(hall) = Hall::new(alloc, &crew) else {
         return Err(ServeFault::Want);
     };
-    let Accepted { listener: _, end } = serve_in_scope::<R, N, P::Lent, P, T>(
+    let Accepted { listener: _, end } = serve_in_scope::<R, L, P::Lent, P, T>(
         rt,
         listener,
         &hall,
@@ -63,7 +63,9 @@ pub fn serve_ready<R: Threads + Wait + Sync, N: Net, P: Port, T: Clock>(
 }
 
 /// So many workers, each with a poll of its own.
-fn crew_of<N: Net>(alloc: Global, listener: &TcpEdge<N>, workers: u32) -> io::Result<Vec<Worker>> {
+fn crew_of<L: ReadyListener>(alloc: Global, listener: &L, workers: u32) -> io::Result<Vec<Worker>>
+    requires { L.ready listener.now ≡ true }
+{
     let mut crew = Vec::with_capacity(alloc, workers as usize)?;
     'workers: for _ in 0..workers {
         let worker = Worker::new(alloc, listener.poll()?)?;
@@ -76,35 +78,37 @@ fn crew_of<N: Net>(alloc: Global, listener: &TcpEdge<N>, workers: u32) -> io::Re
 fn serve_in_scope<
     'a,
     R: Threads + Wait + Sync,
-    N: Net,
+    L: ReadyListener,
     Q: Caller + Send + Drop,
     P: Port<Lent = Q>,
     T: Clock,
 >(
     rt: &R,
-    listener: &'a mut TcpEdge<N>,
+    listener: &'a mut L,
     hall: &Hall,
     crew: Vec<Worker>,
     port: &P,
     clock: &T,
     connections: u64,
-) -> Accepted<'a, N>
+) -> Accepted<'a, L>
+    requires ready { L.ready listener.old ≡ true }
     ensures same { result.listener.ghost_name ≡ listener.entry.ghost_name }
-    ensures accepted { IfOk result.end (λ n. HasAccepted listener.old.accepted result.listener.now.accepted connections n) }
-    ensures done { IfOk result.end (λ n. IsDone connections n false) }
-    ensures fault { HasCauseOf listener.old.faults result.listener.now.faults result.end ServeFault.AcceptFault }
-    ensures at_fault { OnErr result.end ((n : ℕ) × HasAccepted listener.old.accepted result.listener.now.accepted connections n) }
+    ensures accepted { IfOk result.end (λ n. HasAccepted (L.accepted listener.old) (L.accepted result.listener.now) connections n) }
+    ensures done { IfOk result.end (λ n. IsDone connections n (L.over result.listener.now)) }
+    ensures fault { HasCauseOf (L.faults listener.old) (L.faults result.listener.now) result.end ServeFault.AcceptFault }
+    ensures at_fault { OnErr result.end ((n : ℕ) × HasAccepted (L.accepted listener.old) (L.accepted result.listener.now) connections n) }
     ensures want { result.end ≡ Err ServeFault.Want → result.listener.now ≡ listener.old }
 {
     thread::scope(
         thread::scope_env(),
         rt,
-        move |scope| -> Accepted<'_, N>
+        move |scope| -> Accepted<'_, L>
+            requires { L.ready listener.now ≡ true }
             ensures { (result.listener.ghost_name ≡ listener.entry.ghost_name)
-                × IfOk result.end (λ n. HasAccepted listener.entry.now.accepted result.listener.now.accepted connections n)
-                × IfOk result.end (λ n. IsDone connections n false)
-                × HasCauseOf listener.entry.now.faults result.listener.now.faults result.end ServeFault.AcceptFault
-                × OnErr result.end ((n : ℕ) × HasAccepted listener.entry.now.accepted result.listener.now.accepted connections n)
+                × IfOk result.end (λ n. HasAccepted (L.accepted listener.entry.now) (L.accepted result.listener.now) connections n)
+                × IfOk result.end (λ n. IsDone connections n (L.over result.listener.now))
+                × HasCauseOf (L.faults listener.entry.now) (L.faults result.listener.now) result.end ServeFault.AcceptFault
+                × OnErr result.end ((n : ℕ) × HasAccepted (L.accepted listener.entry.now) (L.accepted result.listener.now) connections n)
                 × (result.end ≡ Err ServeFault.Want → result.listener.now ≡ listener.entry.now) }
         {
             start_all::<_, R, Q, P, T>(rt, scope, hall, crew, port, clock);
@@ -116,16 +120,17 @@ fn serve_in_scope<
 }
 
 /// Accepts connections, if a worker runs.
-fn accept_by<R: Wait, N: Net>(
+fn accept_by<R: Wait, L: ReadyListener>(
     rt: &R,
-    listener: &mut TcpEdge<N>,
+    listener: &mut L,
     hall: &Hall,
     connections: u64,
 ) -> Result<u64, ServeFault>
-    ensures accepted { IfOk result (λ n. HasAccepted listener.old.accepted listener.new.accepted connections n) }
-    ensures done { IfOk result (λ n. IsDone connections n false) }
-    ensures fault { HasCauseOf listener.old.faults listener.new.faults result ServeFault.AcceptFault }
-    ensures at_fault { OnErr result ((n : ℕ) × HasAccepted listener.old.accepted listener.new.accepted connections n) }
+    requires ready { L.ready listener.old ≡ true }
+    ensures accepted { IfOk result (λ n. HasAccepted (L.accepted listener.old) (L.accepted listener.new) connections n) }
+    ensures done { IfOk result (λ n. IsDone connections n (L.over listener.new)) }
+    ensures fault { HasCauseOf (L.faults listener.old) (L.faults listener.new) result ServeFault.AcceptFault }
+    ensures at_fault { OnErr result ((n : ℕ) × HasAccepted (L.accepted listener.old) (L.accepted listener.new) connections n) }
     ensures want { result ≡ Err ServeFault.Want → listener.new ≡ listener.old }
 {
     if !hall.has_worker() {
@@ -179,16 +184,17 @@ fn work<R: Wait, Q: Caller, P: Port<Lent = Q>, T: Clock>(
 }
 
 /// Accepts connections, and hands each to a worker.
-fn accept_all<R: Wait, N: Net>(
+fn accept_all<R: Wait, L: ReadyListener>(
     rt: &R,
-    listener: &mut TcpEdge<N>,
+    listener: &mut L,
     hall: &Hall,
     connections: u64,
 ) -> Result<u64, Failed>
-    ensures accepted { IfOk result (λ n. HasAccepted listener.old.accepted listener.new.accepted connections n) }
-    ensures done { IfOk result (λ n. IsDone connections n false) }
-    ensures fault { HasCause listener.old.faults listener.new.faults result }
-    ensures at_fault { OnErr result ((n : ℕ) × HasAccepted listener.old.accepted listener.new.accepted connections n) }
+    requires ready { L.ready listener.old ≡ true }
+    ensures accepted { IfOk result (λ n. HasAccepted (L.accepted listener.old) (L.accepted listener.new) connections n) }
+    ensures done { IfOk result (λ n. IsDone connections n (L.over listener.new)) }
+    ensures fault { HasCause (L.faults listener.old) (L.faults listener.new) result }
+    ensures at_fault { OnErr result ((n : ℕ) × HasAccepted (L.accepted listener.old) (L.accepted listener.new) connections n) }
 {
     let pause = Parker::new();
     let mut accepted = 0;

@@ -5,21 +5,18 @@ use Rattle.ready_client.proofs.client.Client.turn.Goals as goal
 pub returns-then-is_some-clause-comes : goal.returns-then-is_some-clause-comes
 returns-then-is_some-clause-comes g c = λ input before come. sends _ _ input _ _ before _ _ c.steps.self.connection c.finish.new.self.connection _ _ c.finish.ensures.text c.finish.ensures.input c.finish.ensures.connection c.finish.ensures.end (c.steps.invariant.comes input before come)
 
-pub returns-in-Waits-clause-comes : goal.returns-in-Waits-clause-comes
-returns-in-Waits-clause-comes g c = λ input before come. sends _ _ input _ _ before _ _ c.steps.self.connection c.make_room.new.self.connection _ _ c.make_room.ensures.text c.make_room.ensures.input c.make_room.ensures.connection c.make_room.ensures.end (c.steps.invariant.comes input before come)
-
-pub returns-in-Over-clause-comes : goal.returns-in-Over-clause-comes
-returns-in-Over-clause-comes g c = λ input before come. sends _ _ input _ _ before _ _ c.steps.self.connection c.make_room.new.self.connection _ _ c.make_room.ensures.text c.make_room.ensures.input c.make_room.ensures.connection c.make_room.ensures.end (c.steps.invariant.comes input before come)
-
 pub returns-then-step-clause-comes : goal.returns-then-step-clause-comes
-returns-then-step-clause-comes g c = λ input before come. sends _ _ input _ _ before _ _ c.step.new.self.connection c.pause.new.self.connection _ _ c.pause.ensures.text c.pause.ensures.input c.pause.ensures.connection c.pause.ensures.end (c.step.ensures.comes input before (sends _ _ input _ _ before _ _ c.steps.self.connection c.make_room.new.self.connection _ _ c.make_room.ensures.text c.make_room.ensures.input c.make_room.ensures.connection c.make_room.ensures.end (c.steps.invariant.comes input before come)))
+returns-then-step-clause-comes g c = λ input before come. sends _ _ input _ _ before _ _ c.step.new.self.connection c.pause.new.self.connection _ _ c.pause.ensures.text c.pause.ensures.input c.pause.ensures.connection c.pause.ensures.end (c.step.ensures.comes input before (c.steps.invariant.comes input before come))
 
 pub steps-preserved : goal.steps-preserved
 steps-preserved g c = record {
-  comes = λ input before come. c.step.ensures.comes input before (sends _ _ input _ _ before _ _ c.steps.self.connection c.make_room.new.self.connection _ _ c.make_room.ensures.text c.make_room.ensures.input c.make_room.ensures.connection c.make_room.ensures.end (c.steps.invariant.comes input before come));
-  later = omega (arith, c.steps.invariant.later, c.make_room.ensures.later, c.step.ensures.later);
+  comes = λ input before come. c.step.ensures.comes input before (c.steps.invariant.comes input before come);
+  later = omega (arith, c.steps.invariant.later, c.step.ensures.later);
   room = c.step.ensures.room;
 }
 
+pub returns-then-len-gt-MOST_WAITING-clause-comes : goal.returns-then-len-gt-MOST_WAITING-clause-comes
+returns-then-len-gt-MOST_WAITING-clause-comes g c = λ input before come. sends _ _ input _ _ before _ _ c.steps.self.connection c.send.new.self.connection _ _ c.send.ensures.text c.send.ensures.input c.send.ensures.connection c.send.ensures.end (c.steps.invariant.comes input before come)
+
 pub returns-clause-comes : goal.returns-clause-comes
-returns-clause-comes g c = λ input before come. sends _ _ input _ _ before _ _ c.steps.self.connection c.send.new.self.connection _ _ c.send.ensures.text c.send.ensures.input c.send.ensures.connection c.send.ensures.end (c.steps.invariant.comes input before come)
+returns-clause-comes g c = λ input before come. sends _ _ input _ _ before _ _ c.steps.self.connection c.send-2.new.self.connection _ _ c.send-2.ensures.text c.send-2.ensures.input c.send-2.ensures.connection c.send-2.ensures.end (c.steps.invariant.comes input before come)

@@ -1,0 +1,40 @@
+ghost use Rattle.std.specs.Prelude.{◌≡◌, ℕ, Err, IfOk, OnErr};
+ghost use Rattle.edge_io.specs.Faults.{HasCauseOf};
+ghost use Rattle.node_worker.specs.Served.{HasAccepted, IsDone};
+ghost use Rattle.node_worker.specs.declared.fault.ServeFault.{ServeFault};
+
+use crate::ready_listener::ReadyListener;
+use crate::serve::serve_ready;
+use edge_io::Clock;
+use node_worker::{Gate, Port, ServeFault, serve_all};
+use std::alloc::Global;
+use std::sync::Wait;
+use std::thread::Threads;
+
+/// Serves the connections of a listener until `connections` of them were accepted, where that isn't 0, or it says that
+/// none comes: as they are ready, where it hands out such streams, with no gate, and else each by a thread of its own. It
+/// returns once all are over. There is want of memory only before the first is accepted.
+pub fn serve_either<R: Threads + Wait + Sync, L: ReadyListener, P: Port, G: Gate, T: Clock>(
+    rt: &R,
+    alloc: Global,
+    listener: &mut L,
+    port: &P,
+    gate: &G,
+    workers: u32,
+    connections: u64,
+    clock: &T,
+) -> Result<u64, ServeFault>
+where
+    L::Incoming: Drop,
+    L::Outgoing: Drop,
+    ensures accepted { IfOk result (λ n. HasAccepted (L.accepted listener.old) (L.accepted listener.new) connections n) }
+    ensures done { IfOk result (λ n. IsDone connections n (L.over listener.new)) }
+    ensures fault { HasCauseOf (L.faults listener.old) (L.faults listener.new) result ServeFault.AcceptFault }
+    ensures at_fault { OnErr result ((n : ℕ) × HasAccepted (L.accepted listener.old) (L.accepted listener.new) connections n) }
+    ensures want { result ≡ Err ServeFault.Want → listener.new ≡ listener.old }
+{
+    if listener.is_ready() {
+        return serve_ready(rt, alloc, listener, port, workers, connections, clock);
+    }
+    serve_all(rt, alloc, listener, port, gate, workers, connections, clock)
+}
