@@ -33,7 +33,14 @@ use std::thread::Threads;
 
 /// Runs the command that the words after the program's name ask for: `play`, `play_groups`, `play_regroup`, `session`,
 /// `serve`, `make`, `trial` or `frames`. Before the first connection of `serve` the notice tells what is served.
-pub fn run_program<R: Threads + Wait + Sync, S: Source, K: Sink, L: ReadyListener, N: Notice, T: Clock>(
+pub fn run_program<
+    R: Threads + Wait + Sync,
+    S: Source,
+    K: Sink,
+    L: ReadyListener,
+    N: Notice,
+    T: Clock,
+>(
     rt: &R,
     alloc: Global,
     words: &[String],

@@ -10,6 +10,8 @@ mod found;
 #[cfg(test)]
 mod lines;
 #[cfg(test)]
+mod readings;
+#[cfg(test)]
 mod scripts;
 #[cfg(test)]
 mod transcript;

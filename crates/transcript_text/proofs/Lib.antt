@@ -1,0 +1,10 @@
+pub mod Cuts
+pub mod Ends
+pub mod Entries
+pub mod Forms
+pub mod Fronts
+pub mod Numbers
+pub mod Replies
+pub mod Stamps
+pub mod Tests
+pub mod Values
