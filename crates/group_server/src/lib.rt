@@ -15,6 +15,5 @@ mod service;
 pub use fault::ServiceFault;
 pub use group_config::Settings;
 pub use notice::{Notice, Silent};
-pub use ready_worker::ReadyListener;
 pub use server::serve_group;
 pub use service::serve;

@@ -1,11 +1,10 @@
-ghost use Rattle.std.specs.Prelude.{◌≡◌, ◌+◌, ◌≤◌, ◌^◌, Bool, OnErr, OnOk, false, true};
+ghost use Rattle.std.specs.Prelude.{◌≡◌, ◌+◌, ◌≤◌, ◌^◌, Bool, OnErr, OnOk, true};
 ghost use Rattle.edge_io.specs.Faults.{HasCause};
 
-use edge_io::{Failed, Listener, MemoryListener};
+use edge_io::{Failed, Listener};
 use mio::Poll;
 use mio::net::TcpStream;
 use std::io;
-use std::io::ErrorKind;
 use std::net::Net;
 use tcp_edge::TcpEdge;
 
@@ -47,24 +46,5 @@ impl<N: Net> ReadyListener for TcpEdge<N> {
 
     fn accept_stream(&mut self) -> Result<TcpStream, Failed> {
         TcpEdge::accept_stream(self)
-    }
-}
-
-// Its connections are in memory: there is nothing to wait for.
-impl ReadyListener for MemoryListener {
-    ghost use Rattle.std.specs.Prelude.{false};
-
-    ghost ready = { λ _. false };
-
-    fn is_ready(&self) -> bool {
-        false
-    }
-
-    fn poll(&self) -> io::Result<Poll> {
-        unreachable!()
-    }
-
-    fn accept_stream(&mut self) -> Result<TcpStream, Failed> {
-        unreachable!()
     }
 }
