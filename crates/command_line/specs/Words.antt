@@ -7,7 +7,7 @@ use Rattle.clap.specs.Walk.{is_empty}
 use Rattle.clap.specs.Words.{App, Row, Text, fault_of, matches_of, one_of}
 use Rattle.command_line.specs.Parsers.{bare, most_32, most_64, number_app, session_app}
 use Rattle.command_line.specs.declared.command.Command.{Command}
-use Rattle.command_line.specs.declared.command.Command.TheVariants.{Frames, Make, Play, PlayGroups, PlayRegroup, Serve, Session, Trial}
+use Rattle.command_line.specs.declared.command.Command.TheVariants.{Frames, Make, Play, PlayGroups, PlayRegroup, Serve, Session, Trial, Verify}
 
 -- the number that a text writes in decimal digits, behind a plus or not
 abbrev pub number_up_to : ℕ → Text → Option ℕ
@@ -45,6 +45,7 @@ command_at word words =
     if bytes_eq word (codes "play") then bare_of word Play words
     else if bytes_eq word (codes "play_groups") then bare_of word PlayGroups words
     else if bytes_eq word (codes "play_regroup") then bare_of word PlayRegroup words
+    else if bytes_eq word (codes "verify") then bare_of word Verify words
     else if bytes_eq word (codes "session") then session_of words
     else if bytes_eq word (codes "serve") then bare_of word Serve words
     else if bytes_eq word (codes "make") then option_map Make (number_of word words)

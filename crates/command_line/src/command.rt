@@ -7,6 +7,8 @@ pub enum Command {
     PlayGroups,
     /// Plays a script of a group over eras.
     PlayRegroup,
+    /// Checks a transcript by its script.
+    Verify,
     /// Serves one connection over a group of this shape.
     Session {
         k: u32,

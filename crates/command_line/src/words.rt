@@ -22,6 +22,7 @@ pub fn read_words(alloc: Global, words: &[String]) -> Result<Command, WordsFault
         "play" => read_bare(alloc, "play", Command::Play, rest),
         "play_groups" => read_bare(alloc, "play_groups", Command::PlayGroups, rest),
         "play_regroup" => read_bare(alloc, "play_regroup", Command::PlayRegroup, rest),
+        "verify" => read_bare(alloc, "verify", Command::Verify, rest),
         "session" => read_session(alloc, rest),
         "serve" => read_bare(alloc, "serve", Command::Serve, rest),
         "make" => read_make(alloc, rest),

@@ -23,6 +23,10 @@ use Rattle.scenario_session.specs.declared.end.SessionEnd.{SessionEnd}
 use Rattle.scenario_session.specs.declared.end.SessionEnd.TheVariants as end
 use Rattle.wire_frames.specs.declared.status.FramesStatus.{FramesStatus}
 use Rattle.wire_frames.specs.declared.status.FramesStatus.TheVariants as frames
+use Rattle.run_verify.specs.declared.status.VerifyStatus.{VerifyStatus}
+use Rattle.run_verify.specs.declared.status.VerifyStatus.TheVariants as verdict
+use Rattle.group_program.specs.Verifying as verifying
+use Rattle.group_program.specs.Verifying.{IsJudged}
 use Rattle.group_program.specs.Frames as listing
 use Rattle.group_program.specs.Session as session
 use Rattle.group_program.specs.Frames.{IsListed}
@@ -111,3 +115,16 @@ listed-not before now status listed = ended-not (listing.status_of listed.end) l
 pub session-not : (d : Dimensions) (moment : Option ℕ) (before now : Outside) (status : Status) → IsSession d moment before now status → status ≢ AcceptFault
 session-not d moment before now status (inl shaped) = ended-not _ before now status shaped.2 (λ is. cc is)
 session-not d moment before now status (inr served) = ended-not (session.status_of served.1.end) served.1.middle now status served.1.told (of_session served.1.end)
+
+of_verdict : (e : VerifyStatus) → verifying.status_of e ≢ AcceptFault
+of_verdict verdict.Done is = cc is
+of_verdict (verdict.Refused line) is = cc is
+of_verdict (verdict.BadLine line) is = cc is
+of_verdict (verdict.BadShape field) is = cc is
+of_verdict verdict.TooLong is = cc is
+of_verdict verdict.ReadFault is = cc is
+of_verdict verdict.WriteFault is = cc is
+of_verdict verdict.Want is = cc is
+
+pub judged-not : (before now : Outside) (status : Status) → IsJudged before now status → status ≢ AcceptFault
+judged-not before now status judged = ended-not (verifying.status_of judged.end) judged.middle now status judged.told (of_verdict judged.end)

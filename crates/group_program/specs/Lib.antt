@@ -2,4 +2,5 @@ pub mod Frames
 pub mod Program
 pub mod Serving
 pub mod Session
+pub mod Verifying
 pub mod Words

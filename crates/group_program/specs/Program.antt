@@ -1,7 +1,7 @@
 -- What comes of the command that the words say.
 use Rattle.std.specs.Prelude.{◌≡◌, ℕ, List, Option, Some, None}
 use Rattle.command_line.specs.declared.command.Command.{Command}
-use Rattle.command_line.specs.declared.command.Command.TheVariants.{Frames, Play, PlayGroups, PlayRegroup, Make, Serve, Session, Trial}
+use Rattle.command_line.specs.declared.command.Command.TheVariants.{Frames, Play, PlayGroups, PlayRegroup, Make, Serve, Session, Trial, Verify}
 use Rattle.cluster_play.specs.Language.{cluster_scripts}
 use Rattle.regroup_play.specs.Language.{era_scripts}
 use Rattle.group_server.specs.Service.{Tally}
@@ -16,6 +16,7 @@ use Rattle.scenario_play.specs.declared.status.Status.TheVariants.{BadWords, Don
 use Rattle.group_program.specs.Frames.{IsListed}
 use Rattle.group_program.specs.Serving.{IsServed}
 use Rattle.group_program.specs.Session.{HasToldLast, IsSession}
+use Rattle.group_program.specs.Verifying.{IsJudged}
 
 -- what comes of a command, which is none where the words say none, over a listener that listens and tells so
 module _ {L : Type 0} (listened : L → List ℕ → L → Type 0) (tells : L → Tally) (l l_now : L) where
@@ -24,6 +25,7 @@ module _ {L : Type 0} (listened : L → List ℕ → L → Type 0) (tells : L �
   HasCarriedOut (Some Play) moment before now status = IsPlayed group_scripts before now status
   HasCarriedOut (Some PlayGroups) moment before now status = IsPlayed cluster_scripts before now status
   HasCarriedOut (Some PlayRegroup) moment before now status = IsPlayed era_scripts before now status
+  HasCarriedOut (Some Verify) moment before now status = IsJudged before now status
   HasCarriedOut (Some (Make n)) moment before now status = IsWritten Done (script_text n) before.held now.held before.writes now.writes status
   HasCarriedOut (Some (Trial n)) moment before now status = IsWritten (status_for (script_text n)) (trial_text n) before.held now.held before.writes now.writes status
   HasCarriedOut (Some (Session k m blocks block)) moment before now status = IsSession (record { k = k; m = m; blocks = blocks; block = block }) moment before now status

@@ -1,6 +1,6 @@
 use Rattle.std.specs.Prelude.{Option, Some, ⊤}
 use Rattle.command_line.specs.declared.command.Command.{Command}
-use Rattle.command_line.specs.declared.command.Command.TheVariants.{Frames, Play, PlayGroups, PlayRegroup, Serve, Session}
+use Rattle.command_line.specs.declared.command.Command.TheVariants.{Frames, Play, PlayGroups, PlayRegroup, Serve, Session, Verify}
 
 -- the words ask for no command that reads its input
 abbrev pub ReadsNothing : Option Command → Type 0
@@ -8,6 +8,7 @@ ReadsNothing (Some Play) = ⊥
 ReadsNothing (Some PlayGroups) = ⊥
 ReadsNothing (Some PlayRegroup) = ⊥
 ReadsNothing (Some Frames) = ⊥
+ReadsNothing (Some Verify) = ⊥
 ReadsNothing (Some Serve) = ⊥
 ReadsNothing (Some (Session _ _ _ _)) = ⊥
 ReadsNothing _ = ⊤

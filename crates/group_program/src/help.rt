@@ -6,6 +6,7 @@ use std::alloc::{AllocError, Global};
 const COMMANDS: &str = "usage: cocytus_main play < SCRIPT
        cocytus_main play_groups < SCRIPT
        cocytus_main play_regroup < SCRIPT
+       cocytus_main verify < SCRIPT_AND_TRANSCRIPT
        cocytus_main session <k> <m> <blocks> <block>
        cocytus_main serve < SETTINGS
        cocytus_main make <n>
@@ -70,6 +71,7 @@ pub fn help_at(alloc: Global, words: &[String], status: Status) -> Result<String
         Status::BadFrame(at) => {
             format!(in alloc; "the frame at byte {at} of the input is none of a message\n")
         }
+        Status::Refused(n) => format!(in alloc; "line {n} of the transcript is none that the script can have there\n"),
         Status::BadShape(field) => format!(in alloc; "{}\n", BadShape { field }),
         Status::BadConfig(key) => format!(in alloc; "{}\n", key.allowed()),
         Status::TooLong => too_long(words).to_string(alloc),
@@ -90,6 +92,7 @@ fn lines(words: &[String]) -> &'static str {
 fn too_long(words: &[String]) -> &'static str {
     match words.first() {
         Some(word) if word.as_str() == "serve" => "settings have at most 65536 bytes\n",
+        Some(word) if word.as_str() == "verify" => "a script and its transcript have at most 67108864 bytes\n",
         _ => "a script has at most 16777216 bytes\n",
     }
 }

@@ -10,6 +10,7 @@ mod notice;
 mod program;
 mod serving;
 mod serving_group;
+mod verifying;
 
 pub use ending::exit_of;
 pub use group_server::{Notice, Settings, Silent};

@@ -17,6 +17,7 @@ ghost use Rattle.group_program.specs.Words.{ReadsNothing};
 use crate::listing::list_frames;
 use crate::serving::serve_session;
 use crate::serving_group::serve_by_settings;
+use crate::verifying::judge;
 use cluster_play::play_groups;
 use command_line::{Command, WordsFault, read_words};
 use edge_io::{Clock, Listener, Sink, Source};
@@ -31,8 +32,8 @@ use std::alloc::Global;
 use std::sync::Wait;
 use std::thread::Threads;
 
-/// Runs the command that the words after the program's name ask for: `play`, `play_groups`, `play_regroup`, `session`,
-/// `serve`, `make`, `trial` or `frames`. Before the first connection of `serve` the notice tells what is served.
+/// Runs the command that the words after the program's name ask for: `play`, `play_groups`, `play_regroup`, `verify`,
+/// `session`, `serve`, `make`, `trial` or `frames`. Before the first connection of `serve` the notice tells what is served.
 pub fn run_program<R: Threads + Wait + Sync, S: Source, K: Sink, L: Listener, N: Notice, T: Clock>(
     rt: &R,
     alloc: Global,
@@ -107,6 +108,7 @@ where
         Command::Play => play(alloc, source, sink),
         Command::PlayGroups => play_groups(alloc, source, sink),
         Command::PlayRegroup => play_regroup(alloc, source, sink),
+        Command::Verify => judge(alloc, source, sink),
         Command::Make { number } => make(alloc, number, sink),
         Command::Trial { number } => trial(alloc, number, sink),
         Command::Frames => list_frames(alloc, source, sink),

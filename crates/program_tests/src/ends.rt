@@ -30,6 +30,7 @@ fn each_end_but_done_is_explained(rt: HostRuntime) -> Result<(), Fail> {
             Status::BadFrame(7),
             "the frame at byte 7 of the input is none of a message\n",
         ),
+        (Status::Refused(7), "line 7 of the transcript is none "),
     ] {
         assert!(rt;
             help_at(rt.alloc(), &[], status)?.starts_with(begin),
@@ -46,6 +47,10 @@ fn a_limit_is_told_of_its_command(rt: HostRuntime) -> Result<(), Fail> {
     for (word, begin) in [
         ("play", "a script has at most 16777216 bytes\n"),
         ("serve", "settings have at most 65536 bytes\n"),
+        (
+            "verify",
+            "a script and its transcript have at most 67108864 bytes\n",
+        ),
     ] {
         let words = owned(rt.alloc(), &[word])?;
         let told = help_at(rt.alloc(), &words, Status::TooLong)?;

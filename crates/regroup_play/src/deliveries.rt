@@ -5,7 +5,7 @@ ghost use Rattle.scenario_run.specs.Playing.{draining};
 ghost use Rattle.group_eras.specs.Eras.{MayMake, era_step, eras_after};
 ghost use Rattle.group_eras.specs.Promise.{IsLed};
 
-use group_calls::{Answer, Event};
+use group_calls::{Event, Out};
 use group_regroup::Regroup;
 use group_types::ProcessId;
 use std::alloc::AllocError;
@@ -13,17 +13,17 @@ use std::alloc::AllocError;
 // So many events a group counts.
 const MOST_EVENTS: u64 = 1 << 62;
 
-/// Makes an event, and gives its answer. That no further event can be counted is told as want of memory.
-pub(crate) fn make(regroup: &mut Regroup, event: &Event) -> Result<Answer, AllocError>
+/// Makes an event. That no further event can be counted is told as want of memory.
+pub(crate) fn make(regroup: &mut Regroup, event: &Event) -> Result<Out, AllocError>
     requires may { MayMake regroup.old event.now }
     ensures eras { OnOk result (regroup.new ≡ (era_step regroup.old event.now).eras) }
-    ensures answer { IfOk result (λ answer. answer ≡ (era_step regroup.old event.now).answer) }
+    ensures answer { IfOk result (λ out. out.answer ≡ (era_step regroup.old event.now).answer) }
     ensures few { OnOk result (regroup.old.world.events < 2 ^ 62) }
 {
     if MOST_EVENTS <= regroup.world().events() {
         return Err(AllocError);
     }
-    Ok(regroup.step(event)?.answer)
+    regroup.step(event)
 }
 
 /// Makes the deliveries of a drain, and gives their number: none while the group is down.

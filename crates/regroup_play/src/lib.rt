@@ -7,6 +7,7 @@ mod carrying;
 mod deliveries;
 pub mod laws;
 mod next;
+mod placing;
 pub mod play;
 mod player;
 mod playing;

@@ -11,11 +11,12 @@ ghost use Rattle.scenario_text.specs.declared.line.Line.TheVariants as line;
 ghost use Rattle.scenario_run.specs.Playing.{draining};
 ghost use Rattle.scenario_play.specs.Player.{text_in};
 ghost use Rattle.regroup_run.specs.Meaning.{IsLowLine, regroup_line};
-ghost use Rattle.regroup_run.specs.Playing.{by_call, by_drain, by_event, by_show, first_by, next_of, regroup_by, regroups, then_by};
+ghost use Rattle.regroup_run.specs.Playing.{by_call, by_drain, by_event, by_places, by_show, first_by, next_of, regroup_by, regroups, then_by};
 ghost use Rattle.regroup_play.specs.Doing.{HasBegun, HasDone};
 
 use crate::carrying::follow_regroup;
 use crate::deliveries::{drain, make};
+use crate::placing::write_placed;
 use crate::playing::EraPlay;
 use crate::reading::{is_regroup, is_skipped, read_regroup, words_of};
 use crate::showing::write_look_line;
@@ -119,7 +120,7 @@ fn follow_line(alloc: Global, play: &mut EraPlay, line: &Line) -> Result<Option<
         } => follow_trace(alloc, play, *caller, *call, *partition, *at),
         Line::Drain => follow_drain(alloc, play),
         Line::Show { at, run } => follow_show(alloc, play, *at, *run),
-        Line::Places => Err(LineFault::BadLine),
+        Line::Places => follow_places(alloc, play),
         Line::Time { moment } => follow_time(alloc, play, *moment),
         Line::Stop => Ok(None),
     }
@@ -253,8 +254,8 @@ fn follow_event(
     ensures { HasDone (Some play.old) (by_event play.old event.now) (Some play.new) (text_in result) }
 {
     let from = play.regroup.world().log().len();
-    let answer = make(&mut play.regroup, event)?;
-    let mut text = write_answer_line(alloc, &answer)?;
+    let out = make(&mut play.regroup, event)?;
+    let mut text = write_answer_line(alloc, &out.answer)?;
     write_since(alloc, &play.regroup, play.regroup.era(), from, &mut text)?;
     Ok(Some(text))
 }
@@ -291,4 +292,11 @@ fn follow_show(
     ensures { HasDone (Some play.now) (by_show play.now at run) (Some play.now) (text_in result) }
 {
     Ok(Some(write_look_line(alloc, &play.regroup, at, run)?))
+}
+
+/// The runs of the updates that the current era has logged.
+fn follow_places(alloc: Global, play: &EraPlay) -> Result<Option<Vec<u8>>, LineFault>
+    ensures { HasDone (Some play.now) (by_places play.now) (Some play.now) (text_in result) }
+{
+    Ok(Some(write_placed(alloc, &play.regroup)?))
 }

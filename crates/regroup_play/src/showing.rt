@@ -90,7 +90,7 @@ fn raised(
 }
 
 /// A number of a partition with its base. One of more than 64 bits is told as want of memory.
-fn with_base(regroup: &Regroup, partition: u32, number: u64) -> Result<u64, AllocError>
+pub(crate) fn with_base(regroup: &Regroup, partition: u32, number: u64) -> Result<u64, AllocError>
     requires { partition < regroup.now.world.shape.k }
     ensures { IfOk result (λ told. told ≡ with_base regroup.now.bases partition number) }
 {

@@ -109,7 +109,7 @@ then-leads s p Drain next deeds text ready within low is =
     let both = parts (Some q) next (map Makes es) deeds _ text is in
     record { play = q; is = both.0; leads = subst (Leads p.eras q.eras) (sym both.1) (makes-lead p.eras es (drains p.eras.world.shape p.eras (world-led s p.eras ready.led))); moment = ready.moment }
 then-leads s p (Show from run) next deeds text ready within low is = stays p p next deeds _ text refl ready.moment is
-then-leads s p Places next deeds text ready within low is = absurd (cc is)
+then-leads s p Places next deeds text ready within low is = stays p p next deeds _ text refl ready.moment is
 then-leads s p (Time moment) next deeds text ready within low is = stays p (record { eras = p.eras; moment = moment }) next deeds [] text refl within is
 then-leads s p Stop next deeds text ready within low is = absurd (cc is)
 

@@ -21,6 +21,7 @@ use Rattle.scenario_text.specs.declared.line.Line.TheVariants.{Skipped, Group, A
 use Rattle.scenario_text.specs.declared.line.LineFault.{LineFault}
 use Rattle.scenario_text.specs.declared.line.LineFault.TheVariants.{BadLine}
 use Rattle.scenario_run.specs.Course.{Next, Goes, Ends, Refused}
+use Rattle.scenario_run.specs.Placing.{placed_text}
 use Rattle.scenario_run.specs.Playing.{draining}
 use Rattle.group_eras.specs.Carry.{carried, many_carried}
 use Rattle.group_eras.specs.Eras.{EraEntry, Eras, carrier, era_step, eras_after, first_era, stamp_in}
@@ -71,6 +72,10 @@ look e p bytes = if is_down e.world then codes "down" else (if is_dead e.world p
 abbrev pub by_show : EraPlay → ProcessId → Run → EraNext
 by_show p from run = Goes (Some p) [] (look p.eras from (held p.eras.world from run) ++ 10 ∷ [])
 
+-- the runs of the updates that the current era has logged, whose numbers go on from those of the eras before
+abbrev pub by_places : EraPlay → EraNext
+by_places p = Goes (Some p) [] (placed_text p.eras.bases p.eras.world)
+
 -- items are carried: how many, and then what was logged of reading and of setting them
 abbrev pub by_carry : EraPlay → Dimensions → EraNext
 by_carry p s = Goes (Some (record { eras = carried p.eras s; moment = p.moment })) (Carries s ∷ [])
@@ -109,7 +114,7 @@ then_by p (Flush from) = by_event p (happens.Flush from)
 then_by p (Trace caller call partition from) = by_trace p caller call (happens.Trace caller call partition from)
 then_by p Drain = by_drain p (draining p.eras.world)
 then_by p (Show from run) = by_show p from run
-then_by p Places = Refused BadLine
+then_by p Places = by_places p
 then_by p (Time moment) = quietly (Some (record { eras = p.eras; moment = moment }))
 then_by p Stop = Ends
 

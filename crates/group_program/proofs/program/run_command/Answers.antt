@@ -3,7 +3,7 @@ use Rattle.regroup_play.specs.Language.{era_scripts}
 use Rattle.scenario_make.specs.Script.{script_text}
 use Rattle.scenario_play.specs.Language.{group_scripts}
 use Rattle.scenario_play.specs.declared.status.Status.TheVariants.{Done}
-use Rattle.group_program.proofs.Accepting.{eras-told-not, groups-told-not, listed-not, played-not, session-not, told-not, written-not}
+use Rattle.group_program.proofs.Accepting.{eras-told-not, groups-told-not, judged-not, listed-not, played-not, session-not, told-not, written-not}
 use Rattle.group_program.proofs.program.run_command.Goals as goal
 
 pub returns-in-Play-clause-accept : goal.returns-in-Play-clause-accept
@@ -26,3 +26,6 @@ returns-in-Frames-clause-accept g c is = absurd (listed-not _ _ c.list_frames.re
 
 pub returns-in-Session-clause-accept : goal.returns-in-Session-clause-accept
 returns-in-Session-clause-accept g c is = absurd (session-not _ _ _ _ c.serve_session.result c.serve_session.ensures.session is)
+
+pub returns-in-Verify-clause-accept : goal.returns-in-Verify-clause-accept
+returns-in-Verify-clause-accept g c is = absurd (judged-not _ _ c.judge.result c.judge.ensures.judged is)
