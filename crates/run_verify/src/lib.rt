@@ -1,0 +1,28 @@
+//! A transcript is verified by its script alone: each line is judged, and the first that fails is named. The contract says that
+//! a yes means that all which is told is legal, answered within its time, placed apart and shown as it was written.
+//! Reading the words of a transcript's lines is left to the crate below.
+#![tactic(auto)]
+
+mod account;
+mod ahead;
+mod answering;
+mod apart;
+mod book;
+pub mod call;
+mod calls;
+pub mod change;
+mod cut;
+mod due;
+mod entry;
+mod keep;
+mod look;
+mod place;
+mod places;
+mod script;
+mod setting;
+mod sheet;
+mod spaces;
+pub mod step;
+pub mod verdict;
+
+pub use verdict::{Verdict, VerifyFault};
