@@ -2,6 +2,7 @@ pub mod Accounts
 pub mod Books
 pub mod Changes
 pub mod Checked
+pub mod Courses
 pub mod Dues
 pub mod Judging
 pub mod Keeping
@@ -13,6 +14,7 @@ pub mod Scripts
 pub mod Sheet
 pub mod Showing
 pub mod Steps
+pub mod Text
 pub mod Told
 pub mod Updates
 pub mod Verdict
