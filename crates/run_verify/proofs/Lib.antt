@@ -1,0 +1,29 @@
+pub mod Replying
+pub mod Aparts
+mod Cutting
+pub mod Implied
+mod ImpliedAccount
+mod ImpliedAhead
+mod ImpliedChanges
+mod ImpliedCourse
+mod ImpliedHeads
+mod ImpliedItems
+mod ImpliedPlaces
+mod ImpliedShadow
+mod ImpliedShown
+mod ImpliedStands
+mod ImpliedSteps
+mod ImpliedTurn
+mod ImpliedWithin
+mod PlainRead
+pub mod PlainScript
+pub mod Duties
+pub mod Entering
+pub mod Finding
+pub mod Keeps
+pub mod LogAhead
+pub mod Looking
+pub mod Placements
+pub mod Stamping
+pub mod Taking
+pub mod Vectors

@@ -1,0 +1,12 @@
+use Rattle.std.proofs.Common.{◌≡◌, arith}
+use Rattle.scenario_run.specs.Lines.{lines_of}
+use Rattle.run_verify.specs.Sheet.{before_separator}
+use Rattle.run_verify.proofs.Taking.{line-skips, line-told}
+use Rattle.run_verify.proofs.script.take_line.Goals as goal
+
+pub returns-then-is_skipped-clause-taken : goal.returns-then-is_skipped-clause-taken
+returns-then-is_skipped-clause-taken c = line-skips c.args.number c.args.setting.now c.args.steps.now.items c.args.line.now (before_separator (lines_of c.args.rest.now)) (grind arith)
+
+pub returns-in-Err-clause-taken : goal.returns-in-Err-clause-taken
+returns-in-Err-clause-taken c =
+    line-told c.args.number c.args.setting.now c.treat.new.setting c.args.line.now (before_separator (lines_of c.args.rest.now)) c.in-Err.fault c.told.result c.in-Err.ensures.treated c.told.ensures

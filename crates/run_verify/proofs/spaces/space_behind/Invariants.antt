@@ -1,0 +1,15 @@
+use Rattle.std.proofs.Common.{◌≡◌, All, length}
+use Rattle.group_types.specs.Dimensions.{space_of}
+use Rattle.run_verify.specs.Changes.{space_after, space_behind}
+use Rattle.run_verify.specs.Showing.{IsFitChange}
+use Rattle.run_verify.proofs.spaces.space_behind.Given as goal
+
+abbrev pub invariant-changes : goal.invariant-changes
+invariant-changes l = record {
+  same : space_after l.space.items l.rest ≡ space_behind l.shape l.changes;
+  long : length l.space.items ≡ space_of l.shape;
+  fit : All (IsFitChange l.shape) l.rest;
+}
+
+abbrev pub decreases-changes : goal.decreases-changes
+decreases-changes l = length l.rest

@@ -1,0 +1,78 @@
+ghost use Rattle.std.specs.Prelude.{◌≡◌, ◌<◌, ◌^◌, All, slice_get, option_and_then, IfOk};
+ghost use Rattle.transcript_text.specs.Texts.{FitsName, text_of_name};
+ghost use Rattle.run_verify.specs.Accounts.{account_of};
+ghost use Rattle.run_verify.specs.Judging.{HasApplied, HasRead, open_op};
+ghost use Rattle.run_verify.specs.Passing.{Begins};
+
+use crate::account::Account;
+use crate::call::Call;
+use crate::calls::{calls_of, fits};
+use group_calls::Entry;
+use memc_table::Op;
+use scenario_text::write_entry::write_entry;
+use std::alloc::AllocError;
+use transcript_text::name::{Name, named};
+
+impl Account {
+    /// Reads the next entry from a line of the log, if the line tells it, and applies it to the table.
+    pub(crate) fn read_entry(&mut self, line: &[u8]) -> Result<Option<Entry>, AllocError>
+        requires low { All (λ count. count < 2 ^ 62) (account_of self.old).table.counts }
+        ensures { IfOk result (HasRead (account_of self.old) line.now (account_of self.new)) }
+    {
+        match named(line) {
+            None => Ok(None),
+            Some((name, _)) => self.read_named(name, line),
+        }
+    }
+
+    /// The same of a line with this name.
+    fn read_named(&mut self, name: Name, line: &[u8]) -> Result<Option<Entry>, AllocError>
+        requires low { All (λ count. count < 2 ^ 62) (account_of self.old).table.counts }
+        requires name { FitsName name }
+        requires front { Begins (text_of_name name) line.now }
+        ensures { IfOk result (HasRead (account_of self.old) line.now (account_of self.new)) }
+    {
+        match open_call(calls_of(&self.calls, name.caller), name.call)? {
+            None => Ok(None),
+            Some(op) => self.apply(name, op, line),
+        }
+    }
+
+    /// Applies the op of a call to the table, and compares its entry with a line.
+    fn apply(&mut self, name: Name, op: Op, line: &[u8]) -> Result<Option<Entry>, AllocError>
+        requires low { All (λ count. count < 2 ^ 62) (account_of self.old).table.counts }
+        ensures { IfOk result (HasApplied (account_of self.old) name op line.now (account_of self.new)) }
+    {
+        let reply = self.table.apply(&op)?;
+        fits(&reply);
+        let entry = Entry {
+            caller: name.caller,
+            call: name.call,
+            op,
+            reply,
+        };
+        if write_entry(self.alloc, &entry)?.as_slice() != line {
+            return Ok(None);
+        }
+        Ok(Some(entry))
+    }
+}
+
+/// The op of a call that may take effect and isn't logged yet.
+fn open_call(calls: &[Call], call: u64) -> Result<Option<Op>, AllocError>
+    ensures { IfOk result (λ op. op ≡ option_and_then open_op (slice_get calls.now call)) }
+{
+    match calls.get(call as usize) {
+        Some(call) => op_of(call),
+        None => Ok(None),
+    }
+}
+
+fn op_of(call: &Call) -> Result<Option<Op>, AllocError>
+    ensures { IfOk result (λ op. op ≡ open_op call.now) }
+{
+    if call.taken && call.reply.is_none() {
+        return Ok(Some(call.op.clone()?));
+    }
+    Ok(None)
+}

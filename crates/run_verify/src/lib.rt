@@ -1,0 +1,38 @@
+//! A transcript is verified by its script alone: each line is judged, and the first that fails is named. The contract says that
+//! a yes means that all which is told is legal, answered within its time, placed apart and shown as it was written.
+//! Reading the words of a transcript's lines is left to the crate below.
+#![tactic(auto)]
+
+mod account;
+mod ahead;
+mod answering;
+mod apart;
+mod book;
+pub mod call;
+mod calls;
+pub mod change;
+mod cut;
+mod due;
+mod entry;
+mod judge;
+mod keep;
+mod look;
+mod pass;
+mod place;
+mod places;
+mod placing;
+mod reading;
+mod script;
+mod setting;
+mod sheet;
+mod spaces;
+pub mod status;
+pub mod step;
+mod text;
+pub mod verdict;
+mod verifying;
+
+pub use status::VerifyStatus;
+pub use text::verify_text;
+pub use verdict::{Verdict, VerifyFault};
+pub use verifying::verify;
