@@ -1,6 +1,6 @@
-ghost use Rattle.std.specs.Prelude.{◌≡◌, ◌×◌, ◌+◌, ◌≤◌, ◌^◌, Bool, IsErr, OnErr, OnOk, false, true};
+ghost use Rattle.std.specs.Prelude.{◌≡◌, ◌+◌, ◌≤◌, ◌^◌, Bool, IsErr, OnErr, OnOk, false, true};
 ghost use Rattle.std.specs.Result.{IsErrAnd};
-ghost use Rattle.std_io.specs.IoError.{error_kind};
+ghost use Rattle.std.specs.IoError.{error_kind};
 ghost use Rattle.edge_io.specs.Faults.{HasCause};
 
 use edge_io::{Failed, Listener, MemoryListener};
@@ -28,7 +28,7 @@ pub trait ReadyListener: Listener {
     fn accept_stream(&mut self) -> Result<TcpStream, Failed>
         ensures unsupported { Self.ready self.old ≡ false → IsErr result × (self.new ≡ self.old) }
         ensures stays { Self.ready self.new ≡ Self.ready self.old }
-        ensures limit { Self.accepted self.new ≤ 2 ^ 62 }
+        ensures limit { Self.ready self.old ≡ true → Self.accepted self.new ≤ 2 ^ 62 }
         ensures accepts { OnOk result (Self.accepted self.new ≡ Self.accepted self.old + 1) }
         ensures none { OnErr result (Self.accepted self.new ≡ Self.accepted self.old) }
         ensures cause { Self.ready self.old ≡ true → HasCause (Self.faults self.old) (Self.faults self.new) result };

@@ -2,10 +2,10 @@
 use crate::memory::same;
 use edge_io::{Failed, Listener};
 use std::alloc::Global;
+use std::io;
 use std::io::ErrorKind;
 use std::net::{Net, SocketAddr};
 use std::process::Abort;
-use std::io;
 use tcp_edge::TcpEdge;
 
 #[test]

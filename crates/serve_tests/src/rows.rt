@@ -16,8 +16,14 @@ use tcp_edge::TcpEdge;
 const ROWS: [(&[u8], &[u8]); 6] = [
     (b"set a 0 0 5\r\nab", b""),
     (b"get a\r\n", b"END\r\n"),
-    (b"set a 0 0 1\r\nA\r\nget a\r\nquit\r\n", b"STORED\r\nVALUE a 0 1\r\nA\r\nEND\r\n"),
-    (b"get a b a\r\n", b"VALUE a 0 1\r\nA\r\nVALUE a 0 1\r\nA\r\nEND\r\n"),
+    (
+        b"set a 0 0 1\r\nA\r\nget a\r\nquit\r\n",
+        b"STORED\r\nVALUE a 0 1\r\nA\r\nEND\r\n",
+    ),
+    (
+        b"get a b a\r\n",
+        b"VALUE a 0 1\r\nA\r\nVALUE a 0 1\r\nA\r\nEND\r\n",
+    ),
     (b"quit\r\nversion\r\n", b""),
     (b"", b""),
 ];
