@@ -1,12 +1,12 @@
 #!/bin/sh
-# What clients that behave badly do to others: half a line, answers that nobody reads, an end inside a block, 1 GB of garbage, all workers held.
-# sh bench/hostile.sh [PROGRAM], by hand, over the executable that `rt run` leaves; a minute at most. ADDRESS=HOST:PORT WORKERS=N asks a server
-# that runs already.
+# What clients that behave badly do to others: half a line, answers that nobody reads, an end inside a block, 1 GB of garbage, 1,000 half lines.
+# sh bench/hostile.sh [PROGRAM], by hand, over the executable that `rt run` leaves; a minute at most. ADDRESS=HOST:PORT asks a server that runs
+# already.
 set -eu
 here=$(cd "$(dirname "$0")" && pwd)
 program=${1:-$here/../crates/cocytus_main/out/cocytus_main}
 if [ -n "${ADDRESS:-}" ]; then
-    exec python3 "$here/hostile/hostile.py" "${ADDRESS%:*}" "${ADDRESS##*:}" "${WORKERS:-4}"
+    exec python3 "$here/hostile/hostile.py" "${ADDRESS%:*}" "${ADDRESS##*:}"
 fi
 work=$(mktemp -d)
 pid=
@@ -15,4 +15,4 @@ trap 'exit 1' INT TERM
 printf 'k = 4\nm = 2\nblocks = 4096\nblock = 4096\naddress = "127.0.0.1:21211"\nworkers = 4\n' > "$work/settings.toml"
 "$program" serve < "$work/settings.toml" > "$work/served" & pid=$!
 sleep 1
-python3 "$here/hostile/hostile.py" 127.0.0.1 21211 4 "$pid"
+python3 "$here/hostile/hostile.py" 127.0.0.1 21211 "$pid"

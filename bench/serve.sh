@@ -39,10 +39,10 @@ reach() {
 start() {
     case $1 in
     memcached)
-        memcached -u nobody -l 127.0.0.1 -p $port -t 4 -m 2048 & pids=$!
+        memcached -u nobody -l 127.0.0.1 -p $port -t 4 -c 4096 -m 2048 & pids=$!
         reach ;;
     serve)
-        printf 'k = 4\nm = 2\nblocks = 16384\nblock = 4096\naddress = "127.0.0.1:%d"\nworkers = 32\n' $port > "$work/settings.toml"
+        printf 'k = 4\nm = 2\nblocks = 16384\nblock = 4096\naddress = "127.0.0.1:%d"\nworkers = 4\n' $port > "$work/settings.toml"
         "$program" serve < "$work/settings.toml" > "$work/served" 2> "$work/notice" & pids=$!
         reach ;;
     redis)
@@ -66,14 +66,19 @@ used() {
     for pid in $pids; do cat "/proc/$pid/stat"; done | sed 's/.*) //' | awk -v ticks="$(getconf CLK_TCK)" '{ sum += $12 + $13 } END { printf "%.2f\n", sum / ticks }'
 }
 
-# A line of results: the server, the cell, then the words of the client, and the processor seconds of the servers.
+# What the servers hold in memory, KiB.
+resident() {
+    for pid in $pids; do cat "/proc/$pid/status"; done | awk '/^VmRSS/ { sum += $2 } END { print sum }'
+}
+
+# A line of results: the server, the cell, then the words of the client, the memory and the processor seconds of the servers.
 measure() {
     server=$1 gets=$2 size=$3 depth=$4 connections=$5
     shift 5
     if [ "$server" = redis ]; then set -- --redis 2; fi
     before=$(used)
     line=$("$work/load" 127.0.0.1:$port --gets "$gets" --size "$size" --depth "$depth" --connections "$connections" --threads 4 --seconds "$seconds" "$@" 2>> "$work/faults") || true
-    echo "$server $gets $size $depth $connections $line server_cpu_s $(used) $before" >> "$work/results"
+    echo "$server $gets $size $depth $connections $line resident $(resident) server_cpu_s $(used) $before" >> "$work/results"
 }
 
 cells() {
@@ -81,6 +86,7 @@ cells() {
         echo "$CELLS"
     else
         for gets in 90 0; do for size in 100 4096; do for depth in 1 16; do for connections in 1 4 16; do echo "$gets $size $depth $connections"; done; done; done; done
+        for gets in 90 0; do for connections in 64 1000; do echo "$gets 100 1 $connections"; done; done
     fi
 }
 
@@ -97,12 +103,12 @@ for server in $only; do
 done
 
 echo "requests a second; microseconds of the middle and of the 99th of 100, and the longest; microseconds of a processor for a request, of the"
-echo "client and of the servers (filling and reading back of 10,000 keys counted)"
+echo "client and of the servers (filling and reading back of 10,000 keys counted); KiB of the servers' memory behind the cell"
 awk '
-    BEGIN { printf "%10s %5s %6s %6s %12s %10s %8s %8s %9s %7s %7s  %s\n", "server", "gets", "bytes", "depth", "connections", "a second", "p50", "p99", "longest", "client", "server", "faults" }
+    BEGIN { printf "%10s %5s %6s %6s %12s %10s %8s %8s %9s %7s %7s %8s  %s\n", "server", "gets", "bytes", "depth", "connections", "a second", "p50", "p99", "longest", "client", "server", "KiB", "faults" }
     { for (i = 6; i < NF; i += 2) of[$i] = $(i + 1); server = of["server_cpu_s"] - $NF
       faults = of["errors"] + of["wrong"] + of["missing"] + of["lost"]
-      printf "%10s %5d %6d %6d %12d %10d %8.1f %8.1f %9d %7.2f %7.2f  %s\n", $1, $2, $3, $4, $5, of["a_second"], of["p50_us"], of["p99_us"], of["max_us"], of["client_cpu_s"] * 1e6 / of["requests"], server * 1e6 / (of["requests"] + 20000), faults ? faults : "none" }' "$work/results"
+      printf "%10s %5d %6d %6d %12d %10d %8.1f %8.1f %9d %7.2f %7.2f %8d  %s\n", $1, $2, $3, $4, $5, of["a_second"], of["p50_us"], of["p99_us"], of["max_us"], of["client_cpu_s"] * 1e6 / of["requests"], server * 1e6 / (of["requests"] + 20000), of["resident"], faults ? faults : "none" }' "$work/results"
 awk '
     { for (i = 6; i < NF; i += 2) of[$i] = $(i + 1); cell = sprintf("%5d %6d %6d %12d", $2, $3, $4, $5)
       if (!(cell in seen)) { seen[cell]; order[++many] = cell } rate[$1, cell] = of["a_second"] }

@@ -1,4 +1,4 @@
-# What a client that behaves badly does to others: python3 hostile.py HOST PORT WORKERS [PID of the server]. Called by bench/hostile.sh.
+# What a client that behaves badly does to others: python3 hostile.py HOST PORT [PID of the server]. Called by bench/hostile.sh.
 # While each of the bad ones is there, an innocent on a connection that it had before sets and gets for a second, and reads what it wrote;
 # then a newcomer connects and does a get. Bounded in time and bytes.
 
@@ -7,8 +7,8 @@ import sys
 import threading
 import time
 
-HOST, PORT, WORKERS = sys.argv[1], int(sys.argv[2]), int(sys.argv[3])
-PID = sys.argv[4] if len(sys.argv) > 4 else None
+HOST, PORT = sys.argv[1], int(sys.argv[2])
+PID = sys.argv[3] if len(sys.argv) > 3 else None
 GARBAGE = 1_000_000_000
 
 
@@ -125,32 +125,13 @@ def many_lines(link):
         bad.shutdown(socket.SHUT_RDWR)
 
 
-# How long a newcomer waits for its answer while one of the bad clients closes after a second.
-def wait_for(link, leaving):
-    begun = time.monotonic()
-    threading.Timer(1.0, leaving.close).start()
-    try:
-        answer = ask(link, b"get nothing\r\n", b"END\r\n")
-    except OSError as error:
-        answer = error
-    return f"{answer!r} after {time.monotonic() - begun:.1f} s"
-
-
-# The workers that the innocent leaves are held, then one connection more; a newcomer waits, and first the oldest and then the newest leaves.
-def all_held(link):
-    bad = [connect() for _ in range(WORKERS - 1)]
+# As many as a crowd hold half a line each; then they leave.
+def many_half_lines(link):
+    bad = [connect() for _ in range(1000)]
     for one in bad:
         one.sendall(b"get held")
     time.sleep(0.3)
-    told(f"all {WORKERS} workers held", link)
-    bad.append(connect())
-    bad[-1].sendall(b"get held")
-    time.sleep(0.3)
-    told("and one connection more", link)
-    with connect(5.0) as waiting:
-        print(f"    a newcomer, while the oldest leaves: {wait_for(waiting, bad[0])}", flush=True)
-    with connect(5.0) as waiting:
-        print(f"    a newcomer, while the newest leaves: {wait_for(waiting, bad[-1])}", flush=True)
+    told("1,000 hold half a line", link)
     for one in bad:
         one.close()
     time.sleep(0.3)
@@ -159,5 +140,5 @@ def all_held(link):
 
 with connect() as before:
     told("nothing bad", before)
-    for trial in [half_a_line, reads_nothing, half_a_block, one_line, many_lines, all_held]:
+    for trial in [half_a_line, reads_nothing, half_a_block, one_line, many_lines, many_half_lines]:
         trial(before)

@@ -20,8 +20,8 @@ use crate::serving_group::serve_by_settings;
 use crate::verifying::judge;
 use cluster_play::play_groups;
 use command_line::{Command, WordsFault, read_words};
-use edge_io::{Clock, Listener, Sink, Source};
-use group_server::Notice;
+use edge_io::{Clock, Sink, Source};
+use group_server::{Notice, ReadyListener};
 use regroup_play::play_regroup;
 use scenario_play::Status;
 use scenario_play::make::make;
@@ -34,7 +34,14 @@ use std::thread::Threads;
 
 /// Runs the command that the words after the program's name ask for: `play`, `play_groups`, `play_regroup`, `verify`,
 /// `session`, `serve`, `make`, `trial` or `frames`. Before the first connection of `serve` the notice tells what is served.
-pub fn run_program<R: Threads + Wait + Sync, S: Source, K: Sink, L: Listener, N: Notice, T: Clock>(
+pub fn run_program<
+    R: Threads + Wait + Sync,
+    S: Source,
+    K: Sink,
+    L: ReadyListener,
+    N: Notice,
+    T: Clock,
+>(
     rt: &R,
     alloc: Global,
     words: &[String],
@@ -78,7 +85,7 @@ where
 }
 
 /// Runs a command.
-fn run_command<R: Threads + Wait + Sync, S: Source, K: Sink, L: Listener, N: Notice, T: Clock>(
+fn run_command<R: Threads + Wait + Sync, S: Source, K: Sink, L: ReadyListener, N: Notice, T: Clock>(
     rt: &R,
     alloc: Global,
     command: Command,

@@ -4,8 +4,8 @@ ghost use Rattle.group_server.specs.Service.{tally};
 ghost use Rattle.scenario_play.specs.Outside.{outside};
 ghost use Rattle.group_program.specs.Serving.{IsServed, status_of};
 
-use edge_io::{Clock, Listener, Sink, Source};
-use group_server::{Notice, ServiceFault, serve};
+use edge_io::{Clock, Sink, Source};
+use group_server::{Notice, ReadyListener, ServiceFault, serve};
 use scenario_play::Status;
 use scenario_play::tell::tell;
 use std::alloc::Global;
@@ -17,7 +17,7 @@ pub(crate) fn serve_by_settings<
     R: Threads + Wait + Sync,
     S: Source,
     K: Sink,
-    L: Listener,
+    L: ReadyListener,
     N: Notice,
     T: Clock,
 >(

@@ -1,5 +1,5 @@
 -- What is told of a group that is served by settings, from what became of each step.
-use Rattle.std.proofs.Common.{◌≡◌, ℕ, ◌+◌, min, inl, inr, List, ◌++◌, length, take, Result, Ok, Err, IfOk, OnErr, sym, ap, subst, ◌∙◌, arith}
+use Rattle.std.proofs.Common.{◌≡◌, ℕ, ◌+◌, min, inl, inr, List, ◌++◌, length, take, Result, Ok, Err, IfOk, OnErr, sym, subst, ◌∙◌, arith}
 use Rattle.std.specs.Result.{IsErrAnd}
 use Rattle.std.proofs.Math.Seq.{take-append-add, take-length}
 use Rattle.std.proofs.lemmas.List.{take-append-le, take_min}

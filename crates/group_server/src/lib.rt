@@ -15,5 +15,6 @@ mod service;
 pub use fault::ServiceFault;
 pub use group_config::Settings;
 pub use notice::{Notice, Silent};
+pub use ready_worker::ReadyListener;
 pub use server::serve_group;
 pub use service::serve;

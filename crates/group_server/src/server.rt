@@ -1,4 +1,4 @@
-ghost use Rattle.std.specs.Prelude.{◌≡◌, ℕ, Err, IfErr, IfOk, OnErr};
+ghost use Rattle.std.specs.Prelude.{◌≡◌, ℕ, Err, IfOk, OnErr};
 ghost use Rattle.edge_io.specs.Faults.{HasCauseOf};
 ghost use Rattle.group_server.specs.Serving.{CanServe};
 ghost use Rattle.node_worker.specs.Served.{HasAccepted, IsDone};
@@ -7,9 +7,10 @@ ghost use Rattle.node_worker.specs.declared.fault.ServeFault.{ServeFault};
 use crate::bell::Bell;
 use crate::deliverer::Deliverer;
 use crate::desk::Desk;
-use edge_io::{Clock, Listener};
+use edge_io::Clock;
 use group_stage::{Seats, Stage};
-use node_worker::{Gate, ServeFault, serve_all};
+use node_worker::{Gate, ServeFault};
+use ready_worker::{ReadyListener, serve_either};
 use std::alloc::Global;
 use std::sync::Wait;
 use std::thread;
@@ -18,7 +19,7 @@ use std::thread::Threads;
 /// Serves the connections of a listener over a group, by so many workers as there are seats but two: until
 /// `connections` of them were accepted, where that isn't 0, or the listener says that none comes. It returns once all
 /// are served. There is want of memory only before the first is accepted.
-pub fn serve_group<R: Threads + Wait + Sync, L: Listener, G: Gate, T: Clock>(
+pub fn serve_group<R: Threads + Wait + Sync, L: ReadyListener, G: Gate, T: Clock>(
     rt: &R,
     alloc: Global,
     listener: &mut L,
@@ -62,7 +63,7 @@ where
 }
 
 /// Serves the connections over the callers of a desk, while a thread of its own delivers.
-fn serve_beside<R: Threads + Wait + Sync, L: Listener, G: Gate, T: Clock>(
+fn serve_beside<R: Threads + Wait + Sync, L: ReadyListener, G: Gate, T: Clock>(
     rt: &R,
     alloc: Global,
     listener: &mut L,
@@ -80,7 +81,7 @@ where
     ensures done { IfOk result (λ n. IsDone connections n (L.over listener.new)) }
     ensures fault { HasCauseOf (L.faults listener.old) (L.faults listener.new) result ServeFault.AcceptFault }
     ensures at_fault { OnErr result ((n : ℕ) × HasAccepted (L.accepted listener.old) (L.accepted listener.new) connections n) }
-    ensures only { IfErr result (λ fault. fault ≡ ServeFault.AcceptFault) }
+    ensures want { result ≡ Err ServeFault.Want → listener.new ≡ listener.old }
 {
     let bell = Bell::new();
     // Where no thread can be made the first of the two runs last, and the bell has rung.
@@ -105,7 +106,7 @@ where
 }
 
 /// Serves the connections over the callers of a desk, and rings the bell behind the last.
-fn serve_and_ring<R: Threads + Wait + Sync, L: Listener, G: Gate, T: Clock>(
+fn serve_and_ring<R: Threads + Wait + Sync, L: ReadyListener, G: Gate, T: Clock>(
     rt: &R,
     alloc: Global,
     listener: &mut L,
@@ -123,9 +124,9 @@ where
     ensures done { IfOk result (λ n. IsDone connections n (L.over listener.new)) }
     ensures fault { HasCauseOf (L.faults listener.old) (L.faults listener.new) result ServeFault.AcceptFault }
     ensures at_fault { OnErr result ((n : ℕ) × HasAccepted (L.accepted listener.old) (L.accepted listener.new) connections n) }
-    ensures only { IfErr result (λ fault. fault ≡ ServeFault.AcceptFault) }
+    ensures want { result ≡ Err ServeFault.Want → listener.new ≡ listener.old }
 {
-    let end = serve_all(rt, alloc, listener, desk, gate, workers, connections, clock);
+    let end = serve_either(rt, alloc, listener, desk, gate, workers, connections, clock);
     bell.ring();
     end
 }

@@ -8,17 +8,18 @@ ghost use Rattle.group_server.specs.Steps.{HasNotOpened, HasReported, IsGivenOr}
 use crate::fault::ServiceFault;
 use crate::notice::Notice;
 use crate::server::serve_group;
-use edge_io::{Clock, Listener, Sink, Source, write_all};
+use edge_io::{Clock, Sink, Source, write_all};
 use group_config::{Settings, read_settings, read_text};
 use group_stage::Stage;
 use node_worker::{OpenGate, ServeFault};
+use ready_worker::ReadyListener;
 use std::alloc::Global;
 use std::sync::Wait;
 use std::thread::Threads;
 
 /// Serves a fresh group by the settings that a source gives, and tells how many connections were accepted. It writes
 /// `listening` once the listener listens at their address, and behind the last connection `served` and their number.
-pub fn serve<R: Threads + Wait + Sync, S: Source, K: Sink, L: Listener, N: Notice, T: Clock>(
+pub fn serve<R: Threads + Wait + Sync, S: Source, K: Sink, L: ReadyListener, N: Notice, T: Clock>(
     rt: &R,
     alloc: Global,
     source: &mut S,
@@ -51,7 +52,7 @@ fn given<S: Source>(alloc: Global, source: &mut S) -> Result<Settings, ServiceFa
 }
 
 /// Serves a group with these settings.
-fn serve_by<R: Threads + Wait + Sync, K: Sink, L: Listener, N: Notice, T: Clock>(
+fn serve_by<R: Threads + Wait + Sync, K: Sink, L: ReadyListener, N: Notice, T: Clock>(
     rt: &R,
     alloc: Global,
     settings: &Settings,
@@ -87,7 +88,7 @@ where
 }
 
 /// Listens at the settings' address, and says so.
-fn open<K: Sink, L: Listener, N: Notice>(
+fn open<K: Sink, L: ReadyListener, N: Notice>(
     settings: &Settings,
     sink: &mut K,
     listener: &mut L,

@@ -2,6 +2,9 @@ ghost use Rattle.std.specs.Prelude.{◌≤◌, ◌^◌};
 
 // A listener whose clients hear each other.
 use edge_io::{Failed, Listener, ReadEdge, WriteEdge};
+use mio::Poll;
+use mio::net::TcpStream;
+use ready_worker::ReadyListener;
 use std::alloc::{AllocError, Global};
 use std::io::{ErrorKind, Read, Write};
 use std::sync::atomic::{AtomicUsize, Ordering};
@@ -100,6 +103,25 @@ impl Door {
             accepted: 0,
             over: false,
         }
+    }
+}
+
+// Its clients are no streams of the system.
+impl ReadyListener for Door {
+    ghost use Rattle.std.specs.Prelude.{false};
+
+    ghost ready = { λ _. false };
+
+    fn is_ready(&self) -> bool {
+        false
+    }
+
+    fn poll(&self) -> io::Result<Poll> {
+        Err(io::Error::from(ErrorKind::Unsupported))
+    }
+
+    fn accept_stream(&mut self) -> Result<TcpStream, Failed> {
+        Err(Failed)
     }
 }
 

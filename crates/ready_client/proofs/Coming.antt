@@ -18,8 +18,9 @@ use Rattle.front_end.specs.declared.end.ConnectionFault.{ConnectionFault}
 use Rattle.front_end.specs.declared.end.ConnectionFault.TheVariants.{Want}
 use Rattle.front_end.specs.declared.end.End.{End}
 use Rattle.front_end.proofs.Piecing.{served-halted, served-closed}
-use Rattle.front_end.proofs.Serving.{GoesOn, goes_on-more, served-end, served-fault}
+use Rattle.front_end.proofs.Serving.{GoesOn, goes_on-more, goes_on-none, served-end, served-fault}
 use Rattle.front_end.proofs.Stepping.{AnsweredUpTo, up_to-none, up_to-more, up_to-all, up_to-broken}
+use Rattle.ready_client.specs.Apart.{apart, written}
 use Rattle.ready_client.specs.Coming.{Steps, IsUnderWay, HasComeTo, Comes, GoesOnApart, by_close}
 
 -- what was answered in so many steps
@@ -27,6 +28,12 @@ up_to : {C : Type 0} (ways : Ways C) (told : Option ℕ) (n : ℕ) (before : Sta
 up_to ways told zero before given now waiting steps =
     subst (λ (rs : List Request). AnsweredUpTo ways told before now given rs) (sym steps.1) (subst (λ (s : Stand _). AnsweredUpTo ways told before s given given) (sym steps.0) (up_to-none ways told before given))
 up_to ways told (suc n) before given now waiting steps = up_to-more ways told before steps.0 now given steps.1 waiting (up_to ways told n before given steps.0 steps.1 steps.2) steps.3
+
+-- nothing was read
+pub begins : {C : Type 0} (ways : Ways C) (told : Option ℕ) (input : Input) (held : List ℕ) (progress : Progress) → HasRead progress.kept [] [] → progress.waiting ≡ [] → progress.count ≡ 0
+    → Comes ways told input input held (held ++ []) progress None
+begins ways told input held progress has_read none unread = subst (λ (bs : List ℕ). Comes ways told input input held bs progress None) (sym (append-nil held))
+    (inl (none, goes_on-none (apart ways) told input (written held) progress.kept progress.count has_read unread))
 
 -- a piece was taken
 pub taken : {C : Type 0} (ways : Ways C) (told : Option ℕ) (input input_then input_now : Input) (before at : Stand C) (was now : Progress) (piece : List ℕ)

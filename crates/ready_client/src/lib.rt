@@ -4,6 +4,7 @@
 #![tactic(auto)]
 
 mod client;
+pub mod laws;
 mod step;
 
 pub use client::{Client, Turn};

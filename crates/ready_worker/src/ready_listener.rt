@@ -1,14 +1,17 @@
-ghost use Rattle.std.specs.Prelude.{◌≡◌, ◌+◌, ◌≤◌, ◌^◌, Bool, OnErr, OnOk, true};
+ghost use Rattle.std.specs.Prelude.{◌≡◌, ◌+◌, ◌≤◌, ◌^◌, Bool, IsErr, OnErr, OnOk, false, true};
+ghost use Rattle.std.specs.Result.{IsErrAnd};
+ghost use Rattle.std.specs.IoError.{error_kind};
 ghost use Rattle.edge_io.specs.Faults.{HasCause};
 
-use edge_io::{Failed, Listener};
+use edge_io::{Failed, Listener, MemoryListener};
 use mio::Poll;
 use mio::net::TcpStream;
 use std::io;
+use std::io::ErrorKind;
 use std::net::Net;
 use tcp_edge::TcpEdge;
 
-/// A listener that may hand out its connections as streams that do not wait.
+/// A listener that may hand out its connections as streams that do not wait. One that does not refuses to, and stays.
 pub trait ReadyListener: Listener {
     // Whether it hands out such streams.
     ghost ready: { Self → Bool };
@@ -17,18 +20,18 @@ pub trait ReadyListener: Listener {
     fn is_ready(&self) -> bool
         ensures { result ≡ Self.ready self.now };
 
-    /// A poll at which its streams can be waited for.
+    /// A poll at which its streams can be waited for: `Unsupported` where it has none.
     fn poll(&self) -> io::Result<Poll>
-        requires { Self.ready self.now ≡ true };
+        ensures unsupported { Self.ready self.now ≡ false → IsErrAnd result (λ e. error_kind e ≡ ErrorKind.Unsupported) };
 
-    /// The next connection, which is waited for.
+    /// The next connection, which is waited for: where it hands out no such streams it fails, and counts no fault.
     fn accept_stream(&mut self) -> Result<TcpStream, Failed>
-        requires ready { Self.ready self.old ≡ true }
+        ensures unsupported { Self.ready self.old ≡ false → IsErr result × (self.new ≡ self.old) }
         ensures stays { Self.ready self.new ≡ Self.ready self.old }
-        ensures limit { Self.accepted self.new ≤ 2 ^ 62 }
+        ensures limit { Self.ready self.old ≡ true → Self.accepted self.new ≤ 2 ^ 62 }
         ensures accepts { OnOk result (Self.accepted self.new ≡ Self.accepted self.old + 1) }
         ensures none { OnErr result (Self.accepted self.new ≡ Self.accepted self.old) }
-        ensures cause { HasCause (Self.faults self.old) (Self.faults self.new) result };
+        ensures cause { Self.ready self.old ≡ true → HasCause (Self.faults self.old) (Self.faults self.new) result };
 }
 
 impl<N: Net> ReadyListener for TcpEdge<N> {
@@ -46,5 +49,24 @@ impl<N: Net> ReadyListener for TcpEdge<N> {
 
     fn accept_stream(&mut self) -> Result<TcpStream, Failed> {
         TcpEdge::accept_stream(self)
+    }
+}
+
+// Its connections are in memory: there is nothing to wait for.
+impl ReadyListener for MemoryListener {
+    ghost use Rattle.std.specs.Prelude.{false};
+
+    ghost ready = { λ _. false };
+
+    fn is_ready(&self) -> bool {
+        false
+    }
+
+    fn poll(&self) -> io::Result<Poll> {
+        Err(io::Error::from(ErrorKind::Unsupported))
+    }
+
+    fn accept_stream(&mut self) -> Result<TcpStream, Failed> {
+        Err(Failed)
     }
 }

@@ -63,9 +63,7 @@ pub fn serve_ready<R: Threads + Wait + Sync, L: ReadyListener, P: Port, T: Clock
 }
 
 /// So many workers, each with a poll of its own.
-fn crew_of<L: ReadyListener>(alloc: Global, listener: &L, workers: u32) -> io::Result<Vec<Worker>>
-    requires { L.ready listener.now ≡ true }
-{
+fn crew_of<L: ReadyListener>(alloc: Global, listener: &L, workers: u32) -> io::Result<Vec<Worker>> {
     let mut crew = Vec::with_capacity(alloc, workers as usize)?;
     'workers: for _ in 0..workers {
         let worker = Worker::new(alloc, listener.poll()?)?;

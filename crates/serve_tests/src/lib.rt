@@ -3,12 +3,18 @@
 #![tactic(auto)]
 
 #[cfg(test)]
+mod crowd;
+#[cfg(test)]
 mod loopback;
 #[cfg(test)]
 mod memory;
 #[cfg(test)]
+mod rows;
+#[cfg(test)]
 mod settings;
 #[cfg(test)]
 mod shop;
+#[cfg(test)]
+mod unsteady;
 #[cfg(test)]
 mod workers;

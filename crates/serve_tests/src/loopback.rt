@@ -1,43 +1,12 @@
-// A port of this machine, and a client that comes over it.
+// A port of this machine.
 use crate::memory::same;
-use crate::workers::served;
 use edge_io::{Failed, Listener};
-use node_worker::OpenGate;
 use std::alloc::Global;
-use std::io::{ErrorKind, Read, Write};
-use std::net::{Net, SocketAddr, TcpStream};
+use std::io;
+use std::io::ErrorKind;
+use std::net::{Net, SocketAddr};
 use std::process::Abort;
-use std::{io, thread};
 use tcp_edge::TcpEdge;
-
-/// What a client says, and what it is answered.
-const SAID: &[u8] = b"set a 0 0 1\r\nA\r\nget a b\r\nversion\r\nquit\r\n";
-
-const ANSWERED: &[u8] = b"STORED\r\nVALUE a 0 1\r\nA\r\nEND\r\nVERSION cocytus-1\r\n";
-
-/// What a client is told that says everything at once.
-fn talk<R: Net>(net: &R, alloc: Global, server: SocketAddr) -> io::Result<Vec<u8>> {
-    let mut stream = TcpStream::connect(net, server)?;
-    stream.write_all(SAID)?;
-    let mut heard = Vec::new(alloc);
-    stream.read_to_end(&mut heard)?;
-    Ok(heard)
-}
-
-#[test]
-fn serves_a_client(rt: HostRuntime) {
-    let mut port = TcpEdge::new(rt);
-    same(&rt, port.listen("127.0.0.1:0"), Ok(()));
-    let server = port.local_addr().expect(&rt, "an address");
-    let alloc = rt.alloc();
-    let (heard, served) = thread::join(
-        &rt,
-        move || talk(&rt, alloc, server),
-        move || served(rt, alloc, &mut port, &OpenGate, 1, 1),
-    );
-    same(&rt, served, Ok(1));
-    same(&rt, heard.expect(&rt, "what is heard").as_slice(), ANSWERED);
-}
 
 #[test]
 fn keeps_its_last_error(rt: HostRuntime) {
