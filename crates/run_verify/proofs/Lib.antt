@@ -15,11 +15,15 @@ mod ImpliedStands
 mod ImpliedSteps
 mod ImpliedTurn
 mod ImpliedWithin
+pub mod Logging
+pub mod Meeting
 mod PlainRead
+pub mod Moving
 pub mod PlainScript
 pub mod Duties
 pub mod Entering
 pub mod Finding
+pub mod Judging
 pub mod Keeps
 pub mod LogAhead
 pub mod Looking
@@ -27,3 +31,5 @@ pub mod Placements
 pub mod Stamping
 pub mod Taking
 pub mod Vectors
+pub mod Verdicts
+pub mod Within

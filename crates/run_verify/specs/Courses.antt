@@ -44,7 +44,7 @@ IsMet s a Placing line ahead next = ⊥
 
 -- what a line was found to be, which is one of the log or isn't, with this step in turn and these to come
 abbrev pub HasPassedBy : Bool → Sheet → Account → Step → List Step → Bool → List ℕ → List (List ℕ) → Account → Passed → Type 0
-HasPassedBy is_log sheet a step steps logging line ahead now passed.Entry = PassesBy is_log sheet (state_of a (step ∷ steps) logging) line ahead (state_of now (step ∷ steps) logging)
+HasPassedBy is_log sheet a step steps logging line ahead now passed.Entry = (is_log ≡ true) × PassesBy is_log sheet (state_of a (step ∷ steps) logging) line ahead (state_of now (step ∷ steps) logging)
 HasPassedBy is_log sheet a step steps logging line ahead now passed.Answer = (step ≢ Placing) × PassesBy is_log sheet (state_of a (step ∷ steps) logging) line ahead (state_of now steps true)
 HasPassedBy is_log sheet a step steps logging line ahead now passed.Over = (step ≢ Placing) × PassesBy is_log sheet (state_of a (step ∷ steps) logging) line ahead (state_of now steps false)
 HasPassedBy is_log sheet a step steps logging line ahead now passed.Fails = (next : State) → ¬ (PassesBy is_log sheet (state_of a (step ∷ steps) logging) line ahead next)
@@ -62,10 +62,27 @@ HasPassed s places a step logging line ahead now passed = HasPassedOn (begins_en
 pub record IsWithin (s : Dimensions) (n : ℕ) (a : Account) : Type 0 where
   pub partitions : length a.changes ≡ s.k
   pub fit : All (All (IsFitChange s)) a.changes
+  pub few : All (λ changes. length changes ≤ n) a.changes
   pub low : All (λ count. count ≤ n) a.table.counts
   pub entries : a.entries ≤ n
   pub placed : a.placed ≡ 0
   pub shown : a.shown ≤ n
+
+-- the steps in turn and to come behind such a line, which are these as before or those behind the first, and whether lines of
+-- the log may come
+abbrev pub turn_by : Passed → List Step → List Step → List Step
+turn_by passed.Answer turn more = more
+turn_by passed.Over turn more = more
+turn_by passed.Entry turn more = turn
+turn_by passed.Places turn more = turn
+turn_by passed.Fails turn more = turn
+
+abbrev pub logging_by : Passed → Bool → Bool
+logging_by passed.Answer logging = true
+logging_by passed.Over logging = false
+logging_by passed.Entry logging = logging
+logging_by passed.Places logging = logging
+logging_by passed.Fails logging = logging
 
 -- the sheet of these steps and lines
 abbrev pub sheet_on : Dimensions → List Step → List (List ℕ) → Sheet
@@ -86,6 +103,10 @@ logs Deliveries = true
 logs (Make event) = false
 logs (Look p run) = false
 logs Placing = false
+
+abbrev pub may_log : Bool → Step → Bool
+may_log true step = true
+may_log false step = logs step
 
 -- what a line is that tells what a step asks for
 abbrev pub met_by : Step → Passed

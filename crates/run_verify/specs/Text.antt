@@ -1,6 +1,7 @@
 -- What comes of a text that is read, verified and told of.
 use Rattle.std.specs.Prelude.{ℕ, ◌≡◌, ◌⊎◌, ◌≤◌, ◌+◌, List, ◌∷◌, ◌++◌, codes, length, Result, Ok, Err, ⊤, Vec}
 use Rattle.std.specs.Fmt.{decimal}
+use Rattle.edge_io.specs.Faults.{Rose}
 use Rattle.edge_io.specs.Moving.{Appends, Input, IsEnded, Takes}
 use Rattle.edge_io.specs.Writing.{HasWritten}
 use Rattle.edge_io.specs.declared.fault.SinkFault.{SinkFault}
@@ -67,12 +68,12 @@ status_in (Ok _) = Done
 status_in (Err status) = status
 
 -- a text was read to its end, or it has more bytes than the limit, or a read failed, or there was no memory
-abbrev pub HasReadText : Input → Input → Result (List ℕ) VerifyStatus → Type 0
-HasReadText before now (Ok text) = IsRead before now text
-HasReadText before now (Err TooLong) = (text : List ℕ) × Takes before now text × (length text ≡ longest_sheet + 1)
-HasReadText before now (Err ReadFault) = IsPartRead longest_sheet before now
-HasReadText before now (Err Want) = IsPartRead (longest_sheet + 1) before now
-HasReadText before now (Err _) = ⊥
+abbrev pub HasReadText : Input → Input → ℕ → ℕ → Result (List ℕ) VerifyStatus → Type 0
+HasReadText before now faults faults_now (Ok text) = Takes before now text × IsEnded now
+HasReadText before now faults faults_now (Err TooLong) = (text : List ℕ) × Takes before now text × (length text ≡ longest_sheet + 1)
+HasReadText before now faults faults_now (Err ReadFault) = Rose faults faults_now × IsPartRead longest_sheet before now
+HasReadText before now faults faults_now (Err Want) = IsPartRead (longest_sheet + 1) before now
+HasReadText before now faults faults_now (Err _) = ⊥
 
 -- what is found of a text: how many entries and lines that show bytes there are, or why not all is checked
 abbrev pub IsFoundOf : List ℕ → Result (ℕ × ℕ) VerifyStatus → Type 0

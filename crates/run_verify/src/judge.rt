@@ -1,7 +1,7 @@
 ghost use Rattle.std.specs.Prelude.{◌≡◌, ◌≤◌, ◌<◌, ◌+◌, ◌^◌, [], All, IfOk, length, replicate};
 ghost use Rattle.scenario_run.specs.Lines.{lines_of};
 ghost use Rattle.run_verify.specs.Accounts.{account_of, lists_of};
-ghost use Rattle.run_verify.specs.Courses.{IsJudged, IsPlacedBehind, IsWithin, sheet_on};
+ghost use Rattle.run_verify.specs.Courses.{IsJudged, IsPlacedBehind, IsWithin, logging_by, sheet_on, turn_by};
 ghost use Rattle.run_verify.specs.Judging.{IsStepOf};
 ghost use Rattle.run_verify.specs.Passing.{first_account};
 ghost use Rattle.run_verify.specs.Plain.{EndsPlacing};
@@ -33,6 +33,7 @@ pub(crate) fn judge(
     requires places { ArePlacesOf (lines_of text.now) places.now }
     ensures { IfOk result (IsJudged (sheet_on shape steps.now (lines_of text.now))) }
 {
+    let _partitions = shape.k();
     let mut account = Account::new(alloc, shape)?;
     let mut turn = steps;
     let mut logging = false;
@@ -44,16 +45,31 @@ pub(crate) fn judge(
             unreachable!()
         };
         match account.pass(shape, places, logging, step, line, ahead)? {
-            Passed::Entry => {}
-            Passed::Answer => (turn, logging) = (more, true),
-            Passed::Over => (turn, logging) = (more, false),
             Passed::Places => return place(shape, &account, done, rest),
             Passed::Fails => return Ok(Verdict::Refused { line: done + 1 }),
+            passed => (turn, logging) = go_on(passed, turn, more, logging),
         }
         done += 1;
         rest = ahead;
     }
     Ok(Verdict::Refused { line: done + 1 })
+}
+
+/// The steps in turn and to come behind such a line, and whether lines of the log may come.
+fn go_on<'a>(
+    passed: Passed,
+    turn: &'a [Step],
+    more: &'a [Step],
+    logging: bool,
+) -> (&'a [Step], bool)
+    ensures turn { result.0.now ≡ turn_by passed turn.now more.now }
+    ensures logging { result.1 ≡ logging_by passed logging }
+{
+    match passed {
+        Passed::Answer => (more, true),
+        Passed::Over => (more, false),
+        _ => (turn, logging),
+    }
 }
 
 /// Judges the lines for the places, which stand behind so many.

@@ -1,7 +1,7 @@
 ghost use Rattle.std.specs.Prelude.{◌≡◌, ◌<◌, ◌^◌, All, IfOk, length};
 ghost use Rattle.scenario_run.specs.Lines.{lines_of};
 ghost use Rattle.run_verify.specs.Accounts.{account_of, lists_of};
-ghost use Rattle.run_verify.specs.Courses.{HasLogged, HasPassed, HasPassedOn, IsMet, logs, met_by};
+ghost use Rattle.run_verify.specs.Courses.{HasLogged, HasPassed, HasPassedOn, IsMet, may_log, met_by};
 ghost use Rattle.run_verify.specs.Judging.{IsStepOf, Judges};
 ghost use Rattle.run_verify.specs.Showing.{IsFitChange};
 
@@ -43,6 +43,7 @@ impl Account {
         requires step { IsStepOf shape step.now }
         requires partitions { length self.old.changes.items ≡ shape.k }
         requires fit { All (All (IsFitChange shape)) (lists_of self.old.changes.items) }
+        requires few { All (λ changes. length changes < 2 ^ 62) (lists_of self.old.changes.items) }
         requires low { All (λ count. count < 2 ^ 62) (account_of self.old).table.counts }
         requires entries { self.old.entries < 2 ^ 62 }
         requires shown { self.old.shown < 2 ^ 62 }
@@ -65,11 +66,12 @@ impl Account {
         ahead: &[u8],
     ) -> Result<Passed, AllocError>
         requires partitions { length self.old.changes.items ≡ shape.k }
+        requires few { All (λ changes. length changes < 2 ^ 62) (lists_of self.old.changes.items) }
         requires low { All (λ count. count < 2 ^ 62) (account_of self.old).table.counts }
         requires entries { self.old.entries < 2 ^ 62 }
         ensures { IfOk result (HasPassedOn true shape places.now (account_of self.old) step.now logging line.now (lines_of ahead.now) (account_of self.new)) }
     {
-        if !logging && !logs(step) {
+        if !may_log(logging, step) {
             return Ok(Passed::Fails);
         }
         if !self.log(shape, places, line)? {
@@ -106,10 +108,12 @@ impl Account {
     /// Takes a line of the log, if it tells the next entry.
     fn log(&mut self, shape: Shape, places: &[Place], line: &[u8]) -> Result<bool, AllocError>
         requires partitions { length self.old.changes.items ≡ shape.k }
+        requires few { All (λ changes. length changes < 2 ^ 62) (lists_of self.old.changes.items) }
         requires low { All (λ count. count < 2 ^ 62) (account_of self.old).table.counts }
         requires entries { self.old.entries < 2 ^ 62 }
         ensures { HasLogged shape places.now (account_of self.old) line.now (account_of self.new) result }
     {
+        let _partitions = shape.k();
         match self.read_entry(line)? {
             None => Ok(false),
             Some(entry) => {
@@ -142,11 +146,11 @@ impl Account {
     }
 }
 
-/// Whether lines of the log may come where a step is in turn.
-fn logs(step: &Step) -> bool
-    ensures { result ≡ logs step.now }
+/// Whether lines of the log may come: behind an event's answer, and for deliveries.
+fn may_log(logging: bool, step: &Step) -> bool
+    ensures { result ≡ may_log logging step.now }
 {
-    matches!(step, Step::Deliveries)
+    logging || matches!(step, Step::Deliveries)
 }
 
 /// What a line is that tells what a step asks for.

@@ -17,6 +17,5 @@ pub(crate) fn judge_places(
     requires partitions { length changes.now ≡ shape.k }
     ensures { IfOk result (ArePlacedFrom shape (lists_of changes.now) 0 (lines_of text.now)) }
 {
-    let _ = (alloc, shape, changes, text);
     Err(AllocError)
 }

@@ -1,7 +1,5 @@
-ghost use Rattle.std.specs.Prelude.{◌≡◌, ◌≤◌, length, OnOk};
+ghost use Rattle.std.specs.Prelude.{◌≡◌, ◌≤◌, length, Err};
 ghost use Rattle.edge_io.specs.Faults.{HasCauseOf, Rose};
-ghost use Rattle.edge_io.specs.Moving.{Appends};
-ghost use Rattle.edge_io.specs.Writing.{HasWritten};
 ghost use Rattle.run_verify.specs.Text.{HasJudged, HasTold, IsFoundOf, status_in, verified_line};
 
 use crate::reading::read_text;
@@ -36,7 +34,7 @@ fn verify_source<S: Source, K: Sink>(
     sink: &mut K,
 ) -> Result<(), VerifyStatus>
     ensures judged { HasJudged (S.input source.old) (S.input source.new) (K.held sink.old) (K.held sink.new) (status_in result) }
-    ensures read { HasCauseOf (S.faults source.old) (S.faults source.new) result VerifyStatus.ReadFault }
+    ensures read { result ≡ Err VerifyStatus.ReadFault → Rose (S.faults source.old) (S.faults source.new) }
     ensures write { HasCauseOf (K.faults sink.old) (K.faults sink.new) result VerifyStatus.WriteFault }
 {
     let text = read_text(alloc, source)?;
