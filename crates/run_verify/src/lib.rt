@@ -18,6 +18,7 @@ mod keep;
 mod look;
 mod place;
 mod places;
+mod placing;
 mod script;
 mod setting;
 mod sheet;
