@@ -3,6 +3,7 @@ pub mod Books
 pub mod Changes
 pub mod Checked
 pub mod Dues
+pub mod Items
 pub mod Judging
 pub mod Keeping
 pub mod Passing
