@@ -26,6 +26,7 @@ pub mod Looking
 pub mod Marking
 pub mod Placed
 pub mod Passed
+pub mod Rising
 pub mod Stamping
 pub mod Taking
 pub mod Vectors
