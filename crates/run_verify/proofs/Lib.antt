@@ -30,6 +30,7 @@ pub mod Looking
 pub mod Placements
 pub mod Stamping
 pub mod Taking
+pub mod Telling
 pub mod Vectors
 pub mod Verdicts
 pub mod Within

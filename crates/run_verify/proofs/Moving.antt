@@ -1,5 +1,6 @@
 -- A turn of the loop over the lines of a transcript.
-use Rattle.std.proofs.Common.{◌≡◌, ◌≢◌, ◌≤◌, ◌+◌, ℕ, zero, suc, Bool, false, List, [], ◌∷◌, ◌∙◌, drop, get_or, length, refl, sym, ap, subst, arith}
+use Rattle.std.proofs.Common.{◌≡◌, ◌≢◌, ◌≤◌, ◌+◌, ◌-◌, ℕ, Bool, List, [], ◌∷◌, ◌∙◌, drop, get_or, length, take, refl, sym, ap, subst, arith}
+use Rattle.std.proofs.lemmas.List.{take_all}
 use Rattle.std.specs.Prelude.{All, Result, Ok, Err, IfOk}
 use Rattle.group_types.specs.Dimensions.{Dimensions}
 use Rattle.group_types.specs.Shape.{IsShape}
@@ -62,3 +63,8 @@ module _ (sheet : Sheet) (a : Account) (turn : List Step) (step : Step) (logging
 
     pub moved_within : (n : ℕ) → IsShape sheet.script.shape → IsWithin sheet.script.shape n a → IsWithin sheet.script.shape (n + 1) now
     moved_within n shape within = goes_within (begins_entry line) sheet a step (drop 1 turn) logging line ahead now n p goes is shape within
+
+-- a slice of all but the first
+pub rest_is : (turn : List Step) → take (length turn - 1) (drop 1 turn) ≡ drop 1 turn
+rest_is [] = let none : List Step = [] in take_all (length none - 1) none (omega arith)
+rest_is (x ∷ xs) = take_all (length (x ∷ xs) - 1) xs (omega arith)
