@@ -3,7 +3,8 @@ use Rattle.std.proofs.Math.Seq.{drop-cons, take-length}
 use Rattle.std.proofs.lemmas.Grind.{get_or_default_zero}
 use Rattle.std.proofs.lemmas.List.{take-append-drop, length-take-le, get_or-take}
 use Rattle.std.proofs.lemmas.List.Splits.{slice_split_at, slice_split_none, length-slice_split}
-use Rattle.std.specs.List.{slice_split}
+use Rattle.std.specs.List.{onto_first, slice_split}
+use Rattle.std.specs.Prelude.{cond}
 use Rattle.scenario_run.specs.Lines.{lines_of, without_empty_last}
 
 without_empty_last-cons : (line : List ℕ) (lines : List (List ℕ)) → 0 < length lines → without_empty_last (line ∷ lines) ≡ line ∷ without_empty_last lines
@@ -44,3 +45,14 @@ pub lines_of-last : (text : List ℕ) → 0 < length text → ((k : ℕ) → k <
 lines_of-last text some none =
     let plain = subst (All (λ b. (b == 10) ≡ false)) (take-length text) (is_plain text (length text) (omega arith) none) in
     ap without_empty_last (slice_split_none (λ b. b == 10) text plain) ∙ without_empty_last-one text some
+
+first-of : (b : ℕ) (ends : Bool) (pieces : List (List ℕ)) → 0 < length pieces → (line : List ℕ) × (lines : List (List ℕ)) × (without_empty_last (cond ends ([] ∷ pieces) (onto_first b pieces)) ≡ line ∷ lines)
+first-of b ends [] some = absurd (omega arith)
+first-of b true (p ∷ ps) some = ([], without_empty_last (p ∷ ps), refl)
+first-of b false (p ∷ []) some = (b ∷ p, [], refl)
+first-of b false (p ∷ q ∷ ps) some = (b ∷ p, without_empty_last (q ∷ ps), refl)
+
+-- a text that isn't empty has a line
+pub some_lines : (text : List ℕ) → 0 < length text → (line : List ℕ) × (lines : List (List ℕ)) × (lines_of text ≡ line ∷ lines)
+some_lines [] none = absurd (omega arith)
+some_lines (b ∷ bs) some = first-of b (b == 10) (slice_split (λ c. c == 10) bs) (let long = length-slice_split (λ c. c == 10) bs in omega (arith, long))

@@ -1,99 +1,69 @@
 -- What is due, change by change.
-use Rattle.std.proofs.Common.{◌≡◌, ◌<◌, ◌≤◌, ◌+◌, ◌-◌, ℕ, zero, suc, Bool, true, false, List, [], ◌∷◌, ◌++◌, Option, Some, None, drop, length, take, get_or, refl, sym, ap, ◌∙◌, subst, arith}
-use Rattle.std.proofs.lemmas.List.{drop_all, drop_more}
-use Rattle.std.specs.Prelude.{slice_get}
+use Rattle.std.proofs.Common.{◌≡◌, ◌<◌, ◌≤◌, ◌+◌, ◌-◌, ℕ, zero, suc, Bool, true, false, List, [], ◌∷◌, ◌++◌, Option, Some, None, drop, length, take, get_or, refl, sym, ap, ◌∙◌, arith}
+use Rattle.std.proofs.lemmas.List.{drop_all, drop_more, take_more}
 use Rattle.group_types.specs.Lists.{at}
 use Rattle.group_types.specs.declared.run.Run.{Run}
-use Rattle.run_verify.specs.declared.due.Found.TheVariants.{There, Left}
-use Rattle.run_verify.specs.Dues.{HasFoundIn, IsFirst, due_at, dues_in, is_written}
+use Rattle.run_verify.specs.Dues.{due_at, dues_in, dues_left, dues_on, is_written}
 use Rattle.run_verify.specs.Passing.{Due, due_for, dues_of}
 use Rattle.run_verify.specs.declared.change.Change.{Change}
 use Rattle.run_verify.specs.declared.change.Effect.{Effect}
 use Rattle.run_verify.specs.declared.change.Effect.TheVariants.{Writes, Removes, Keeps}
 
--- at a place, so many dues are left to be passed
-abbrev pub IsAt : List Change → ℕ → ℕ → ℕ → Type 0
-IsAt changes n left place = (d : ℕ) (others : List Due) → drop n (dues_of d [] changes ++ others) ≡ drop left (dues_of d (take place changes) (drop place changes) ++ others)
-
-pub get_there : (xs : List Change) (i : ℕ) (c : Change) → i < length xs → c ≡ get_or xs i c → slice_get xs i ≡ Some c
-get_there [] i c below is = absurd (omega arith)
-get_there (x ∷ xs) zero c below is = ap Some (sym is)
-get_there (x ∷ xs) (suc i) c below is = get_there xs i c (omega arith) is
-
-take-next : {X : Type 0} (xs : List X) (i : ℕ) (d : X) → i < length xs → take (suc i) xs ≡ take i xs ++ get_or xs i d ∷ []
-take-next [] i d below = absurd (omega arith)
-take-next (x ∷ xs) zero d below = refl
-take-next (x ∷ xs) (suc i) d below = ap (λ (ys : List _). x ∷ ys) (take-next xs i d (omega arith))
+-- behind so many places, what is due is for the own changes of partition d from a place on, and for the partitions behind
+abbrev pub IsAt : List (List Change) → ℕ → List Change → ℕ → ℕ → Type 0
+IsAt changes d own place passed = dues_left changes passed ≡ dues_of d (take place own) (drop place own) ++ dues_on changes (d + 1)
 
 due-else : (d : ℕ) (before : List Change) (e : Effect) (more : List Due) → is_written e ≡ false → due_for d before e more ≡ more
 due-else d before (Writes value run) more is = absurd (cc is)
 due-else d before Removes more is = refl
 due-else d before Keeps more is = refl
 
-written-is : (e : Effect) → is_written e ≡ true → (value : List ℕ) × (run : Option Run) × (e ≡ Writes value run)
-written-is (Writes value run) is = (value, run, refl)
-written-is Removes is = absurd (cc is)
-written-is Keeps is = absurd (cc is)
-
-module _ (changes : List Change) (n left place : ℕ) (c : Change) (stands : IsAt changes n left place) (below : place < length changes) (here : c ≡ get_or changes place c) where
-  next-taken : take (place + 1) changes ≡ take place changes ++ c ∷ []
-  next-taken = ap (λ (k : ℕ). take k changes) (let e : place + 1 ≡ suc place = omega arith in e) ∙ take-next changes place c below ∙ ap (λ (x : Change). take place changes ++ x ∷ []) (sym here)
-
-  split : drop place changes ≡ c ∷ drop (place + 1) changes
-  split = drop_more changes place c below ∙ ap (λ (x : Change). x ∷ drop (place + 1) changes) (sym here)
-
-  more : ℕ → List Due
-  more d = dues_of d (take (place + 1) changes) (drop (place + 1) changes)
-
-  unfolded : (d : ℕ) → dues_of d (take place changes) (drop place changes) ≡ due_for d (take place changes) c.effect (more d)
-  unfolding more
-  unfolded d = ap (dues_of d (take place changes)) split ∙ ap (λ (before : List Change). due_for d (take place changes) c.effect (dues_of d before (drop (place + 1) changes))) (sym next-taken)
-
-  pub at_else : is_written c.effect ≡ false → IsAt changes n left (place + 1)
-  unfolding more
-  at_else is d others = stands d others ∙ ap (λ (ds : List Due). drop left (ds ++ others)) (unfolded d ∙ due-else d (take place changes) c.effect (more d) is)
-
-  pub at_next : is_written c.effect ≡ true → 0 < left → IsAt changes n (left - 1) (place + 1)
-  unfolding more
-  at_next is some d others =
-      let (value, run, e) = written-is c.effect is in
-      let count : left ≡ suc (left - 1) = omega (arith, some) in
-      stands d others ∙ ap (λ (ds : List Due). drop left (ds ++ others)) (unfolded d ∙ ap (λ (x : Effect). due_for d (take place changes) x (more d)) e)
-      ∙ ap (λ (k : ℕ). drop k (due_at d (take place changes) value run ∷ (more d ++ others))) count
-
-  pub at_due : is_written c.effect ≡ true → left ≡ 0 → (d : ℕ) (others : List Due) → slice_get changes place ≡ Some c → IsFirst d changes place (drop n (dues_of d [] changes ++ others))
-  unfolding more
-  at_due is none d others there =
-      let (value, run, e) = written-is c.effect is in
-      record {
-        change = c;
-        there = there;
-        value = value;
-        run = run;
-        writes = e;
-        rest = more d ++ others;
-        is = stands d others ∙ ap (λ (k : ℕ). drop k (dues_of d (take place changes) (drop place changes) ++ others)) none
-            ∙ ap (λ (ds : List Due). ds ++ others) (unfolded d ∙ ap (λ (x : Effect). due_for d (take place changes) x (more d)) e);
-      }
-
-pub at_end : (changes : List Change) (n left place : ℕ) → IsAt changes n left place → length changes ≤ place → (d : ℕ) (others : List Due) → drop n (dues_of d [] changes ++ others) ≡ drop left others
-at_end changes n left place stands end d others = stands d others ∙ ap (λ (cs : List Change). drop left (dues_of d (take place changes) cs ++ others)) (drop_all place changes end)
-
 -- partition by partition
-unrolled : (changes : List (List Change)) (left d : ℕ) → d < length changes → drop left (dues_in changes d (length changes - d)) ≡ drop left (dues_of d [] (at [] changes d) ++ dues_in changes (d + 1) (length changes - (d + 1)))
-unrolled changes left d below = ap (λ (k : ℕ). drop left (dues_in changes d k)) (let e : length changes - d ≡ suc (length changes - (d + 1)) = omega (arith, below) in e)
+pub part_begins : (changes : List (List Change)) (d passed : ℕ) (own : List Change) → d < length changes → own ≡ at [] changes d → dues_left changes passed ≡ dues_on changes d → IsAt changes d own 0 passed
+part_begins changes d passed own below same is =
+    is ∙ ap (dues_in changes d) (let e : length changes - d ≡ suc (length changes - (d + 1)) = omega (arith, below) in e) ∙ ap (λ (cs : List Change). dues_of d [] cs ++ dues_on changes (d + 1)) (sym same)
 
-pub next_part : (changes : List (List Change)) (n left d m : ℕ) (cs : List Change) → d < length changes → cs ≡ at [] changes d → drop n (dues_in changes 0 (length changes)) ≡ drop left (dues_in changes d (length changes - d))
-    → HasFoundIn cs left (Left m) → drop n (dues_in changes 0 (length changes)) ≡ drop m (dues_in changes (d + 1) (length changes - (d + 1)))
-next_part changes n left d m cs below same is found =
-    is ∙ unrolled changes left d below ∙ ap (λ (xs : List Change). drop left (dues_of d [] xs ++ dues_in changes (d + 1) (length changes - (d + 1)))) (sym same) ∙ found d (dues_in changes (d + 1) (length changes - (d + 1)))
+pub part_ends : (changes : List (List Change)) (d : ℕ) (own : List Change) (place passed : ℕ) → IsAt changes d own place passed → length own ≤ place → dues_left changes passed ≡ dues_on changes (d + 1)
+part_ends changes d own place passed is end = is ∙ ap (λ (cs : List Change). dues_of d (take place own) cs ++ dues_on changes (d + 1)) (drop_all place own end)
 
-pub there_part : (changes : List (List Change)) (n left d place : ℕ) (cs : List Change) → d < length changes → cs ≡ at [] changes d → drop n (dues_in changes 0 (length changes)) ≡ drop left (dues_in changes d (length changes - d))
-    → HasFoundIn cs left (There place) → IsFirst d (at [] changes d) place (drop n (dues_in changes 0 (length changes)))
-there_part changes n left d place cs below same is found =
-    subst (λ (xs : List Change). IsFirst d xs place (drop n (dues_in changes 0 (length changes)))) same
-    (subst (IsFirst d cs place) (sym (is ∙ unrolled changes left d below ∙ ap (λ (xs : List Change). drop left (dues_of d [] xs ++ dues_in changes (d + 1) (length changes - (d + 1)))) (sym same)))
-    (found d (dues_in changes (d + 1) (length changes - (d + 1)))))
+pub none_left : (changes : List (List Change)) (d passed : ℕ) → length changes ≤ d → dues_left changes passed ≡ dues_on changes d → dues_left changes passed ≡ []
+none_left changes d passed end is = is ∙ ap (dues_in changes d) (let e : length changes - d ≡ 0 = omega (arith, end) in e)
 
-pub none_left : (changes : List (List Change)) (n left d : ℕ) → length changes ≤ d → drop n (dues_in changes 0 (length changes)) ≡ drop left (dues_in changes d (length changes - d)) → drop n (dues_in changes 0 (length changes)) ≡ []
-none_left changes n left d end is = is ∙ ap (λ (k : ℕ). drop left (dues_in changes d k)) (let e : length changes - d ≡ 0 = omega (arith, end) in e) ∙ drop_all left [] (omega arith)
+next-dropped : {X : Type 0} (n : ℕ) (xs : List X) (y : X) (ys : List X) → drop n xs ≡ y ∷ ys → drop (suc n) xs ≡ ys
+next-dropped {X = X} n [] y ys is = absurd (let none : List X = [] in let e = drop_all n none (omega arith) in cc (e, is))
+next-dropped zero (x ∷ xs) y ys is = ap (drop 1) is
+next-dropped (suc n) (x ∷ xs) y ys is = next-dropped n xs y ys is
+
+-- change by change
+module _ (changes : List (List Change)) (d : ℕ) (own : List Change) (place passed : ℕ) (c : Change) (is : IsAt changes d own place passed) (below : place < length own) (here : c ≡ get_or own place c) where
+  before : List Change
+  before = take place own
+
+  more : List Due
+  more = dues_of d (take (place + 1) own) (drop (place + 1) own)
+
+  pub taken : take (place + 1) own ≡ take place own ++ c ∷ []
+  taken = take_more own place c below ∙ ap (λ (x : Change). take place own ++ x ∷ []) (sym here)
+
+  split : drop place own ≡ c ∷ drop (place + 1) own
+  split = drop_more own place c below ∙ ap (λ (x : Change). x ∷ drop (place + 1) own) (sym here)
+
+  unfolded : dues_of d (take place own) (drop place own) ≡ due_for d (take place own) c.effect more
+  unfolding more
+  unfolded = ap (dues_of d (take place own)) split
+      ∙ ap (λ (b : List Change). due_for d (take place own) c.effect (dues_of d b (drop (place + 1) own))) (sym taken)
+
+  pub at_silent : is_written c.effect ≡ false → IsAt changes d own (place + 1) passed
+  unfolding more
+  at_silent silent = is ∙ ap (λ (ds : List Due). ds ++ dues_on changes (d + 1)) (unfolded ∙ due-else d (take place own) c.effect more silent)
+
+  pub at_due : (value : List ℕ) (run : Option Run) → c.effect ≡ Writes value run
+      → dues_left changes passed ≡ due_at d (take place own) value run ∷ (dues_of d (take (place + 1) own) (drop (place + 1) own) ++ dues_on changes (d + 1))
+  unfolding more
+  at_due value run writes = is ∙ ap (λ (ds : List Due). ds ++ dues_on changes (d + 1)) (unfolded ∙ ap (λ (e : Effect). due_for d (take place own) e more) writes)
+
+  pub at_next : (value : List ℕ) (run : Option Run) → c.effect ≡ Writes value run → IsAt changes d own (place + 1) (passed + 1)
+  at_next value run writes =
+      ap (λ (n : ℕ). drop n (dues_on changes 0)) (let e : passed + 1 ≡ suc passed = omega arith in e)
+      ∙ next-dropped passed (dues_on changes 0) (due_at d (take place own) value run)
+      (dues_of d (take (place + 1) own) (drop (place + 1) own) ++ dues_on changes (d + 1)) (at_due value run writes)

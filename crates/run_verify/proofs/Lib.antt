@@ -1,5 +1,4 @@
 pub mod Replying
-pub mod Aparts
 mod Cutting
 pub mod Implied
 mod ImpliedAccount
@@ -23,14 +22,18 @@ pub mod PlainScript
 pub mod Duties
 pub mod Entering
 pub mod Finding
-pub mod Judging
+pub mod Judged
 pub mod Keeps
+pub mod Keys
 pub mod LogAhead
 pub mod Looking
-pub mod Placements
+pub mod Marking
+pub mod Placed
+pub mod Passed
+pub mod Rising
 pub mod Stamping
 pub mod Taking
-pub mod Telling
 pub mod Vectors
 pub mod Verdicts
 pub mod Within
+pub mod Walking

@@ -1,40 +1,27 @@
--- What is due for a place line, found among the changes.
-use Rattle.std.specs.Prelude.{ℕ, zero, suc, ◌≡◌, ◌≢◌, ◌<◌, ◌+◌, Bool, true, false, List, [], ◌∷◌, ◌++◌, drop, length, take, slice_get, Option, Some, None}
+-- What is due for the places, change by change, and what judging the line for a change comes to.
+use Rattle.std.specs.Prelude.{ℕ, zero, suc, ◌≡◌, ◌≢◌, ◌<◌, ◌≤◌, ◌+◌, ◌-◌, ◌⊎◌, Bool, true, false, List, [], ◌∷◌, ◌++◌, drop, length, Option, Some, None, ⊤}
+use Rattle.group_types.specs.Dimensions.{Dimensions}
 use Rattle.group_types.specs.Lists.{at}
 use Rattle.group_types.specs.declared.run.Run.{Run}
-use Rattle.group_types.specs.Dimensions.{Dimensions}
 use Rattle.scenario_text.specs.Texts.{place_text}
-use Rattle.run_verify.specs.Passing.{Account, Due, FitsRun, TellsRun, dues_of, with_placed}
-use Rattle.run_verify.specs.Placings.{IsApart}
+use Rattle.scenario_run.specs.Lines.{lines_of}
+use Rattle.run_verify.specs.Items.{IsMarked, IsOff, StandBehind, runs_of, with_run}
+use Rattle.run_verify.specs.Passing.{Due, FitsRun, TellsRun, dues_of}
+use Rattle.run_verify.specs.Placings.{ArePlacedFrom}
 use Rattle.run_verify.specs.Told.{placed_line}
-use Rattle.run_verify.specs.declared.place.Placed.{Placed}
-use Rattle.run_verify.specs.declared.place.Placed.TheVariants.{Stays, Over, Fails}
 use Rattle.run_verify.specs.declared.change.Change.{Change}
-use Rattle.run_verify.specs.declared.change.Effect.TheVariants.{Writes, Removes, Keeps}
 use Rattle.run_verify.specs.declared.change.Effect.{Effect}
-use Rattle.run_verify.specs.declared.due.Spot.{Spot}
-use Rattle.run_verify.specs.declared.due.Found.{Found}
-use Rattle.run_verify.specs.declared.due.Found.TheVariants.{There, Left}
+use Rattle.run_verify.specs.declared.change.Effect.TheVariants.{Writes, Removes, Keeps}
+use Rattle.run_verify.specs.declared.items.Items.{Items}
+use Rattle.run_verify.specs.declared.judging.Passed.{Passed}
+use Rattle.run_verify.specs.declared.judging.Passed.TheVariants as passed
+use Rattle.run_verify.specs.declared.judging.Spot.{Spot}
+use Rattle.run_verify.specs.declared.placing.Told.{Told}
+use Rattle.run_verify.specs.declared.placing.Told.TheVariants as told
 
 -- the due of a change of partition d, behind others
 abbrev pub due_at : ℕ → List Change → List ℕ → Option Run → Due
 due_at d before value run = record { partition = d; number = length before + 1; value = value; run = run; before = before }
-
--- the first of dues is the one of partition d's change at this place
-pub record IsFirst (d : ℕ) (changes : List Change) (place : ℕ) (dues : List Due) : Type 0 where
-  pub change : Change
-  pub there : slice_get changes place ≡ Some change
-  pub value : List ℕ
-  pub run : Option Run
-  pub writes : change.effect ≡ Writes value run
-  pub rest : List Due
-  pub is : dues ≡ due_at d (take place changes) value run ∷ rest
-
--- behind so many dues of a partition's changes and others there is the one of this change, or so many of the others are still
--- to be passed
-abbrev pub HasFoundIn : List Change → ℕ → Found → Type 0
-HasFoundIn changes n (There place) = (d : ℕ) (others : List Due) → IsFirst d changes place (drop n (dues_of d [] changes ++ others))
-HasFoundIn changes n (Left m) = (d : ℕ) (others : List Due) → drop n (dues_of d [] changes ++ others) ≡ drop m others
 
 -- whether an effect writes a value
 abbrev pub is_written : Effect → Bool
@@ -42,45 +29,74 @@ is_written (Writes value run) = true
 is_written Removes = false
 is_written Keeps = false
 
--- what is due for the changes of partitions from d on
+-- what is due for the changes of so many partitions from d on
 abbrev pub dues_in : List (List Change) → ℕ → ℕ → List Due
 dues_in changes d zero = []
 dues_in changes d (suc n) = dues_of d [] (at [] changes d) ++ dues_in changes (d + 1) n
 
--- behind so many dues of all partitions there is the one of this change, or none
-abbrev pub HasFound : List (List Change) → ℕ → Option Spot → Type 0
-HasFound changes n (Some spot) = (spot.partition < length changes) × IsFirst spot.partition (at [] changes spot.partition) spot.place (drop n (dues_in changes 0 (length changes)))
-HasFound changes n None = drop n (dues_in changes 0 (length changes)) ≡ []
+-- and for those of all partitions from d on
+abbrev pub dues_on : List (List Change) → ℕ → List Due
+dues_on changes d = dues_in changes d (length changes - d)
 
--- a line tells this run of a value of this length at a spot, which is clear behind these changes
-abbrev pub TellsRunAt : Dimensions → Spot → Run → ℕ → List Change → List ℕ → Type 0
-TellsRunAt s spot run len before line = FitsRun s len run × IsApart run before × (line ≡ place_text spot.partition (spot.place + 1) run)
+-- what is due behind so many places
+abbrev pub dues_left : List (List Change) → ℕ → List Due
+dues_left changes placed = drop placed (dues_on changes 0)
 
--- an effect's run is told so
-abbrev pub TellsEffect : Dimensions → Spot → Effect → List Change → List ℕ → Type 0
-TellsEffect s spot (Writes value (Some run)) before line = TellsRunAt s spot run (length value) before line
-TellsEffect s spot (Writes value None) before line = ⊥
-TellsEffect s spot Removes before line = ⊥
-TellsEffect s spot Keeps before line = ⊥
+-- a text begins with this line, and the rest is behind it
+abbrev pub Cuts : List ℕ → List ℕ → List ℕ → Type 0
+Cuts text line rest = (lines_of text ≡ line ∷ lines_of rest) × (length rest < length text)
 
--- a line tells the run of the change at a spot
-abbrev pub TellsSpot : Dimensions → List Change → Spot → List ℕ → Type 0
-TellsSpot s changes spot line = (change : Change) × (slice_get changes spot.place ≡ Some change) × TellsEffect s spot change.effect (take spot.place changes) line
+-- the first line is such a one
+abbrev pub HasFirst : (List ℕ → Type 0) → List ℕ → List ℕ → Type 0
+HasFirst P text rest = (line : List ℕ) × Cuts text line rest × P line
 
--- a line tells how many places there were, or doesn't
-abbrev pub HasEnded : ℕ → List ℕ → Placed → Type 0
-HasEnded n line Over = line ≡ placed_line n
-HasEnded n line Fails = line ≢ placed_line n
-HasEnded n line Stays = ⊥
+-- the first line isn't, or there is none
+abbrev pub LacksFirst : (List ℕ → Type 0) → List (List ℕ) → Type 0
+LacksFirst P [] = ⊤
+LacksFirst P (line ∷ lines) = ¬ (P line)
 
--- what comes of a line for the places, where these are due: the next is told; none is, and how many there were is told; or neither
-abbrev pub HasPlacedOf : Dimensions → Account → List Due → List ℕ → Account → Placed → Type 0
-HasPlacedOf s a (due ∷ dues) line next Stays = TellsRun s due line × (next ≡ with_placed a)
-HasPlacedOf s a (due ∷ dues) line next Fails = ¬ (TellsRun s due line)
-HasPlacedOf s a (due ∷ dues) line next Over = ⊥
-HasPlacedOf s a [] line next Over = (line ≡ placed_line a.placed) × (next ≡ a)
-HasPlacedOf s a [] line next Fails = line ≢ placed_line a.placed
-HasPlacedOf s a [] line next Stays = ⊥
+-- a line tells this run of a value of this length at a spot, where no item has an address of it
+abbrev pub TellsAt : Dimensions → Spot → Run → ℕ → (List ℕ → Option Run) → List ℕ → Type 0
+TellsAt s spot run len runs line = FitsRun s len run × IsOff runs run × (line ≡ place_text spot.partition (spot.place + 1) run)
 
-abbrev pub HasPlaced : Dimensions → Account → List ℕ → Account → Placed → Type 0
-HasPlaced s a line next result = HasPlacedOf s a (drop a.placed (dues_in a.changes 0 (length a.changes))) line next result
+-- the first line tells it, and the item has the run; or it doesn't
+abbrev pub HasToldAt : Items → Spot → List ℕ → Run → ℕ → List ℕ → Items → Passed → Type 0
+HasToldAt before spot key run len text now (passed.Line rest) = HasFirst (TellsAt before.shape spot run len (runs_of before)) text rest.now
+    × IsMarked now × ((other : List ℕ) → runs_of now other ≡ with_run key (Some run) (runs_of before) other)
+HasToldAt before spot key run len text now passed.Fails = LacksFirst (TellsAt before.shape spot run len (runs_of before)) (lines_of text)
+HasToldAt before spot key run len text now passed.Silent = ⊥
+
+-- the items are those behind changes, and their addresses are marked
+abbrev pub AreBehind : List Change → Items → Type 0
+AreBehind before items = IsMarked items × StandBehind before items
+
+-- what comes of the line for a change of partition d, behind others: none is due; the first line tells the run; or it doesn't
+abbrev pub HasPassed : Dimensions → ℕ → List Change → Change → List ℕ → Items → Passed → Type 0
+HasPassed s d before change text now passed.Silent = (is_written change.effect ≡ false) × AreBehind (before ++ change ∷ []) now
+HasPassed s d before change text now (passed.Line rest) = (value : List ℕ) × (run : Option Run) × (change.effect ≡ Writes value run)
+    × HasFirst (TellsRun s (due_at d before value run)) text rest.now × AreBehind (before ++ change ∷ []) now
+HasPassed s d before change text now passed.Fails = (value : List ℕ) × (run : Option Run) × (change.effect ≡ Writes value run)
+    × LacksFirst (TellsRun s (due_at d before value run)) (lines_of text)
+
+-- all lines behind so many places pass, or this one is the first that fails, where they are numbered from the first place on
+abbrev pub ArePlacedBehind : Dimensions → List (List Change) → ℕ → List (List ℕ) → Option ℕ → Type 0
+ArePlacedBehind s changes placed lines None = ArePlacedFrom s changes placed lines None
+ArePlacedBehind s changes placed lines (Some n) = (m : ℕ) × (n ≡ placed + m) × ArePlacedFrom s changes placed lines (Some m)
+
+-- what is found of the lines behind so many places is found of these
+abbrev pub LeadsTo : Dimensions → List (List Change) → ℕ → List (List ℕ) → ℕ → List (List ℕ) → Type 0
+LeadsTo s changes placed lines now rest = (found : Option ℕ) → ArePlacedBehind s changes now rest found → ArePlacedBehind s changes placed lines found
+
+-- what comes of the lines for the changes of partition d
+abbrev pub HasToldPart : Dimensions → List (List Change) → ℕ → ℕ → List ℕ → Told → Type 0
+HasToldPart s changes d placed text (told.All now rest) = (dues_left changes now ≡ dues_on changes (d + 1)) × LeadsTo s changes placed (lines_of text) now (lines_of rest.now)
+    × (now + length rest.now ≤ placed + length text)
+HasToldPart s changes d placed text (told.Fails n) = ArePlacedBehind s changes placed (lines_of text) (Some n)
+
+-- lines tell how many places there were, and no more
+abbrev pub HasEnded : ℕ → List (List ℕ) → Option ℕ → Type 0
+HasEnded placed [] found = found ≡ Some (placed + 1)
+HasEnded placed (line ∷ []) None = line ≡ placed_line placed
+HasEnded placed (line ∷ []) (Some n) = (line ≢ placed_line placed) × (n ≡ placed + 1)
+HasEnded placed (line ∷ next ∷ lines) None = ⊥
+HasEnded placed (line ∷ next ∷ lines) (Some n) = ((line ≢ placed_line placed) × (n ≡ placed + 1)) ⊎ ((line ≡ placed_line placed) × (n ≡ placed + 2))

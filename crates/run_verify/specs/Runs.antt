@@ -1,5 +1,5 @@
 -- The places that a transcript tells, and the runs that are found among them.
-use Rattle.std.specs.Prelude.{ℕ, ◌≡◌, ◌≢◌, ◌⊎◌, List, [], ◌∷◌, Option, Some, None}
+use Rattle.std.specs.Prelude.{ℕ, ◌≡◌, ◌≢◌, ◌<◌, ◌+◌, ◌*◌, ◌^◌, ◌⊎◌, List, [], ◌∷◌, Option, Some, None}
 use Rattle.group_types.specs.Dimensions.{Dimensions}
 use Rattle.group_types.specs.declared.run.Run.{Run}
 use Rattle.transcript_text.specs.Texts.{FitsPlace, text_of_place}
@@ -24,3 +24,13 @@ abbrev pub IsRunAmong : List Place → Dimensions → ℕ → ℕ → ℕ → Op
 IsRunAmong [] s d number len found = found ≡ None
 IsRunAmong (place ∷ places) s d number len found =
     (Names s d number len place × (found ≡ Some place.run)) ⊎ ((¬ (Names s d number len place)) × IsRunAmong places s d number len found)
+
+-- a number by which places are in the order of their partitions, and then of their own numbers
+abbrev pub rank_of : ℕ → ℕ → ℕ
+rank_of d number = d * 2 ^ 64 + number
+
+-- each place is behind the one before
+abbrev pub Rise : List Place → Type 0
+Rise [] = Unit {0}
+Rise (place ∷ []) = Unit {0}
+Rise (place ∷ next ∷ places) = (rank_of place.partition place.number < rank_of next.partition next.number) × Rise (next ∷ places)

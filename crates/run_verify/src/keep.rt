@@ -8,19 +8,18 @@ ghost use Rattle.run_verify.specs.Passing.{value_in, with_reply};
 use crate::account::Account;
 use crate::call::Call;
 use crate::change::{Change, Effect};
-use crate::places::find_run;
+use crate::places::Places;
 use group_calls::Entry;
 use group_types::{Key, Partition, Payload, Shape, home};
 use memc_table::{Act, Holding, Reply};
 use std::alloc::{AllocError, Global};
-use transcript_text::Place;
 
 impl Account {
     /// Keeps what an entry does that was applied to the table.
     pub(crate) fn keep(
         &mut self,
         shape: Shape,
-        places: &[Place],
+        places: &Places,
         entry: Entry,
     ) -> Result<(), AllocError>
         requires entries { self.old.entries < 2 ^ 62 }
@@ -40,7 +39,7 @@ impl Account {
     fn keep_change(
         &mut self,
         shape: Shape,
-        places: &[Place],
+        places: &Places,
         entry: &Entry,
     ) -> Result<(), AllocError>
         requires partitions { length self.old.changes.items ≡ shape.k }
@@ -59,7 +58,7 @@ impl Account {
     fn change(
         &self,
         shape: Shape,
-        places: &[Place],
+        places: &Places,
         entry: &Entry,
         partition: Partition,
     ) -> Result<Change, AllocError>
@@ -79,7 +78,7 @@ impl Account {
     fn written(
         &self,
         shape: Shape,
-        places: &[Place],
+        places: &Places,
         key: Key,
         partition: Partition,
     ) -> Result<Change, AllocError>
@@ -88,7 +87,7 @@ impl Account {
     {
         let value = value_in(self.alloc, self.table.item(&key))?;
         let number = changes_of(&self.changes, partition.0).len() as u64 + 1;
-        let run = find_run(places, shape, partition.0, number, value.len());
+        let run = places.find(shape, partition.0, number, value.len());
         Ok(Change {
             key,
             effect: Effect::Writes(value, run),

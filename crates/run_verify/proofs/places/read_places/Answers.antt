@@ -1,8 +1,7 @@
-use Rattle.std.proofs.Common.{◌≡◌, ◌++◌, [], List, length, refl, sym, subst, arith}
+use Rattle.std.proofs.Common.{◌≡◌, [], List, length, refl, sym, subst, arith}
 use Rattle.std.proofs.lemmas.Grind.{common_steps}
 use Rattle.std.proofs.lemmas.List.{append-nil}
 use Rattle.scenario_run.specs.Lines.{lines_of}
-use Rattle.transcript_text.specs.declared.place.Place.{Place}
 use Rattle.run_verify.specs.Runs.{ArePlacesOf}
 use Rattle.run_verify.proofs.Finding.{no_lines}
 use Rattle.run_verify.proofs.places.read_places.Goals as goal

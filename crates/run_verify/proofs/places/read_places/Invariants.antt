@@ -1,4 +1,4 @@
-use Rattle.std.proofs.Common.{◌≡◌, ◌++◌, List, length}
+use Rattle.std.proofs.Common.{◌++◌, List, length}
 use Rattle.scenario_run.specs.Lines.{lines_of}
 use Rattle.transcript_text.specs.declared.place.Place.{Place}
 use Rattle.run_verify.specs.Runs.{ArePlacesOf}
