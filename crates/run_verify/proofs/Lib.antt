@@ -22,7 +22,7 @@ pub mod PlainScript
 pub mod Duties
 pub mod Entering
 pub mod Finding
-pub mod Judging
+pub mod Judged
 pub mod Keeps
 pub mod Keys
 pub mod LogAhead

@@ -2,16 +2,16 @@
 use Rattle.std.proofs.Common.{◌≡◌, ◌≢◌, ◌⊎◌, inl, inr, ℕ, Bool, true, false, List, ◌∷◌, refl, sym, ap, subst}
 use Rattle.group_types.specs.Dimensions.{Dimensions}
 use Rattle.transcript_text.specs.declared.place.Place.{Place}
-use Rattle.run_verify.specs.Courses.{HasPassedBy, HasPassedOn, IsMet, IsSheetOf, met_by, state_of}
+use Rattle.run_verify.specs.Courses.{HasFoundBy, HasFoundOn, IsMet, IsSheetOf, met_by, state_of}
 use Rattle.run_verify.specs.Passing.{Account, PassesBy, State, after_answer, with_shown}
 use Rattle.run_verify.specs.Sheet.{Sheet}
-use Rattle.run_verify.specs.declared.pass.Passed.{Passed}
-use Rattle.run_verify.specs.declared.pass.Passed.TheVariants as passed
+use Rattle.run_verify.specs.declared.pass.Found.{Found}
+use Rattle.run_verify.specs.declared.pass.Found.TheVariants as found
 use Rattle.run_verify.specs.declared.step.Step.{Step}
 use Rattle.run_verify.specs.declared.step.Step.TheVariants.{Make, Deliveries, Look, Placing}
 
 met : (sheet : Sheet) (a : Account) (step : Step) (steps : List Step) (logging : Bool) (line : List ℕ) (ahead : List (List ℕ)) (now : Account) → step ≢ Placing
-    → IsMet sheet.script.shape a step line ahead now → HasPassedBy false sheet a step steps logging line ahead now (met_by step)
+    → IsMet sheet.script.shape a step line ahead now → HasFoundBy false sheet a step steps logging line ahead now (met_by step)
 met sheet a (Make event) steps logging line ahead now other (answer, answers, same) = (other, (answer, answers, ap (λ (x : Account). state_of x steps true) same))
 met sheet a Deliveries steps logging line ahead now other ((n, low, is), same) = (other, (n, low, is, ap (λ (x : Account). state_of x steps false) same))
 met sheet a (Look p run) steps logging line ahead now other (inl (tells, same)) = (other, inl (tells, ap (λ (x : Account). state_of x steps false) same))
@@ -28,12 +28,12 @@ unmet sheet a Placing steps logging line ahead other none next passes = absurd (
 
 module _ (s : Dimensions) (places : List Place) (a : Account) (step : Step) (logging : Bool) (line : List ℕ) (ahead : List (List ℕ)) where
   -- a line that tells what the step asks for
-  pub meets : (now : Account) (p : Passed) → step ≢ Placing → IsMet s a step line ahead now → p ≡ met_by step → HasPassedOn false s places a step logging line ahead now p
+  pub meets : (now : Account) (p : Found) → step ≢ Placing → IsMet s a step line ahead now → p ≡ met_by step → HasFoundOn false s places a step logging line ahead now p
   meets now p other is same sheet steps of =
-      subst (HasPassedBy false sheet a step steps logging line ahead now) (sym same)
+      subst (HasFoundBy false sheet a step steps logging line ahead now) (sym same)
           (met sheet a step steps logging line ahead now other (subst (λ (d : Dimensions). IsMet d a step line ahead now) (sym of.shape) is))
 
   -- one that doesn't
-  pub meets_nothing : (now : Account) → step ≢ Placing → ((next : Account) → ¬ (IsMet s a step line ahead next)) → HasPassedOn false s places a step logging line ahead now passed.Fails
+  pub meets_nothing : (now : Account) → step ≢ Placing → ((next : Account) → ¬ (IsMet s a step line ahead next)) → HasFoundOn false s places a step logging line ahead now found.Fails
   meets_nothing now other none sheet steps of =
       unmet sheet a step steps logging line ahead other (λ next is. none next (subst (λ (d : Dimensions). IsMet d a step line ahead next) of.shape is))

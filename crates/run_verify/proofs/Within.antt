@@ -19,7 +19,7 @@ use Rattle.group_calls.specs.declared.entry.Entry.{Entry}
 use Rattle.group_calls.specs.declared.event.Answer.{Answer}
 use Rattle.group_calls.specs.declared.event.Event.{Event}
 use Rattle.group_calls.specs.declared.event.Event.TheVariants as happens
-use Rattle.run_verify.specs.Courses.{HasPassedBy, IsWithin, state_of}
+use Rattle.run_verify.specs.Courses.{HasFoundBy, IsWithin, state_of}
 use Rattle.run_verify.specs.Passing.{Account, IsRunIn, IsToldFor, IsToldRun, PassesBy, State, after_answer, after_entry, after_event, change_of, changes_at, effect_of, first_account, is_taken, part_of, value_in, with_change, with_shown}
 use Rattle.run_verify.specs.Sheet.{Sheet}
 use Rattle.run_verify.specs.Showing.{IsFitChange, IsFitEffect}

@@ -12,8 +12,8 @@ use Rattle.run_verify.specs.Runs.{ArePlacesOf}
 use Rattle.run_verify.specs.Sheet.{Sheet}
 use Rattle.run_verify.specs.Showing.{IsFitChange, IsLooked}
 use Rattle.run_verify.specs.Told.{drained_line}
-use Rattle.run_verify.specs.declared.pass.Passed.{Passed}
-use Rattle.run_verify.specs.declared.pass.Passed.TheVariants as passed
+use Rattle.run_verify.specs.declared.pass.Found.{Found}
+use Rattle.run_verify.specs.declared.pass.Found.TheVariants as found
 use Rattle.run_verify.specs.declared.step.Step.{Step}
 use Rattle.run_verify.specs.declared.step.Step.TheVariants.{Make, Deliveries, Look, Placing}
 use Rattle.run_verify.specs.declared.verdict.Verdict.{Verdict}
@@ -43,20 +43,20 @@ IsMet s a (Look p run) line ahead next = IsLooked s a p run line next
 IsMet s a Placing line ahead next = ⊥
 
 -- what a line was found to be, which is one of the log or isn't, with this step in turn and these to come
-abbrev pub HasPassedBy : Bool → Sheet → Account → Step → List Step → Bool → List ℕ → List (List ℕ) → Account → Passed → Type 0
-HasPassedBy is_log sheet a step steps logging line ahead now passed.Entry = (is_log ≡ true) × PassesBy is_log sheet (state_of a (step ∷ steps) logging) line ahead (state_of now (step ∷ steps) logging)
-HasPassedBy is_log sheet a step steps logging line ahead now passed.Answer = (step ≢ Placing) × PassesBy is_log sheet (state_of a (step ∷ steps) logging) line ahead (state_of now steps true)
-HasPassedBy is_log sheet a step steps logging line ahead now passed.Over = (step ≢ Placing) × PassesBy is_log sheet (state_of a (step ∷ steps) logging) line ahead (state_of now steps false)
-HasPassedBy is_log sheet a step steps logging line ahead now passed.Fails = (next : State) → ¬ (PassesBy is_log sheet (state_of a (step ∷ steps) logging) line ahead next)
-HasPassedBy is_log sheet a step steps logging line ahead now passed.Places = (step ≡ Placing) × (is_log ≡ false) × (now ≡ a)
+abbrev pub HasFoundBy : Bool → Sheet → Account → Step → List Step → Bool → List ℕ → List (List ℕ) → Account → Found → Type 0
+HasFoundBy is_log sheet a step steps logging line ahead now found.Entry = (is_log ≡ true) × PassesBy is_log sheet (state_of a (step ∷ steps) logging) line ahead (state_of now (step ∷ steps) logging)
+HasFoundBy is_log sheet a step steps logging line ahead now found.Answer = (step ≢ Placing) × PassesBy is_log sheet (state_of a (step ∷ steps) logging) line ahead (state_of now steps true)
+HasFoundBy is_log sheet a step steps logging line ahead now found.Over = (step ≢ Placing) × PassesBy is_log sheet (state_of a (step ∷ steps) logging) line ahead (state_of now steps false)
+HasFoundBy is_log sheet a step steps logging line ahead now found.Fails = (next : State) → ¬ (PassesBy is_log sheet (state_of a (step ∷ steps) logging) line ahead next)
+HasFoundBy is_log sheet a step steps logging line ahead now found.Places = (step ≡ Placing) × (is_log ≡ false) × (now ≡ a)
 
 -- so it is on each sheet of the group with these places, whatever steps are to come
-abbrev pub HasPassedOn : Bool → Dimensions → List Place → Account → Step → Bool → List ℕ → List (List ℕ) → Account → Passed → Type 0
-HasPassedOn is_log s places a step logging line ahead now passed =
-    (sheet : Sheet) (steps : List Step) → IsSheetOf s places sheet → HasPassedBy is_log sheet a step steps logging line ahead now passed
+abbrev pub HasFoundOn : Bool → Dimensions → List Place → Account → Step → Bool → List ℕ → List (List ℕ) → Account → Found → Type 0
+HasFoundOn is_log s places a step logging line ahead now what =
+    (sheet : Sheet) (steps : List Step) → IsSheetOf s places sheet → HasFoundBy is_log sheet a step steps logging line ahead now what
 
-abbrev pub HasPassed : Dimensions → List Place → Account → Step → Bool → List ℕ → List (List ℕ) → Account → Passed → Type 0
-HasPassed s places a step logging line ahead now passed = HasPassedOn (begins_entry line) s places a step logging line ahead now passed
+abbrev pub HasFound : Dimensions → List Place → Account → Step → Bool → List ℕ → List (List ℕ) → Account → Found → Type 0
+HasFound s places a step logging line ahead now what = HasFoundOn (begins_entry line) s places a step logging line ahead now what
 
 -- an account is right for the group, and nothing in it counts more than n
 pub record IsWithin (s : Dimensions) (n : ℕ) (a : Account) : Type 0 where
@@ -70,19 +70,19 @@ pub record IsWithin (s : Dimensions) (n : ℕ) (a : Account) : Type 0 where
 
 -- the steps in turn and to come behind such a line, which are these as before or those behind the first, and whether lines of
 -- the log may come
-abbrev pub turn_by : Passed → List Step → List Step → List Step
-turn_by passed.Answer turn more = more
-turn_by passed.Over turn more = more
-turn_by passed.Entry turn more = turn
-turn_by passed.Places turn more = turn
-turn_by passed.Fails turn more = turn
+abbrev pub turn_by : Found → List Step → List Step → List Step
+turn_by found.Answer turn more = more
+turn_by found.Over turn more = more
+turn_by found.Entry turn more = turn
+turn_by found.Places turn more = turn
+turn_by found.Fails turn more = turn
 
-abbrev pub logging_by : Passed → Bool → Bool
-logging_by passed.Answer logging = true
-logging_by passed.Over logging = false
-logging_by passed.Entry logging = logging
-logging_by passed.Places logging = logging
-logging_by passed.Fails logging = logging
+abbrev pub logging_by : Found → Bool → Bool
+logging_by found.Answer logging = true
+logging_by found.Over logging = false
+logging_by found.Entry logging = logging
+logging_by found.Places logging = logging
+logging_by found.Fails logging = logging
 
 -- the sheet of these steps and lines
 abbrev pub sheet_on : Dimensions → List Step → List (List ℕ) → Sheet
@@ -109,11 +109,11 @@ may_log true step = true
 may_log false step = logs step
 
 -- what a line is that tells what a step asks for
-abbrev pub met_by : Step → Passed
-met_by (Make event) = passed.Answer
-met_by Deliveries = passed.Over
-met_by (Look p run) = passed.Over
-met_by Placing = passed.Over
+abbrev pub met_by : Step → Found
+met_by (Make event) = found.Answer
+met_by Deliveries = found.Over
+met_by (Look p run) = found.Over
+met_by Placing = found.Over
 
 -- what comes of the lines for the places behind so many, on each sheet of the group
 abbrev pub IsPlacedBehind : ℕ → Dimensions → Account → List (List ℕ) → Verdict → Type 0

@@ -10,21 +10,21 @@ ghost use Rattle.run_verify.specs.Runs.{ArePlacesOf};
 use crate::account::Account;
 use crate::book::Book;
 use crate::cut::cut_line;
-use crate::pass::Passed;
+use crate::pass::Found;
 use crate::placing::judge_places;
 use crate::script::LONGEST_SHEET;
 use crate::step::Step;
 use crate::verdict::Verdict;
 use group_types::{CALLERS, Shape};
 use std::alloc::{AllocError, Global};
-use transcript_text::Place;
+use crate::places::Places;
 
 /// Judges the lines of a transcript, one after the other.
 pub(crate) fn judge(
     alloc: Global,
     shape: Shape,
     steps: &[Step],
-    places: &[Place],
+    places: &Places,
     text: &[u8],
 ) -> Result<Verdict, AllocError>
     requires short { length text.now ≤ LONGEST_SHEET }
@@ -45,9 +45,9 @@ pub(crate) fn judge(
             unreachable!()
         };
         match account.pass(shape, places, logging, step, line, ahead)? {
-            Passed::Places => return place(shape, &account, done, rest),
-            Passed::Fails => return Ok(Verdict::Refused { line: done + 1 }),
-            passed => (turn, logging) = go_on(passed, turn, more, logging),
+            Found::Places => return place(shape, &account, done, rest),
+            Found::Fails => return Ok(Verdict::Refused { line: done + 1 }),
+            found => (turn, logging) = go_on(found, turn, more, logging),
         }
         done += 1;
         rest = ahead;
@@ -57,17 +57,17 @@ pub(crate) fn judge(
 
 /// The steps in turn and to come behind such a line, and whether lines of the log may come.
 fn go_on<'a>(
-    passed: Passed,
+    found: Found,
     turn: &'a [Step],
     more: &'a [Step],
     logging: bool,
 ) -> (&'a [Step], bool)
-    ensures turn { result.0.now ≡ turn_by passed turn.now more.now }
-    ensures logging { result.1 ≡ logging_by passed logging }
+    ensures turn { result.0.now ≡ turn_by found turn.now more.now }
+    ensures logging { result.1 ≡ logging_by found logging }
 {
-    match passed {
-        Passed::Answer => (more, true),
-        Passed::Over => (more, false),
+    match found {
+        Found::Answer => (more, true),
+        Found::Over => (more, false),
         _ => (turn, logging),
     }
 }
@@ -100,7 +100,6 @@ impl Account {
             table: Book::new(alloc, shape.k())?,
             changes: nothing(alloc, shape.k())?,
             entries: 0,
-            placed: 0,
             shown: 0,
         })
     }

@@ -1,7 +1,7 @@
 ghost use Rattle.std.specs.Prelude.{◌≡◌, ◌<◌, ◌^◌, All, IfOk, length};
 ghost use Rattle.scenario_run.specs.Lines.{lines_of};
 ghost use Rattle.run_verify.specs.Accounts.{account_of, lists_of};
-ghost use Rattle.run_verify.specs.Courses.{HasLogged, HasPassed, HasPassedOn, IsMet, may_log, met_by};
+ghost use Rattle.run_verify.specs.Courses.{HasLogged, HasFound, HasFoundOn, IsMet, may_log, met_by};
 ghost use Rattle.run_verify.specs.Judging.{IsStepOf, Judges};
 ghost use Rattle.run_verify.specs.Showing.{IsFitChange};
 
@@ -10,12 +10,12 @@ use crate::ahead::begins_entry;
 use crate::step::Step;
 use group_types::Shape;
 use std::alloc::AllocError;
-use transcript_text::Place;
+use crate::places::Places;
 use transcript_text::count::drained;
 
 /// What a line is found to be.
 #[derive(Clone, Copy)]
-pub(crate) enum Passed {
+pub(crate) enum Found {
     /// It tells an entry of the log.
     Entry,
     /// It tells the answer of the event in turn, whose entries may follow.
@@ -34,12 +34,12 @@ impl Account {
     pub(crate) fn pass(
         &mut self,
         shape: Shape,
-        places: &[Place],
+        places: &Places,
         logging: bool,
         step: &Step,
         line: &[u8],
         ahead: &[u8],
-    ) -> Result<Passed, AllocError>
+    ) -> Result<Found, AllocError>
         requires step { IsStepOf shape step.now }
         requires partitions { length self.old.changes.items ≡ shape.k }
         requires fit { All (All (IsFitChange shape)) (lists_of self.old.changes.items) }
@@ -47,7 +47,7 @@ impl Account {
         requires low { All (λ count. count < 2 ^ 62) (account_of self.old).table.counts }
         requires entries { self.old.entries < 2 ^ 62 }
         requires shown { self.old.shown < 2 ^ 62 }
-        ensures { IfOk result (HasPassed shape places.now (account_of self.old) step.now logging line.now (lines_of ahead.now) (account_of self.new)) }
+        ensures { IfOk result (HasFound shape places.now (account_of self.old) step.now logging line.now (lines_of ahead.now) (account_of self.new)) }
     {
         if begins_entry(line) {
             return self.pass_log(shape, places, logging, step, line, ahead);
@@ -59,54 +59,54 @@ impl Account {
     fn pass_log(
         &mut self,
         shape: Shape,
-        places: &[Place],
+        places: &Places,
         logging: bool,
         step: &Step,
         line: &[u8],
         ahead: &[u8],
-    ) -> Result<Passed, AllocError>
+    ) -> Result<Found, AllocError>
         requires partitions { length self.old.changes.items ≡ shape.k }
         requires few { All (λ changes. length changes < 2 ^ 62) (lists_of self.old.changes.items) }
         requires low { All (λ count. count < 2 ^ 62) (account_of self.old).table.counts }
         requires entries { self.old.entries < 2 ^ 62 }
-        ensures { IfOk result (HasPassedOn true shape places.now (account_of self.old) step.now logging line.now (lines_of ahead.now) (account_of self.new)) }
+        ensures { IfOk result (HasFoundOn true shape places.now (account_of self.old) step.now logging line.now (lines_of ahead.now) (account_of self.new)) }
     {
         if !may_log(logging, step) {
-            return Ok(Passed::Fails);
+            return Ok(Found::Fails);
         }
         if !self.log(shape, places, line)? {
-            return Ok(Passed::Fails);
+            return Ok(Found::Fails);
         }
-        Ok(Passed::Entry)
+        Ok(Found::Entry)
     }
 
     /// Takes a line for the step in turn.
     fn pass_step(
         &mut self,
         shape: Shape,
-        places: &[Place],
+        places: &Places,
         logging: bool,
         step: &Step,
         line: &[u8],
         ahead: &[u8],
-    ) -> Result<Passed, AllocError>
+    ) -> Result<Found, AllocError>
         requires step { IsStepOf shape step.now }
         requires partitions { length self.old.changes.items ≡ shape.k }
         requires fit { All (All (IsFitChange shape)) (lists_of self.old.changes.items) }
         requires shown { self.old.shown < 2 ^ 62 }
-        ensures { IfOk result (HasPassedOn false shape places.now (account_of self.old) step.now logging line.now (lines_of ahead.now) (account_of self.new)) }
+        ensures { IfOk result (HasFoundOn false shape places.now (account_of self.old) step.now logging line.now (lines_of ahead.now) (account_of self.new)) }
     {
         if let Step::Placing = step {
-            return Ok(Passed::Places);
+            return Ok(Found::Places);
         }
         if !self.meet(shape, step, line, ahead)? {
-            return Ok(Passed::Fails);
+            return Ok(Found::Fails);
         }
         Ok(met(step))
     }
 
     /// Takes a line of the log, if it tells the next entry.
-    fn log(&mut self, shape: Shape, places: &[Place], line: &[u8]) -> Result<bool, AllocError>
+    fn log(&mut self, shape: Shape, places: &Places, line: &[u8]) -> Result<bool, AllocError>
         requires partitions { length self.old.changes.items ≡ shape.k }
         requires few { All (λ changes. length changes < 2 ^ 62) (lists_of self.old.changes.items) }
         requires low { All (λ count. count < 2 ^ 62) (account_of self.old).table.counts }
@@ -154,11 +154,11 @@ fn may_log(logging: bool, step: &Step) -> bool
 }
 
 /// What a line is that tells what a step asks for.
-fn met(step: &Step) -> Passed
+fn met(step: &Step) -> Found
     ensures { result ≡ met_by step.now }
 {
     match step {
-        Step::Make(_) => Passed::Answer,
-        _ => Passed::Over,
+        Step::Make(_) => Found::Answer,
+        _ => Found::Over,
     }
 }

@@ -2,7 +2,7 @@ ghost use Rattle.std.specs.Prelude.{◌≤◌, length};
 ghost use Rattle.run_verify.specs.Verdict.{IsVerdictOf};
 
 use crate::judge::judge;
-use crate::places::read_places;
+use crate::places::Places;
 use crate::script::LONGEST_SHEET;
 use crate::sheet::read_sheet;
 use crate::verdict::{Verdict, VerifyFault};
@@ -14,7 +14,7 @@ pub fn verify(alloc: Global, input: &[u8]) -> Result<Verdict, VerifyFault>
     ensures verdict { IsVerdictOf input.now result }
 {
     let (script, transcript) = read_sheet(alloc, input)?;
-    let places = read_places(alloc, transcript)?;
+    let places = Places::read(alloc, transcript)?;
     let verdict = judge(alloc, script.shape, &script.steps, &places, transcript)?;
     Ok(verdict)
 }

@@ -3,7 +3,7 @@ use Rattle.scenario_run.specs.Lines.{lines_of}
 use Rattle.run_verify.specs.Accounts.{account_of, lists_of}
 use Rattle.run_verify.specs.Placings.{ArePlacedFrom}
 use Rattle.run_verify.specs.declared.change.Change.{Change}
-use Rattle.run_verify.proofs.Judging.{place_fails, placed_refused, placed_verified}
+use Rattle.run_verify.proofs.Judged.{place_fails, placed_refused, placed_verified}
 use Rattle.run_verify.proofs.judge.place.Goals as goal
 
 pub overflow_add-result : goal.overflow_add-result

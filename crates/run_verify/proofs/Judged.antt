@@ -8,14 +8,14 @@ use Rattle.std.specs.Prelude.{All}
 use Rattle.group_types.specs.Dimensions.{Dimensions}
 use Rattle.group_types.specs.Shape.{IsShape}
 use Rattle.scenario_run.specs.Lines.{lines_of, without_empty_last}
-use Rattle.run_verify.specs.Courses.{HasPassedBy, IsJudgedBehind, IsPlacedBehind, IsWithin, logging_by, sheet_on, state_of, turn_by}
+use Rattle.run_verify.specs.Courses.{HasFoundBy, IsJudgedBehind, IsPlacedBehind, IsWithin, logging_by, sheet_on, state_of, turn_by}
 use Rattle.run_verify.specs.Judging.{IsStepOf}
 use Rattle.run_verify.specs.Passing.{Account, FailsAt, PassAll, PassesBy, State, begins_entry}
 use Rattle.run_verify.specs.Placings.{ArePlacedFrom, placing}
 use Rattle.run_verify.specs.Plain.{EndsPlacing}
 use Rattle.run_verify.specs.Sheet.{Sheet}
-use Rattle.run_verify.specs.declared.pass.Passed.{Passed}
-use Rattle.run_verify.specs.declared.pass.Passed.TheVariants as passed
+use Rattle.run_verify.specs.declared.pass.Found.{Found}
+use Rattle.run_verify.specs.declared.pass.Found.TheVariants as found
 use Rattle.run_verify.specs.declared.step.Step.{Step}
 use Rattle.run_verify.specs.declared.step.Step.TheVariants.{Make, Deliveries, Look, Placing}
 use Rattle.run_verify.specs.declared.verdict.Verdict.{Verdict}
@@ -23,8 +23,8 @@ use Rattle.run_verify.specs.declared.verdict.Verdict.TheVariants.{Verified, Refu
 use Rattle.run_verify.proofs.Within.{within_next}
 
 -- a line passed, behind which a next is judged
-abbrev pub Goes : Passed → Type 0
-Goes p = (p ≢ passed.Places) × (p ≢ passed.Fails)
+abbrev pub Goes : Found → Type 0
+Goes p = (p ≢ found.Places) × (p ≢ found.Fails)
 
 -- what holds where a line passes
 module _ (sheet : Sheet) (s : State) (line : List ℕ) (ahead : List (List ℕ)) (next : State) where
@@ -54,36 +54,36 @@ ends-behind Placing steps other ends = absurd (other refl)
 
 -- a line passed that isn't for the places
 module _ (is_log : Bool) (sheet : Sheet) (a : Account) (step : Step) (steps : List Step) (logging : Bool) (line : List ℕ) (ahead : List (List ℕ)) (now : Account) where
-  pub goes_passes : (p : Passed) → Goes p → HasPassedBy is_log sheet a step steps logging line ahead now p
+  pub goes_passes : (p : Found) → Goes p → HasFoundBy is_log sheet a step steps logging line ahead now p
       → PassesBy is_log sheet (state_of a (step ∷ steps) logging) line ahead (state_of now (turn_by p (step ∷ steps) steps) (logging_by p logging))
-  goes_passes passed.Entry goes is = is.1
-  goes_passes passed.Answer goes is = is.1
-  goes_passes passed.Over goes is = is.1
-  goes_passes passed.Places goes is = absurd (goes.0 refl)
-  goes_passes passed.Fails goes is = absurd (goes.1 refl)
+  goes_passes found.Entry goes is = is.1
+  goes_passes found.Answer goes is = is.1
+  goes_passes found.Over goes is = is.1
+  goes_passes found.Places goes is = absurd (goes.0 refl)
+  goes_passes found.Fails goes is = absurd (goes.1 refl)
 
-  which : (p : Passed) → Goes p → HasPassedBy is_log sheet a step steps logging line ahead now p → (is_log ≡ true) ⊎ (step ≢ Placing)
-  which passed.Entry goes is = inl is.0
-  which passed.Answer goes is = inr is.0
-  which passed.Over goes is = inr is.0
-  which passed.Places goes is = absurd (goes.0 refl)
-  which passed.Fails goes is = absurd (goes.1 refl)
+  which : (p : Found) → Goes p → HasFoundBy is_log sheet a step steps logging line ahead now p → (is_log ≡ true) ⊎ (step ≢ Placing)
+  which found.Entry goes is = inl is.0
+  which found.Answer goes is = inr is.0
+  which found.Over goes is = inr is.0
+  which found.Places goes is = absurd (goes.0 refl)
+  which found.Fails goes is = absurd (goes.1 refl)
 
-  pub goes_ends : (p : Passed) → Goes p → HasPassedBy is_log sheet a step steps logging line ahead now p → EndsPlacing (step ∷ steps) → EndsPlacing (turn_by p (step ∷ steps) steps)
-  goes_ends passed.Entry goes is ends = ends
-  goes_ends passed.Answer goes is ends = ends-behind step steps is.0 ends
-  goes_ends passed.Over goes is ends = ends-behind step steps is.0 ends
-  goes_ends passed.Places goes is ends = ends
-  goes_ends passed.Fails goes is ends = ends
+  pub goes_ends : (p : Found) → Goes p → HasFoundBy is_log sheet a step steps logging line ahead now p → EndsPlacing (step ∷ steps) → EndsPlacing (turn_by p (step ∷ steps) steps)
+  goes_ends found.Entry goes is ends = ends
+  goes_ends found.Answer goes is ends = ends-behind step steps is.0 ends
+  goes_ends found.Over goes is ends = ends-behind step steps is.0 ends
+  goes_ends found.Places goes is ends = ends
+  goes_ends found.Fails goes is ends = ends
 
-  pub goes_fit : (s : Dimensions) (p : Passed) → All (IsStepOf s) (step ∷ steps) → All (IsStepOf s) (turn_by p (step ∷ steps) steps)
-  goes_fit s passed.Entry all = all
-  goes_fit s passed.Answer all = All-tail (IsStepOf s) step steps all
-  goes_fit s passed.Over all = All-tail (IsStepOf s) step steps all
-  goes_fit s passed.Places all = all
-  goes_fit s passed.Fails all = all
+  pub goes_fit : (s : Dimensions) (p : Found) → All (IsStepOf s) (step ∷ steps) → All (IsStepOf s) (turn_by p (step ∷ steps) steps)
+  goes_fit s found.Entry all = all
+  goes_fit s found.Answer all = All-tail (IsStepOf s) step steps all
+  goes_fit s found.Over all = All-tail (IsStepOf s) step steps all
+  goes_fit s found.Places all = all
+  goes_fit s found.Fails all = all
 
-  pub goes_within : (n : ℕ) (p : Passed) → Goes p → HasPassedBy is_log sheet a step steps logging line ahead now p → IsShape sheet.script.shape → IsWithin sheet.script.shape n a → IsWithin sheet.script.shape (n + 1) now
+  pub goes_within : (n : ℕ) (p : Found) → Goes p → HasFoundBy is_log sheet a step steps logging line ahead now p → IsShape sheet.script.shape → IsWithin sheet.script.shape n a → IsWithin sheet.script.shape (n + 1) now
   goes_within n p goes is shape within =
       within_next sheet shape n a within is_log step steps logging line ahead (state_of now (turn_by p (step ∷ steps) steps) (logging_by p logging)) (which p goes is) (goes_passes p goes is)
 
