@@ -1,5 +1,5 @@
 -- What a line of the log is judged by.
-use Rattle.std.proofs.Common.{◌≡◌, ◌≢◌, ◌<◌, ◌^◌, ℕ, Bool, true, false, List, [], ◌∷◌, ◌++◌, Option, Some, None, refl, sym, ap, ◌∙◌, subst}
+use Rattle.std.proofs.Common.{◌≡◌, ◌≢◌, ◌<◌, ◌^◌, ℕ, Bool, true, false, List, [], ◌++◌, Option, Some, None, sym, ap, ◌∙◌, subst}
 use Rattle.std.specs.Prelude.{option_and_then, slice_get, Result, Ok, Err, IfOk}
 use Rattle.group_types.specs.Dimensions.{callers}
 use Rattle.group_types.specs.Lists.{at}
@@ -7,12 +7,12 @@ use Rattle.memc_table.specs.Asked.{Asked}
 use Rattle.memc_table.specs.Contents.{reply_of, table_after}
 use Rattle.memc_table.specs.declared.reply.Reply.{Reply}
 use Rattle.group_calls.specs.declared.entry.Entry.{Entry}
-use Rattle.scenario_text.specs.Texts.{entry_text, name_text}
+use Rattle.scenario_text.specs.Texts.{entry_text}
 use Rattle.transcript_text.specs.Texts.{FitsName, text_of_name}
 use Rattle.transcript_text.specs.declared.name.Name.{Name}
 use Rattle.transcript_text.proofs.Entries.{entry-line, entry-names}
 use Rattle.run_verify.specs.Judging.{HasApplied, HasRead, entry_on, open_if, open_in, open_op, with_table}
-use Rattle.run_verify.specs.Passing.{Account, Begins, TellsEntry, call_of}
+use Rattle.run_verify.specs.Passing.{Account, Begins, TellsEntry}
 use Rattle.run_verify.specs.declared.call.Call.{Call}
 
 abbrev given : Asked → Option Asked → Asked

@@ -1,5 +1,5 @@
 -- What holds of the lines behind a line holds of all.
-use Rattle.std.proofs.Common.{◌≡◌, ◌≢◌, ◌⊎◌, inl, inr, ◌<◌, ◌≤◌, ◌+◌, ◌==◌, ℕ, zero, suc, Bool, true, false, List, [], ◌∷◌, ◌∙◌, Option, Some, None, length, refl, sym, ap, subst, arith}
+use Rattle.std.proofs.Common.{◌≡◌, ◌≢◌, ◌⊎◌, inl, inr, ◌≤◌, ◌+◌, ◌==◌, ℕ, zero, suc, Bool, true, false, List, [], ◌∷◌, Some, None, length, refl, sym, subst, arith}
 use Rattle.std.proofs.lemmas.List.Elements.{All-tail}
 use Rattle.std.proofs.lemmas.List.Splits.{length-slice_split}
 use Rattle.std.proofs.lemmas.List.Sums.{count_by-le-length}
@@ -10,7 +10,7 @@ use Rattle.group_types.specs.Shape.{IsShape}
 use Rattle.scenario_run.specs.Lines.{lines_of, without_empty_last}
 use Rattle.run_verify.specs.Courses.{HasFoundBy, IsJudgedBehind, IsPlacedBehind, IsWithin, logging_by, sheet_on, state_of, turn_by}
 use Rattle.run_verify.specs.Judging.{IsStepOf}
-use Rattle.run_verify.specs.Passing.{Account, FailsAt, PassAll, PassesBy, State, begins_entry}
+use Rattle.run_verify.specs.Passing.{Account, FailsAt, PassesBy, State, begins_entry}
 use Rattle.run_verify.specs.Placings.{ArePlacedFrom, placing}
 use Rattle.run_verify.specs.Plain.{EndsPlacing}
 use Rattle.run_verify.specs.Sheet.{Sheet}

@@ -1,5 +1,5 @@
 -- An entry's change is kept.
-use Rattle.std.proofs.Common.{◌≡◌, ◌≢◌, ◌+◌, ℕ, Bool, true, false, List, [], ◌∷◌, ◌++◌, Option, Some, None, length, refl, sym, ap, ◌∙◌, subst}
+use Rattle.std.proofs.Common.{◌≡◌, ◌≢◌, ◌+◌, ℕ, Bool, true, false, List, [], ◌∷◌, ◌++◌, Option, None, length, refl, sym, ap, ◌∙◌, subst}
 use Rattle.std.specs.Prelude.{Result, Ok, Err, IfOk}
 use Rattle.group_types.specs.Dimensions.{Dimensions}
 use Rattle.group_types.specs.Hash.{home_of}
@@ -15,7 +15,7 @@ use Rattle.run_verify.specs.Keeping.{HasChanged, HasEffect, IsFound, IsFoundIf, 
 use Rattle.run_verify.specs.Passing.{Account, changes_at, effect_of, value_in, with_change}
 use Rattle.run_verify.specs.declared.change.Change.{Change}
 use Rattle.run_verify.specs.declared.change.Effect.{Effect}
-use Rattle.run_verify.specs.declared.change.Effect.TheVariants.{Writes, Removes, Keeps}
+use Rattle.run_verify.specs.declared.change.Effect.TheVariants.{Writes}
 
 module _ (s : Dimensions) (places : List Place) (a : Account) (e : Entry) where
   pub refused_kept : accepts e.reply ≡ false → HasChanged s places a e a

@@ -1,8 +1,8 @@
 -- The lines of the log right ahead, one after the other.
-use Rattle.std.proofs.Common.{◌≡◌, ℕ, ◌⊎◌, inl, inr, Bool, true, false, List, [], ◌∷◌, ◌++◌, refl, sym, ap, ◌∙◌, append_assoc}
+use Rattle.std.proofs.Common.{◌≡◌, ℕ, inl, inr, true, false, List, ◌∷◌, ◌++◌, sym, ap, ◌∙◌}
 use Rattle.std.specs.Prelude.{◌↔◌}
 use Rattle.std.proofs.lemmas.List.{append_cancel_left}
-use Rattle.run_verify.specs.Passing.{Begins, BeginsAndEnds, LogsAhead, begins_entry}
+use Rattle.run_verify.specs.Passing.{Begins, LogsAhead, begins_entry}
 
 -- a line that is no line of the log ends the search
 pub ahead_stops : (front reply line : List ℕ) (lines : List (List ℕ)) → begins_entry line ≡ false → ¬ (LogsAhead front reply (line ∷ lines))

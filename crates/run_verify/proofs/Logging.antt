@@ -1,8 +1,8 @@
 -- A line of the log is judged by the places alone.
-use Rattle.std.proofs.Common.{◌≡◌, ◌≢◌, ◌⊎◌, inl, inr, ◌<◌, ◌≤◌, ◌+◌, ◌^◌, ℕ, zero, suc, Bool, true, false, List, [], ◌∷◌, ◌∙◌, Option, Some, None, length, refl, sym, ap, subst, arith}
+use Rattle.std.proofs.Common.{◌≡◌, ◌<◌, ◌≤◌, ◌+◌, ◌^◌, ℕ, zero, suc, Bool, true, false, List, [], ◌∷◌, ◌∙◌, Option, Some, length, refl, sym, ap, subst, arith}
 use Rattle.std.proofs.lemmas.List.Elements.{All-head, All-tail}
 use Rattle.std.specs.Prelude.{All, Result, Ok}
-use Rattle.group_types.specs.Dimensions.{Dimensions, space_of}
+use Rattle.group_types.specs.Dimensions.{Dimensions}
 use Rattle.group_types.specs.Hash.{home_of}
 use Rattle.group_types.specs.Lists.{at}
 use Rattle.group_types.specs.Shape.{IsShape}
@@ -12,17 +12,16 @@ use Rattle.memc_table.specs.Contents.{table_after}
 use Rattle.group_calls.specs.Turns.{accepts}
 use Rattle.group_calls.specs.declared.entry.Entry.{Entry}
 use Rattle.transcript_text.specs.declared.place.Place.{Place}
-use Rattle.run_verify.specs.Courses.{IsLogged, IsSheetOf, logs, may_log, state_of}
+use Rattle.run_verify.specs.Courses.{IsLogged, IsSheetOf, state_of}
 use Rattle.run_verify.specs.Judging.{HasRead, Judges, with_table}
 use Rattle.run_verify.specs.Keeping.{IsFound, IsFoundIf, IsKept}
-use Rattle.run_verify.specs.Passing.{Account, IsToldFor, IsToldRun, PassesBy, State, TellsEntry, after_entry, change_of, changes_at, part_of}
+use Rattle.run_verify.specs.Passing.{Account, IsToldFor, IsToldRun, PassesBy, State, after_entry, change_of, changes_at, part_of}
 use Rattle.run_verify.specs.Runs.{ArePlacesOf}
 use Rattle.run_verify.specs.Sheet.{Sheet}
 use Rattle.run_verify.specs.declared.change.Change.{Change}
 use Rattle.run_verify.specs.declared.change.Effect.{Effect}
 use Rattle.run_verify.specs.declared.change.Effect.TheVariants.{Writes, Removes, Keeps}
 use Rattle.run_verify.specs.declared.step.Step.{Step}
-use Rattle.run_verify.specs.declared.step.Step.TheVariants.{Make, Deliveries, Look, Placing}
 use Rattle.run_verify.proofs.Finding.{run_found}
 
 -- one of lists that are short
@@ -59,43 +58,11 @@ pub logs_entry : (s : Dimensions) (places : List Place) (a : Account) (line : Li
 logs_entry s places a line mid e now shape few read kept sheet is =
     logged-in sheet places is.places_are (subst IsShape (sym is.shape) shape) a line mid e now few read (subst (λ (d : Dimensions). IsKept d places mid e now) (sym is.shape) kept)
 
--- one that tells none
-pub logs_nothing : (s : Dimensions) (places : List Place) (a : Account) (line : List ℕ) → ((e : Entry) → ¬ (TellsEntry a line e)) → (sheet : Sheet) → IsSheetOf s places sheet → (next : Account) → ¬ (IsLogged sheet a line next)
-logs_nothing s places a line none sheet is next logged = none logged.0 logged.2
-
-delivers : (step : Step) → logs step ≡ true → step ≡ Deliveries
-delivers (Make event) may_come = absurd (cc may_come)
-delivers Deliveries may_come = refl
-delivers (Look p run) may_come = absurd (cc may_come)
-delivers Placing may_come = absurd (cc may_come)
-
-abbrev Logs : Bool → Step → List Step → Type 0
-Logs logging step steps = (logging ≡ true) ⊎ ((more : List Step) × (step ∷ steps ≡ Deliveries ∷ more))
-
-may : (logging : Bool) (step : Step) (steps : List Step) → may_log logging step ≡ true → Logs logging step steps
-may true step steps may_come = inl refl
-may false step steps may_come = inr (steps, ap (λ (x : Step). x ∷ steps) (delivers step may_come))
-
-may-not : (logging : Bool) (step : Step) (steps : List Step) → may_log logging step ≡ false → ¬ (Logs logging step steps)
-may-not true step steps shut can = absurd (cc shut)
-may-not false step steps shut (inl on) = absurd (cc on)
-may-not false step steps shut (inr (more, same)) = let one : step ≡ Deliveries = cc same in let may_come : logs step ≡ true = ap logs one in absurd (cc (sym shut, may_come))
-
 module _ (sheet : Sheet) (a : Account) (step : Step) (steps : List Step) (logging : Bool) (line : List ℕ) (ahead : List (List ℕ)) where
-  -- where no line of the log may come, none passes
-  pub no_log : may_log logging step ≡ false → (next : State) → ¬ (PassesBy true sheet (state_of a (step ∷ steps) logging) line ahead next)
-  no_log shut next passes = may-not logging step steps shut passes.0
-
+  -- a line that tells no entry doesn't pass as one of the log
   pub not_log : ((next : Account) → ¬ (IsLogged sheet a line next)) → (next : State) → ¬ (PassesBy true sheet (state_of a (step ∷ steps) logging) line ahead next)
-  not_log none next (can, e, run, tells, told, same) = none (after_entry sheet a e run) (e, run, tells, told, refl)
-
-  pub is_log : may_log logging step ≡ true → (now : Account) → IsLogged sheet a line now → PassesBy true sheet (state_of a (step ∷ steps) logging) line ahead (state_of now (step ∷ steps) logging)
-  is_log can now (e, run, tells, told, same) = (may logging step steps can, e, run, tells, told, ap (λ (x : Account). state_of x (step ∷ steps) logging) same)
+  not_log none next (may, e, run, tells, told, same) = none (after_entry sheet a e run) (e, run, tells, told, refl)
 
 -- a judgement that was no
 pub judged_not : {X E : Type 0} (Good : X → Type 0) (now : X) (r : Result Bool E) (b : Bool) → r ≡ Ok b → b ≡ false → Judges Good now r → (next : X) → ¬ (Good next)
 judged_not Good now r b is bad judged = subst (Judges Good now) (is ∙ ap Ok bad) judged
-
--- one that was yes
-pub judged_yes : {X E : Type 0} (Good : X → Type 0) (now : X) (r : Result Bool E) (b : Bool) → r ≡ Ok b → b ≡ true → Judges Good now r → Good now
-judged_yes Good now r b is good judged = subst (Judges Good now) (is ∙ ap Ok good) judged

@@ -1,5 +1,5 @@
 -- What a line for a look tells.
-use Rattle.std.proofs.Common.{◌≡◌, ◌<◌, ◌≤◌, ◌+◌, ℕ, zero, suc, List, [], ◌∷◌, ◌++◌, codes, All, length, add-zero, refl, sym, ap, ◌∙◌, subst, append_assoc, arith}
+use Rattle.std.proofs.Common.{◌≡◌, ◌<◌, ◌≤◌, ◌+◌, ℕ, zero, suc, List, [], ◌∷◌, ◌++◌, codes, All, length, add-zero, refl, sym, ap, ◌∙◌, subst, arith}
 use Rattle.std.specs.Prelude.{◌↔◌, Result, Ok, Err, IfOk, IsTrue, Bool}
 use Rattle.std.proofs.lemmas.List.Elements.{All-head, All-tail}
 use Rattle.erasure_code.specs.Spaces.{bytes_at}
@@ -8,9 +8,9 @@ use Rattle.group_types.specs.Lists.{at}
 use Rattle.group_types.specs.declared.process.ProcessId.{ProcessId}
 use Rattle.group_types.specs.declared.process.ProcessId.TheVariants.{DataNode, ParityNode}
 use Rattle.group_types.specs.declared.run.Run.{Run}
-use Rattle.scenario_text.specs.Texts.{shown_text, stamp_text, value_text}
+use Rattle.scenario_text.specs.Texts.{stamp_text, value_text}
 use Rattle.transcript_text.specs.Texts.{FitsNumber, Shows, ShowsNone}
-use Rattle.run_verify.specs.Passing.{Account, TellsBytes, changes_at}
+use Rattle.run_verify.specs.Passing.{Account, TellsBytes}
 use Rattle.run_verify.specs.Showing.{AreBelow, IsFitChange, IsStamped, IsTold, space_seen, stamp_len}
 use Rattle.run_verify.specs.Updates.{IsStampOf}
 use Rattle.run_verify.specs.declared.change.Change.{Change}

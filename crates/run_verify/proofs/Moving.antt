@@ -1,5 +1,5 @@
 -- A turn of the loop over the lines of a transcript.
-use Rattle.std.proofs.Common.{◌≡◌, ◌≢◌, ◌≤◌, ◌+◌, ◌-◌, ℕ, Bool, List, [], ◌∷◌, ◌∙◌, drop, get_or, length, take, refl, sym, ap, subst, arith}
+use Rattle.std.proofs.Common.{◌≡◌, ◌≤◌, ◌+◌, ◌-◌, ℕ, Bool, List, [], ◌∷◌, ◌∙◌, drop, get_or, length, take, sym, ap, subst, arith}
 use Rattle.std.proofs.lemmas.List.{take_all}
 use Rattle.std.specs.Prelude.{All, Result, Ok, Err, IfOk}
 use Rattle.group_types.specs.Dimensions.{Dimensions}
@@ -31,7 +31,7 @@ module _ (sheet : Sheet) (a : Account) (turn : List Step) (step : Step) (logging
   pub moved_fails : HasFoundBy (begins_entry line) sheet a step (drop 1 turn) logging line ahead now found.Fails → (done : ℕ) → IsJudgedBehind done sheet (state_of a turn logging) (line ∷ ahead) (Refused (done + 1))
   moved_fails none done =
       subst (λ (t : List Step). IsJudgedBehind done sheet (state_of a t logging) (line ∷ ahead) (Refused (done + 1))) (sym split)
-          (judged_fails sheet (state_of a (step ∷ drop 1 turn) logging) line ahead done none)
+      (judged_fails sheet (state_of a (step ∷ drop 1 turn) logging) line ahead done none)
 
   -- it is one for the places
   pub moved_places : HasFoundBy (begins_entry line) sheet a step (drop 1 turn) logging line ahead now found.Places → EndsPlacing turn → (s : Dimensions) → sheet.script.shape ≡ s → (done : ℕ) (v : Verdict)
@@ -39,7 +39,7 @@ module _ (sheet : Sheet) (a : Account) (turn : List Step) (step : Step) (logging
   moved_places (is, other, same) ends s shape done v placed =
       let here = subst (λ (x : Account). IsJudgedBehind done sheet (placing x) (line ∷ ahead) v) same (placed sheet shape) in
       subst (λ (t : List Step). IsJudgedBehind done sheet (state_of a t logging) (line ∷ ahead) v) (sym split)
-          (judged_places sheet a logging line ahead other step (drop 1 turn) is (subst EndsPlacing split ends) done v here)
+      (judged_places sheet a logging line ahead other step (drop 1 turn) is (subst EndsPlacing split ends) done v here)
 
   -- it passes
   module _ (p : Found) (goes : Goes p) (is : HasFoundBy (begins_entry line) sheet a step (drop 1 turn) logging line ahead now p) (next : List Step) (may : Bool)
@@ -53,7 +53,7 @@ module _ (sheet : Sheet) (a : Account) (turn : List Step) (step : Step) (logging
         let same : state_of now next may ≡ after = ap (λ (t : List Step). state_of now t may) next-split ∙ ap (state_of now (turn_by p (step ∷ drop 1 turn) (drop 1 turn))) may_is in
         let here = subst (λ (x : State). IsJudgedBehind (done + 1) sheet x ahead v) same judged in
         subst (λ (t : List Step). IsJudgedBehind done sheet (state_of a t logging) (line ∷ ahead) v) (sym split)
-            (judged_on sheet (state_of a (step ∷ drop 1 turn) logging) line ahead after (goes_passes (begins_entry line) sheet a step (drop 1 turn) logging line ahead now p goes is) done v here)
+        (judged_on sheet (state_of a (step ∷ drop 1 turn) logging) line ahead after (goes_passes (begins_entry line) sheet a step (drop 1 turn) logging line ahead now p goes is) done v here)
 
     pub moved_ends : EndsPlacing turn → EndsPlacing next
     moved_ends ends = subst EndsPlacing (sym next-split) (goes_ends (begins_entry line) sheet a step (drop 1 turn) logging line ahead now p goes is (subst EndsPlacing split ends))

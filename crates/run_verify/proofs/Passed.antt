@@ -7,12 +7,12 @@ use Rattle.group_types.specs.declared.run.Run.{Run}
 use Rattle.scenario_text.specs.Texts.{place_text}
 use Rattle.scenario_run.specs.Lines.{lines_of}
 use Rattle.run_verify.specs.Changes.{run_behind, run_by, run_if}
-use Rattle.run_verify.specs.Dues.{AreBehind, HasPassed, HasToldAt, LacksFirst, TellsAt, due_at}
-use Rattle.run_verify.specs.Items.{IsMarked, StandBehind, runs_of, with_run}
+use Rattle.run_verify.specs.Dues.{HasPassed, HasToldAt, LacksFirst, TellsAt, due_at}
+use Rattle.run_verify.specs.Items.{StandBehind, runs_of, with_run}
 use Rattle.run_verify.specs.Passing.{TellsRun}
 use Rattle.run_verify.specs.declared.change.Change.{Change}
 use Rattle.run_verify.specs.declared.change.Effect.{Effect}
-use Rattle.run_verify.specs.declared.change.Effect.TheVariants.{Writes, Removes, Keeps}
+use Rattle.run_verify.specs.declared.change.Effect.TheVariants.{Writes, Keeps}
 use Rattle.run_verify.specs.declared.items.Items.{Items}
 use Rattle.run_verify.specs.declared.judging.Passed.{Passed}
 use Rattle.run_verify.specs.declared.judging.Passed.TheVariants as passed

@@ -1,19 +1,14 @@
 -- What the lines for the places come to, line by line.
-use Rattle.std.proofs.Common.{◌≡◌, ◌≢◌, ◌<◌, ◌≤◌, ◌+◌, ◌-◌, ◌⊎◌, inl, inr, ℕ, zero, suc, Bool, true, false, List, [], ◌∷◌, ◌++◌, Option, Some, None, drop, length, refl, sym, ap, ◌∙◌, subst, arith}
+use Rattle.std.proofs.Common.{◌≡◌, ◌≢◌, ◌<◌, ◌+◌, ◌-◌, inl, inr, ℕ, zero, suc, Bool, true, false, List, [], ◌∷◌, ◌++◌, Option, Some, None, drop, length, refl, sym, ap, ◌∙◌, subst, arith}
 use Rattle.std.specs.Prelude.{IfOk, Result, Ok, Err}
 use Rattle.group_types.specs.Dimensions.{Dimensions}
-use Rattle.group_types.specs.Lists.{at}
-use Rattle.group_types.specs.declared.run.Run.{Run}
-use Rattle.scenario_text.specs.Texts.{place_text}
 use Rattle.scenario_run.specs.Lines.{lines_of}
 use Rattle.run_verify.specs.Dues.{ArePlacedBehind, HasEnded, LacksFirst, LeadsTo, dues_in, dues_left}
-use Rattle.run_verify.specs.Passing.{Account, Due, FailsAt, MayLog, PassAll, Passes, PassesBy, PassesPlace, State, TellsRun, begins_entry, changes_at, dues_from, dues_of, on_to, with_placed}
-use Rattle.run_verify.specs.Placings.{ArePlacedFrom, IsPlacedFrom, placing}
+use Rattle.run_verify.specs.Passing.{Account, Due, MayLog, Passes, PassesBy, PassesPlace, State, TellsRun, begins_entry, changes_at, dues_from, dues_of, on_to, with_placed}
+use Rattle.run_verify.specs.Placings.{ArePlacedFrom, placing}
 use Rattle.run_verify.specs.Sheet.{Sheet}
 use Rattle.run_verify.specs.Told.{placed_line}
 use Rattle.run_verify.specs.declared.change.Change.{Change}
-use Rattle.run_verify.specs.declared.step.Step.{Step}
-use Rattle.run_verify.specs.declared.step.Step.TheVariants.{Deliveries, Placing}
 use Rattle.run_verify.proofs.Cutting.{some_lines}
 
 -- ---- one line

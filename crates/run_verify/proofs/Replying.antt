@@ -1,7 +1,7 @@
 -- What the answer of an event is judged by.
 use Rattle.std.specs.Borrow.{Bor}
-use Rattle.std.specs.Prelude.{⊤, Result, Ok, Err, IfOk, OnOk}
-use Rattle.std.proofs.Common.{◌≡◌, ◌≢◌, ℕ, Bool, true, false, List, [], ◌∷◌, ◌++◌, codes, Option, Some, None, ◌⊎◌, inl, inr, refl, sym, ap, ◌∙◌, subst, arith}
+use Rattle.std.specs.Prelude.{Result, Ok, Err, IfOk, OnOk}
+use Rattle.std.proofs.Common.{◌≡◌, ◌≢◌, ℕ, Bool, true, false, List, ◌∷◌, ◌++◌, codes, Option, Some, None, inl, inr, refl, sym, ap, ◌∙◌, subst, arith}
 use Rattle.std.proofs.lemmas.List.{append_cancel_left}
 use Rattle.memc_table.specs.declared.reply.Reply.{Reply}
 use Rattle.group_calls.specs.Turns.{CallName}
@@ -13,11 +13,10 @@ use Rattle.group_calls.specs.declared.event.Event.{Event}
 use Rattle.group_calls.specs.declared.event.Event.TheVariants as happens
 use Rattle.scenario_text.specs.Texts.{answer_text, reply_text}
 use Rattle.transcript_text.specs.Forms.{FitsAnswer, FitsReply, MayAnswer, kind_of}
-use Rattle.transcript_text.specs.Texts.{IsSaid, Tells}
-use Rattle.transcript_text.specs.declared.answer.Said.{Said}
+use Rattle.transcript_text.specs.Texts.{IsSaid}
 use Rattle.transcript_text.specs.declared.answer.Said.TheVariants as said
 use Rattle.run_verify.specs.Judging.{IsAnswered, IsTextThere, Judges, TellsReplyTo}
-use Rattle.run_verify.specs.Passing.{Account, Answers, IsReplyTo, IsRight, IsThere, LogsAhead, after_answer, after_event, front_of, is_taken, logged_reply, next_name}
+use Rattle.run_verify.specs.Passing.{Account, Answers, IsReplyTo, IsRight, IsThere, LogsAhead, after_event, front_of, is_taken, logged_reply, next_name}
 
 -- the third byte of a line
 abbrev third : List ℕ → ℕ

@@ -1,10 +1,9 @@
 -- Places that rise, and what is found among them by halving.
-use Rattle.std.proofs.Common.{◌≡◌, ◌<◌, ◌≤◌, ◌+◌, ◌⊎◌, inl, inr, ℕ, zero, suc, Bool, true, false, List, [], ◌∷◌, Option, Some, None, get_or, length, refl, sym, ap, ◌∙◌, subst, arith}
+use Rattle.std.proofs.Common.{◌≡◌, ◌<◌, ◌≤◌, ◌⊎◌, inl, inr, ℕ, zero, suc, true, false, List, [], ◌∷◌, Some, None, get_or, length, refl, ap, subst, arith}
 use Rattle.std.proofs.Math.Dec.{ltb}
 use Rattle.std.proofs.lemmas.Bool.{cases_lt, ltb-false, ltb-true}
 use Rattle.std.specs.List.Sorted.{IsNonDecreasingBy, IsPartitionPoint}
 use Rattle.group_types.specs.Dimensions.{Dimensions}
-use Rattle.group_types.specs.declared.run.Run.{Run}
 use Rattle.transcript_text.specs.declared.place.Place.{Place}
 use Rattle.run_verify.specs.Runs.{IsRunAmong, Names, Rise, rank_of}
 

@@ -1,28 +1,19 @@
 -- What was judged of a sheet is the verdict of its text.
-use Rattle.std.proofs.Common.{◌≡◌, ◌<◌, ◌+◌, ◌^◌, ℕ, List, length, Ok, Err, refl, sym, subst, arith}
+use Rattle.std.proofs.Common.{◌≡◌, ◌<◌, ◌^◌, ℕ, List, length, Ok, sym, subst, arith}
 use Rattle.std.specs.Prelude.{All}
 use Rattle.group_types.specs.Dimensions.{Dimensions}
 use Rattle.run_verify.specs.Courses.{IsJudged}
 use Rattle.run_verify.specs.Judging.{IsStepOf}
 use Rattle.run_verify.specs.Passing.{FailsAt, first_state}
 use Rattle.run_verify.specs.Plain.{FitsStep, IsPlain}
-use Rattle.run_verify.specs.Scripts.{HasRead, sheet_by}
 use Rattle.run_verify.specs.Sheet.{Sheet, sheet_of}
 use Rattle.run_verify.specs.Verdict.{IsVerdictOf}
 use Rattle.run_verify.specs.declared.step.Step.{Step}
 use Rattle.run_verify.specs.declared.step.Step.TheVariants.{Make, Deliveries, Look, Placing}
 use Rattle.run_verify.specs.declared.verdict.Verdict.{Verdict}
 use Rattle.run_verify.specs.declared.verdict.Verdict.TheVariants.{Verified, Refused}
-use Rattle.run_verify.specs.declared.verdict.VerifyFault.{VerifyFault}
-use Rattle.run_verify.specs.declared.verdict.VerifyFault.TheVariants.{BadLine, BadShape, Want}
 use Rattle.run_verify.proofs.Implied.{passes-checked}
 use Rattle.run_verify.proofs.PlainScript.{ends-read, fit-all}
-
--- a script that can't be read
-pub unread : (text : List ℕ) (fault : VerifyFault) → HasRead sheet_by (sheet_of text) (Err fault) → IsVerdictOf text (Err fault)
-unread text (BadLine n) is = is
-unread text (BadShape field) is = is
-unread text Want is = tt
 
 fits-step : (s : Dimensions) (step : Step) → IsStepOf s step → FitsStep s step
 fits-step s (Make event) is = is

@@ -1,5 +1,5 @@
 -- From one change of a partition to the next.
-use Rattle.std.proofs.Common.{◌≡◌, ◌<◌, ◌+◌, ℕ, List, ◌∷◌, ◌++◌, [], Option, Some, drop, get_or, length, subst, sym, take}
+use Rattle.std.proofs.Common.{◌≡◌, ◌<◌, ◌+◌, ℕ, List, ◌∷◌, ◌++◌, [], Some, drop, get_or, length, subst, sym, take}
 use Rattle.std.specs.Borrow.{Bor}
 use Rattle.group_types.specs.Dimensions.{Dimensions}
 use Rattle.scenario_run.specs.Lines.{lines_of}
@@ -7,7 +7,6 @@ use Rattle.run_verify.specs.Dues.{AreBehind, ArePlacedBehind, HasPassed, LeadsTo
 use Rattle.run_verify.specs.Passing.{dues_of}
 use Rattle.run_verify.specs.declared.change.Change.{Change}
 use Rattle.run_verify.specs.declared.items.Items.{Items}
-use Rattle.run_verify.specs.declared.judging.Passed.{Passed}
 use Rattle.run_verify.specs.declared.judging.Passed.TheVariants as passed
 use Rattle.run_verify.proofs.Duties.{IsAt, at_due, at_next, at_silent, taken}
 use Rattle.run_verify.proofs.Placed.{lacks_fails, told_leads}

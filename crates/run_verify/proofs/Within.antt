@@ -1,5 +1,5 @@
 -- An account stays right for its group, line by line.
-use Rattle.std.proofs.Common.{◌≡◌, ◌≢◌, ◌⊎◌, inl, inr, ◌<◌, ◌≤◌, ◌+◌, ◌^◌, ℕ, zero, suc, Bool, true, false, List, [], ◌∷◌, ◌++◌, ◌∙◌, Option, Some, None, length, replicate, slice_index, refl, sym, ap, subst, arith}
+use Rattle.std.proofs.Common.{◌≡◌, ◌≢◌, ◌⊎◌, inl, inr, ◌<◌, ◌≤◌, ◌+◌, ℕ, zero, suc, Bool, true, false, List, [], ◌∷◌, ◌++◌, ◌∙◌, Option, length, slice_index, refl, sym, ap, subst, arith}
 use Rattle.std.proofs.lemmas.List.{length-append, length-replicate}
 use Rattle.std.proofs.lemmas.List.Elements.{All-head, All-nil, All-push, All-replicate, All-set, All-tail, All-weaker}
 use Rattle.std.specs.Prelude.{All}
@@ -16,15 +16,14 @@ use Rattle.memc_table.specs.declared.ruling.Ruling.{Ruling}
 use Rattle.memc_table.specs.declared.ruling.Ruling.TheVariants.{Refused, Accepted}
 use Rattle.group_calls.specs.Turns.{accepts}
 use Rattle.group_calls.specs.declared.entry.Entry.{Entry}
-use Rattle.group_calls.specs.declared.event.Answer.{Answer}
 use Rattle.group_calls.specs.declared.event.Event.{Event}
 use Rattle.group_calls.specs.declared.event.Event.TheVariants as happens
-use Rattle.run_verify.specs.Courses.{HasFoundBy, IsWithin, state_of}
+use Rattle.run_verify.specs.Courses.{IsWithin, state_of}
 use Rattle.run_verify.specs.Passing.{Account, IsRunIn, IsToldFor, IsToldRun, PassesBy, State, after_answer, after_entry, after_event, change_of, changes_at, effect_of, first_account, is_taken, part_of, value_in, with_change, with_shown}
 use Rattle.run_verify.specs.Sheet.{Sheet}
 use Rattle.run_verify.specs.Showing.{IsFitChange, IsFitEffect}
 use Rattle.run_verify.specs.declared.change.Change.{Change}
-use Rattle.run_verify.specs.declared.change.Effect.TheVariants.{Writes, Removes, Keeps}
+use Rattle.run_verify.specs.declared.change.Effect.TheVariants.{Writes}
 use Rattle.run_verify.specs.declared.step.Step.{Step}
 use Rattle.run_verify.specs.declared.step.Step.TheVariants.{Make, Deliveries, Look, Placing}
 use Rattle.run_verify.proofs.Logging.{home-in}
@@ -103,7 +102,7 @@ module _ (sheet : Sheet) (shape : IsShape sheet.script.shape) (n : ℕ) (a : Acc
         let value : List ℕ = value_in ((table_after a.table e.op).items (key_of e.op.act)) in
         let here : IsFitChange s (change_of a e run) = effect-fits sheet d (length (changes_at a d) + 1) value run e.op.act told in
         all-put (All (IsFitChange s)) a.changes d (at [] a.changes d ++ change_of a e run ∷ []) below
-            (All-push (IsFitChange s) (at [] a.changes d) (change_of a e run) (all-at (All (IsFitChange s)) a.changes d (All-nil (IsFitChange s)) within.fit) here) within.fit
+        (All-push (IsFitChange s) (at [] a.changes d) (change_of a e run) (all-at (All (IsFitChange s)) a.changes d (All-nil (IsFitChange s)) within.fit) here) within.fit
     fit-kept false told = within.fit
 
     few-kept : (b : Bool) → All (λ (cs : List Change). length cs ≤ n + 1) (with_change b d (change_of a e run) a.changes)
@@ -114,7 +113,7 @@ module _ (sheet : Sheet) (shape : IsShape sheet.script.shape) (n : ℕ) (a : Acc
     few-kept false = shorter
 
     -- behind an entry
-    pub within_entry : IsToldRun (accepts e.reply) sheet a e run → IsWithin sheet.script.shape (n + 1) (after_entry sheet a e run)
+    within_entry : IsToldRun (accepts e.reply) sheet a e run → IsWithin sheet.script.shape (n + 1) (after_entry sheet a e run)
     unfolding s d
     within_entry told = record {
       partitions = partitions-kept (accepts e.reply) ∙ within.partitions;
@@ -172,10 +171,3 @@ within_first s = record {
   placed = refl;
   shown = omega arith;
 }
-
--- where this is much less than what may be counted
-pub fits_few : (s : Dimensions) (n : ℕ) (a : Account) → n < 2 ^ 62 → IsWithin s n a → All (λ cs. length cs < 2 ^ 62) a.changes
-fits_few s n a low within = All-weaker (λ (cs : List Change). length cs ≤ n) (λ (cs : List Change). length cs < 2 ^ 62) (λ cs few. omega (arith, few, low)) a.changes within.few
-
-pub fits_low : (s : Dimensions) (n : ℕ) (a : Account) → n < 2 ^ 62 → IsWithin s n a → All (λ count. count < 2 ^ 62) a.table.counts
-fits_low s n a low within = All-weaker (λ count. count ≤ n) (λ count. count < 2 ^ 62) (λ count few. omega (arith, few, low)) a.table.counts within.low

@@ -3,7 +3,6 @@
 use Rattle.std.specs.Prelude.{ℕ, ◌≡◌, ◌≢◌, ◌<◌, ◌≤◌, List, [], ◌∷◌, ◌++◌, length, map, slice_get, Option, Some, Contains, ⊤}
 use Rattle.group_types.specs.Dimensions.{Dimensions}
 use Rattle.group_types.specs.Lists.{at}
-use Rattle.group_types.specs.declared.process.ProcessId.{ProcessId}
 use Rattle.group_types.specs.declared.run.Run.{Run}
 use Rattle.memc_table.specs.Asked.{Asked}
 use Rattle.memc_table.specs.declared.reply.Reply.{Reply}
@@ -11,7 +10,6 @@ use Rattle.group_calls.specs.Log.{IsLegal}
 use Rattle.group_calls.specs.Turns.{CallName, Turn, entry_of, log_of, name_of}
 use Rattle.group_calls.specs.Within.{Fetches, IsAsk, IsLoggedSince, IsTaken}
 use Rattle.group_calls.specs.declared.entry.Entry.{Entry}
-use Rattle.group_calls.specs.declared.event.Answer.{Answer}
 use Rattle.group_calls.specs.declared.event.Answer.TheVariants as answered
 use Rattle.run_verify.specs.Steps.{Script}
 use Rattle.run_verify.specs.declared.step.Step.{Step}

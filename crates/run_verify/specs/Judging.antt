@@ -1,5 +1,5 @@
 -- What judging a line comes to.
-use Rattle.std.specs.Prelude.{ℕ, ◌≡◌, ◌≢◌, ◌<◌, ◌≤◌, ◌+◌, Bool, true, false, List, [], All, Option, Some, None, Result, Ok, Err, ⊤, ◌⊎◌, slice_get, option_and_then}
+use Rattle.std.specs.Prelude.{ℕ, ◌≡◌, ◌≢◌, ◌≤◌, ◌+◌, Bool, true, false, List, [], All, Option, Some, None, Result, Ok, Err, ⊤, slice_get, option_and_then}
 use Rattle.group_types.specs.Dimensions.{Dimensions, space_of}
 use Rattle.group_types.specs.Names.{IsProcess}
 use Rattle.group_calls.specs.declared.event.Event.{Event}

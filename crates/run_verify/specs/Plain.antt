@@ -1,6 +1,6 @@
 -- What a script keeps to that is read from a text: its callers and calls are within their limits, and its last step, and no
 -- other one, asks for the places.
-use Rattle.std.specs.Prelude.{ℕ, ◌≡◌, ◌<◌, ◌^◌, List, [], ◌∷◌, length, ⊤}
+use Rattle.std.specs.Prelude.{◌≡◌, ◌<◌, ◌^◌, List, [], ◌∷◌, length, ⊤}
 use Rattle.group_types.specs.Dimensions.{Dimensions, callers}
 use Rattle.group_types.specs.Names.{IsProcess}
 use Rattle.group_calls.specs.declared.event.Event.{Event}

@@ -6,7 +6,7 @@ use Rattle.scenario_text.specs.declared.line.LineFault.TheVariants as line
 use Rattle.scenario_run.specs.Course.{Fault, Goes, Ends, Refused}
 use Rattle.scenario_run.specs.Lines.{lines_of}
 use Rattle.run_verify.specs.Sheet.{Sheet}
-use Rattle.run_verify.specs.Judging.{AreStepsOf, IsStepOf}
+use Rattle.run_verify.specs.Judging.{IsStepOf}
 use Rattle.run_verify.specs.Steps.{Script, Setting, StepNext, behind, ended, script_in}
 use Rattle.run_verify.specs.declared.step.Step.{Step}
 use Rattle.run_verify.specs.declared.setting.Treated.{Treated}

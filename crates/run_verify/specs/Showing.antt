@@ -1,5 +1,5 @@
 -- Changes that can be written, and the spaces that they leave.
-use Rattle.std.specs.Prelude.{ℕ, ◌≡◌, ◌≤◌, ◌+◌, ◌⊎◌, codes, List, [], ◌∷◌, length, take, Option, Some, None, ⊤}
+use Rattle.std.specs.Prelude.{ℕ, ◌≡◌, ◌≤◌, ◌+◌, ◌⊎◌, codes, List, [], ◌∷◌, length, take, Some, None, ⊤}
 use Rattle.group_types.specs.Dimensions.{Dimensions}
 use Rattle.erasure_code.specs.Spaces.{bytes_at}
 use Rattle.group_types.specs.Lists.{at}

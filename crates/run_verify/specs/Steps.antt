@@ -1,9 +1,7 @@
 -- What a script asks of its transcript, step by step, and the first of its lines that is refused.
-use Rattle.std.specs.Prelude.{ℕ, ◌+◌, ◌==◌, nat_lt, not, Bool, true, false, List, [], ◌∷◌, ◌++◌, codes, replicate, slice_index, slice_set, Option, Some, None, Result, Ok, Err, option_map, if◌then◌else◌}
+use Rattle.std.specs.Prelude.{ℕ, ◌+◌, nat_lt, not, Bool, true, List, [], ◌∷◌, ◌++◌, codes, replicate, slice_index, slice_set, Option, Some, None, Result, Ok, Err, option_map, if◌then◌else◌}
 use Rattle.std.specs.Str.{bytes_eq}
 use Rattle.group_types.specs.Dimensions.{Dimensions, callers}
-use Rattle.group_types.specs.declared.process.ProcessId.{ProcessId}
-use Rattle.group_types.specs.declared.run.Run.{Run}
 use Rattle.group_calls.specs.declared.event.Event.{Event}
 use Rattle.group_calls.specs.declared.event.Event.TheVariants as happens
 use Rattle.scenario_text.specs.Meaning.{is_skipped, line_of}

@@ -1,5 +1,5 @@
 -- What comes of a text that is read, verified and told of.
-use Rattle.std.specs.Prelude.{ℕ, ◌≡◌, ◌⊎◌, ◌≤◌, ◌+◌, List, ◌∷◌, ◌++◌, codes, length, Result, Ok, Err, ⊤, Vec}
+use Rattle.std.specs.Prelude.{ℕ, ◌≡◌, ◌⊎◌, ◌≤◌, ◌+◌, List, ◌++◌, codes, length, Result, Ok, Err, ⊤, Vec}
 use Rattle.std.specs.Fmt.{decimal}
 use Rattle.edge_io.specs.Faults.{Rose}
 use Rattle.edge_io.specs.Moving.{Appends, Input, IsEnded, Takes}

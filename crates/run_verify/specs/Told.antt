@@ -1,10 +1,8 @@
 -- What a transcript tells for each step of its script, and the lines that tell it.
 use Rattle.std.specs.Prelude.{ℕ, suc, ◌≡◌, ◌+◌, ◌<◌, ◌^◌, List, [], ◌∷◌, ◌++◌, All, map, codes, Option, Some, None, ⊤}
 use Rattle.std.specs.Fmt.{decimal}
-use Rattle.group_types.specs.declared.process.ProcessId.{ProcessId}
 use Rattle.group_types.specs.declared.run.Run.{Run}
 use Rattle.group_calls.specs.Turns.{Turn, log_of}
-use Rattle.group_calls.specs.declared.entry.Entry.{Entry}
 use Rattle.group_calls.specs.declared.event.Event.{Event}
 use Rattle.group_calls.specs.declared.event.Event.TheVariants as happens
 use Rattle.scenario_text.specs.Texts.{answer_text, entry_text, many_placed, place_text, shown_text}

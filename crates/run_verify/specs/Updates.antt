@@ -1,5 +1,5 @@
 -- The updates of partitions as a log and the runs of their values tell them, and what processes hold by them.
-use Rattle.std.specs.Prelude.{ℕ, suc, ◌≡◌, ◌<◌, ◌≤◌, ◌+◌, Bool, true, false, List, [], ◌∷◌, ◌++◌, length, take, replicate, Option, Some, None}
+use Rattle.std.specs.Prelude.{ℕ, ◌≡◌, ◌<◌, ◌≤◌, ◌+◌, Bool, true, false, List, [], ◌∷◌, ◌++◌, length, take, replicate, Option, Some, None}
 use Rattle.erasure_code.specs.Code.{coded}
 use Rattle.erasure_code.specs.Spaces.{bytes_at}
 use Rattle.group_types.specs.Dimensions.{Dimensions, space_of}

@@ -1,7 +1,6 @@
 -- What a verdict says of a text.
 use Rattle.std.specs.Prelude.{ℕ, ◌≡◌, List, Result, Ok, Err, ⊤}
 use Rattle.scenario_text.specs.declared.line.LineFault.TheVariants as line
-use Rattle.scenario_run.specs.Course.{Fault}
 use Rattle.run_verify.specs.Checked.{IsChecked}
 use Rattle.run_verify.specs.Passing.{Account, FailsAt, PassAll, first_state}
 use Rattle.run_verify.specs.Sheet.{Sheet, sheet_of}

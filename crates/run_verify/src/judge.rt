@@ -11,13 +11,13 @@ use crate::account::Account;
 use crate::book::Book;
 use crate::cut::cut_line;
 use crate::pass::Found;
+use crate::places::Places;
 use crate::placing::judge_places;
 use crate::script::LONGEST_SHEET;
 use crate::step::Step;
 use crate::verdict::Verdict;
 use group_types::{CALLERS, Shape};
 use std::alloc::{AllocError, Global};
-use crate::places::Places;
 
 /// Judges the lines of a transcript, one after the other.
 pub(crate) fn judge(
@@ -56,12 +56,7 @@ pub(crate) fn judge(
 }
 
 /// The steps in turn and to come behind such a line, and whether lines of the log may come.
-fn go_on<'a>(
-    found: Found,
-    turn: &'a [Step],
-    more: &'a [Step],
-    logging: bool,
-) -> (&'a [Step], bool)
+fn go_on<'a>(found: Found, turn: &'a [Step], more: &'a [Step], logging: bool) -> (&'a [Step], bool)
     ensures turn { result.0.now ≡ turn_by found turn.now more.now }
     ensures logging { result.1 ≡ logging_by found logging }
 {

@@ -1,6 +1,7 @@
 //! A transcript is verified by its script alone: each line is judged, and the first that fails is named. The contract says that
 //! a yes means that all which is told is legal, answered within its time, placed apart and shown as it was written.
-//! Reading the words of a transcript's lines is left to the crate below.
+//! `verify_text` reads the text from a source, and tells a yes. Reading the words of a transcript's lines is left to the
+//! crate below, and telling why there is no yes to the program.
 #![tactic(auto)]
 
 mod account;
@@ -31,6 +32,7 @@ mod text;
 pub mod verdict;
 mod verifying;
 
+pub use script::LONGEST_SHEET;
 pub use status::VerifyStatus;
 pub use text::verify_text;
 pub use verdict::{Verdict, VerifyFault};

@@ -7,10 +7,10 @@ ghost use Rattle.run_verify.specs.Showing.{IsFitChange};
 
 use crate::account::Account;
 use crate::ahead::begins_entry;
+use crate::places::Places;
 use crate::step::Step;
 use group_types::Shape;
 use std::alloc::AllocError;
-use crate::places::Places;
 use transcript_text::count::drained;
 
 /// What a line is found to be.

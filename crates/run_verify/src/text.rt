@@ -12,11 +12,7 @@ use std::alloc::Global;
 
 /// Reads a script, the line `====` and a transcript from the source to its end, verifies them, and where all is checked
 /// writes `verified`, the number of entries, and the number of lines that show bytes.
-pub fn verify_text<S: Source, K: Sink>(
-    alloc: Global,
-    source: &mut S,
-    sink: &mut K,
-) -> VerifyStatus
+pub fn verify_text<S: Source, K: Sink>(alloc: Global, source: &mut S, sink: &mut K) -> VerifyStatus
     ensures judged { HasJudged (S.input source.old) (S.input source.new) (K.held sink.old) (K.held sink.new) result }
     ensures read { result ≡ VerifyStatus.ReadFault → Rose (S.faults source.old) (S.faults source.new) }
     ensures write { result ≡ VerifyStatus.WriteFault → Rose (K.faults sink.old) (K.faults sink.new) }

@@ -9,6 +9,8 @@ use crate::verdict::{Verdict, VerifyFault};
 use std::alloc::Global;
 
 /// Verifies a script, the line `====` and a transcript of the script, which together have at most `LONGEST_SHEET` bytes.
+/// A line that is none of such a script is a `BadLine`, as is the one behind the last where no line is `====`, and a field of
+/// the group that is out of range is a `BadShape`. Else the transcript is verified, or its first line that fails is named.
 pub fn verify(alloc: Global, input: &[u8]) -> Result<Verdict, VerifyFault>
     requires short { length input.now ≤ LONGEST_SHEET }
     ensures verdict { IsVerdictOf input.now result }

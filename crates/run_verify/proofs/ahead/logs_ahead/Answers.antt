@@ -1,7 +1,7 @@
-use Rattle.std.proofs.Common.{◌≡◌, ℕ, List, ◌∷◌, subst, arith}
+use Rattle.std.proofs.Common.{ℕ, List, subst, arith}
 use Rattle.std.specs.Prelude.{◌↔◌}
 use Rattle.scenario_run.specs.Lines.{lines_of}
-use Rattle.run_verify.specs.Passing.{LogsAhead, begins_entry}
+use Rattle.run_verify.specs.Passing.{LogsAhead}
 use Rattle.run_verify.proofs.LogAhead.{ahead_ends}
 use Rattle.run_verify.proofs.ahead.logs_ahead.Goals as goal
 

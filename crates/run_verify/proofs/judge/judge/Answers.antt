@@ -1,13 +1,11 @@
-use Rattle.std.proofs.Common.{◌≡◌, ◌≢◌, ◌≤◌, ◌+◌, ℕ, Bool, false, List, [], ◌∷◌, drop, get_or, length, refl, sym, subst, arith}
+use Rattle.std.proofs.Common.{◌≡◌, ◌+◌, ℕ, false, List, drop, length, refl, sym, subst, arith}
 use Rattle.std.proofs.lemmas.Grind.{common_steps}
 use Rattle.scenario_run.specs.Lines.{lines_of}
 use Rattle.run_verify.specs.Accounts.{account_of}
 use Rattle.run_verify.specs.Courses.{HasFoundBy, IsJudged, IsJudgedBehind, IsPlacedBehind, IsSheetOf, IsWithin, logging_by, sheet_on, state_of, turn_by}
 use Rattle.run_verify.specs.Passing.{Account, begins_entry}
 use Rattle.run_verify.specs.Sheet.{Sheet}
-use Rattle.run_verify.specs.declared.pass.Found.{Found}
 use Rattle.run_verify.specs.declared.step.Step.{Step}
-use Rattle.run_verify.specs.declared.verdict.Verdict.{Verdict}
 use Rattle.run_verify.specs.declared.verdict.Verdict.TheVariants.{Refused}
 use Rattle.run_verify.proofs.Finding.{no_lines}
 use Rattle.run_verify.proofs.Judged.{Goes, judged_lacks}
@@ -41,10 +39,10 @@ returns-in-Places c =
     let is = subst (HasFoundBy (begins_entry c.cut_line.result.0.now) sheet (account_of c.lines.account) c.step-item.result (drop 1 c.lines.turn.now) c.lines.logging c.cut_line.result.0.now (lines_of c.cut_line.result.1.now) (account_of c.pass.new.self)) c.in-Places.is raw in
     let split = split_turn c.lines.turn.now c.step-item.result c.in-len1-up.len_at_least c.step-item.is in
     ok_else (IsPlacedBehind c.lines.done c.args.shape (account_of c.pass.new.self) (lines_of c.lines.rest.now)) (IsJudged sheet) c.place.result
-        (λ v placed. c.lines.invariant.judged v (subst (λ (ls : List (List ℕ)). IsJudgedBehind c.lines.done sheet (state_of (account_of c.lines.account) c.lines.turn.now c.lines.logging) ls v) (sym c.cut_line.ensures.lines)
-            (moved_places sheet (account_of c.lines.account) c.lines.turn.now c.step-item.result c.lines.logging c.cut_line.result.0.now (lines_of c.cut_line.result.1.now) (account_of c.pass.new.self) split is c.lines.invariant.ends c.args.shape refl c.lines.done v
-            (subst (λ (ls : List (List ℕ)). IsPlacedBehind c.lines.done c.args.shape (account_of c.pass.new.self) ls v) c.cut_line.ensures.lines placed))))
-        c.place.ensures
+    (λ v placed. c.lines.invariant.judged v (subst (λ (ls : List (List ℕ)). IsJudgedBehind c.lines.done sheet (state_of (account_of c.lines.account) c.lines.turn.now c.lines.logging) ls v) (sym c.cut_line.ensures.lines)
+    (moved_places sheet (account_of c.lines.account) c.lines.turn.now c.step-item.result c.lines.logging c.cut_line.result.0.now (lines_of c.cut_line.result.1.now) (account_of c.pass.new.self) split is c.lines.invariant.ends c.args.shape refl c.lines.done v
+    (subst (λ (ls : List (List ℕ)). IsPlacedBehind c.lines.done c.args.shape (account_of c.pass.new.self) ls v) c.cut_line.ensures.lines placed))))
+    c.place.ensures
 
 pub returns-in-Fails : goal.returns-in-Fails
 returns-in-Fails c =
@@ -54,7 +52,7 @@ returns-in-Fails c =
     let is = subst (HasFoundBy (begins_entry c.cut_line.result.0.now) sheet (account_of c.lines.account) c.step-item.result (drop 1 c.lines.turn.now) c.lines.logging c.cut_line.result.0.now (lines_of c.cut_line.result.1.now) (account_of c.pass.new.self)) c.in-Fails.is raw in
     let split = split_turn c.lines.turn.now c.step-item.result c.in-len1-up.len_at_least c.step-item.is in
     c.lines.invariant.judged (Refused (c.lines.done + 1)) (subst (λ (ls : List (List ℕ)). IsJudgedBehind c.lines.done sheet (state_of (account_of c.lines.account) c.lines.turn.now c.lines.logging) ls (Refused (c.lines.done + 1))) (sym c.cut_line.ensures.lines)
-        (moved_fails sheet (account_of c.lines.account) c.lines.turn.now c.step-item.result c.lines.logging c.cut_line.result.0.now (lines_of c.cut_line.result.1.now) (account_of c.pass.new.self) split is c.lines.done))
+    (moved_fails sheet (account_of c.lines.account) c.lines.turn.now c.step-item.result c.lines.logging c.cut_line.result.0.now (lines_of c.cut_line.result.1.now) (account_of c.pass.new.self) split is c.lines.done))
 
 pub lines-preserved : goal.lines-preserved
 lines-preserved c =

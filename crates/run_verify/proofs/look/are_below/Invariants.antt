@@ -1,4 +1,4 @@
-use Rattle.std.proofs.Common.{◌≡◌, ◌+◌, ◌≤◌, length}
+use Rattle.std.proofs.Common.{◌+◌, ◌≤◌, length}
 use Rattle.std.specs.Prelude.{◌↔◌}
 use Rattle.run_verify.specs.Accounts.{lists_of}
 use Rattle.run_verify.specs.Showing.{AreBelow}

@@ -1,5 +1,4 @@
-use Rattle.std.proofs.Common.{◌≡◌, ◌≤◌, ◌+◌, ◌-◌, [], length, take}
-use Rattle.group_types.specs.Lists.{at}
+use Rattle.std.proofs.Common.{◌≡◌, ◌≤◌, ◌+◌, ◌-◌, length, take}
 use Rattle.scenario_run.specs.Lines.{lines_of}
 use Rattle.run_verify.specs.Accounts.{lists_of}
 use Rattle.run_verify.specs.Dues.{AreBehind, LeadsTo}

@@ -1,4 +1,4 @@
-use Rattle.std.proofs.Common.{◌≡◌, Bool, subst, arith}
+use Rattle.std.proofs.Common.{Bool, subst, arith}
 use Rattle.scenario_run.specs.Lines.{lines_of}
 use Rattle.run_verify.specs.Scripts.{HasKept}
 use Rattle.run_verify.specs.Sheet.{before_separator}
@@ -15,4 +15,4 @@ returns-in-Err-clause-taken c =
 pub returns-in-Ok-clause-taken : goal.returns-in-Ok-clause-taken
 returns-in-Ok-clause-taken c =
     line-kept c.args.number c.args.setting.now c.treat.new.setting c.args.steps.now.items c.keep.new.steps.items c.args.line.now (before_separator (lines_of c.args.rest.now)) (grind arith) c.in-Ok.treated c.keep.result c.in-Ok.ensures.treated
-        (subst (λ (well : Bool). HasKept c.args.steps.now.items c.keep.new.steps.items c.in-Ok.treated well c.args.number c.keep.result) c.stands_well-well.ensures c.keep.ensures)
+    (subst (λ (well : Bool). HasKept c.args.steps.now.items c.keep.new.steps.items c.in-Ok.treated well c.args.number c.keep.result) c.stands_well-well.ensures c.keep.ensures)

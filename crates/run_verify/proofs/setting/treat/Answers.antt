@@ -1,4 +1,4 @@
-use Rattle.std.proofs.Common.{◌≡◌, ◌+◌}
+use Rattle.std.proofs.Common.{◌+◌}
 use Rattle.run_verify.proofs.Taking.{begun-low}
 use Rattle.run_verify.proofs.setting.treat.Goals as goal
 

@@ -1,9 +1,8 @@
-use Rattle.std.proofs.Common.{◌≡◌, ◌<◌, List, All, length, sym, subst, arith}
+use Rattle.std.proofs.Common.{All, sym, subst, arith}
 use Rattle.std.proofs.lemmas.List.{length-map}
 use Rattle.std.proofs.lemmas.List.Elements.{All-take}
 use Rattle.run_verify.specs.Accounts.{lists_of}
 use Rattle.run_verify.specs.Showing.{IsFitChange}
-use Rattle.run_verify.specs.declared.change.Change.{Change}
 use Rattle.run_verify.proofs.Looking.{fit_at}
 use Rattle.run_verify.proofs.spaces.space_at.Goals as goal
 

@@ -1,4 +1,4 @@
-use Rattle.std.proofs.Common.{◌≡◌, Some, subst, arith}
+use Rattle.std.proofs.Common.{Some, subst, arith}
 use Rattle.scenario_run.specs.Lines.{lines_of}
 use Rattle.transcript_text.specs.Texts.{IsSaid}
 use Rattle.transcript_text.specs.declared.kind.Kind.{Kind}

@@ -1,4 +1,4 @@
-use Rattle.std.proofs.Common.{◌≡◌, [], List, Vec, Global, length, ap, ◌∙◌, subst}
+use Rattle.std.proofs.Common.{[], List, Vec, Global, length, ap, ◌∙◌, subst}
 use Rattle.group_types.specs.Lists.{at}
 use Rattle.run_verify.specs.Accounts.{lists_of}
 use Rattle.std.specs.Prelude.{◌↔◌, IfOk, IsTrue}

@@ -1,4 +1,3 @@
-use Rattle.std.proofs.Common.{◌≡◌, arith}
 use Rattle.run_verify.specs.Accounts.{account_of}
 use Rattle.run_verify.proofs.Entering.{closed, entered_ok}
 use Rattle.run_verify.proofs.account.Account.read_named.Goals as goal

@@ -1,6 +1,6 @@
-use Rattle.std.proofs.Common.{◌≡◌, ◌∙◌}
+use Rattle.std.proofs.Common.{◌∙◌}
 use Rattle.run_verify.specs.Accounts.{account_of}
-use Rattle.run_verify.proofs.Looking.{shows_nothing, shows_told, told_ok}
+use Rattle.run_verify.proofs.Looking.{shows_told, told_ok}
 use Rattle.run_verify.proofs.account.Account.tells_in.Goals as goal
 
 pub returns-in-Some : goal.returns-in-Some

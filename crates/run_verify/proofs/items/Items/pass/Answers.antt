@@ -1,11 +1,10 @@
-use Rattle.std.proofs.Common.{ℕ, None, Option, ap, arith, subst}
+use Rattle.std.proofs.Common.{ℕ, None, ap, arith, subst}
 use Rattle.std.proofs.lemmas.Grind.{common_steps}
 use Rattle.group_types.specs.declared.run.Run.{Run}
 use Rattle.run_verify.specs.Changes.{run_by}
 use Rattle.std.specs.Prelude.{IfOk}
 use Rattle.run_verify.specs.Dues.{HasToldAt, is_written}
 use Rattle.run_verify.specs.declared.change.Effect.{Effect}
-use Rattle.run_verify.specs.declared.change.Effect.TheVariants.{Writes}
 use Rattle.run_verify.proofs.Passed.{stand_kept, stand_set, told_passed}
 use Rattle.run_verify.proofs.items.Items.pass.Goals as goal
 

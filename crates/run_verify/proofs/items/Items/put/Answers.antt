@@ -3,7 +3,7 @@ use Rattle.std.specs.BTreeMap.{get}
 use Rattle.std.specs.Cmp.Lexicographic.{slice_cmp}
 use Rattle.std.specs.Ordering.{nat_cmp}
 use Rattle.group_types.specs.Dimensions.{space_of}
-use Rattle.run_verify.specs.Items.{cleared, filled, runs_of}
+use Rattle.run_verify.specs.Items.{filled, runs_of}
 use Rattle.run_verify.proofs.Marking.{put_marked, some_inside}
 use Rattle.run_verify.proofs.items.Items.put.Goals as goal
 

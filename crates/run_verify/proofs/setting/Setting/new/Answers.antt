@@ -1,5 +1,4 @@
 use Rattle.std.proofs.Common.{ℕ, ◌≡◌, List, replicate, ap}
-use Rattle.run_verify.specs.Steps.{Setting}
 use Rattle.run_verify.proofs.setting.Setting.new.Goals as goal
 
 pub returns : goal.returns
