@@ -1,5 +1,6 @@
 # What a crowd costs, and what bad clients do to it: python3 crowd.py PORT PID SECONDS. Called by bench/crowd.sh.
 
+import multiprocessing
 import os
 import select
 import socket
@@ -87,18 +88,18 @@ def measure(name):
     print(f"{name}: {len(times)} answered, p50 {times[len(times) // 2] * 1e6:.0f} us, p99 {last:.0f}, longest {times[-1] * 1e6:.0f}; p99 {last / quiet:.1f} of quiet; server {resident()} KiB", flush=True)
 
 
-# Something that goes on in threads while the crowd is measured: it gives its count when it is told to stop.
-def beside(name, act, threads=1):
-    stop, counts = threading.Event(), []
-    others = [threading.Thread(target=lambda: counts.append(act(stop)), daemon=True) for _ in range(threads)]
+# Something that goes on in processes of its own while the crowd is measured: it gives its count when it is told to stop.
+def beside(name, act, many=1):
+    stop, counts = multiprocessing.Event(), multiprocessing.Queue()
+    others = [multiprocessing.Process(target=lambda: counts.put(act(stop)), daemon=True) for _ in range(many)]
     for other in others:
         other.start()
     time.sleep(0.2)
     measure(name)
     stop.set()
+    print(f"    {sum(counts.get(timeout=60) for _ in others)} {act.__name__.replace('_', ' ')}")
     for other in others:
         other.join(60)
-    print(f"    {sum(counts)} {act.__name__.replace('_', ' ')}")
 
 
 KEYS = b" ".join(b"b%d" % (number % 4) for number in range(8000))
