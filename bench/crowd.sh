@@ -1,8 +1,8 @@
 #!/bin/sh
-# A crowd and those who would hold it up: sh bench/crowd.sh [PROGRAM]. 1,000 clients connect at once and idle; then 990 ask in turn while others hold half a
-# request open, read nothing of a get of 8,000 items of 1 MiB, read it as fast as they can, send requests as fast as they can, or connect and close. By hand,
-# over the executable that `rt run` leaves. A line for each: how many were answered in SECONDS (3), p50, p99 and the longest in microseconds, the p99 over
-# that of the quiet run before it, and the memory of the server in KiB. With MEASURE=PORT:PID it measures a server that runs already.
+# A crowd and those who would hold it up: sh bench/crowd.sh [PROGRAM]. 1,000 clients connect at once and idle; then 990 ask, in turn and all at once, while
+# others hold half a request open, read nothing of a get of 8,000 items of 1 MiB, read it as fast as they can, send requests as fast as they can, or connect
+# and close. By hand, over the executable that `rt run` leaves. A line for each: how many were answered in SECONDS_OF_A_RUN (3), p50, p99 and the longest in
+# microseconds, the p99 over that of the quiet run before it, and the memory of the server in KiB. With MEASURE=PORT:PID it measures a server that runs.
 set -eu
 here=$(cd "$(dirname "$0")" && pwd)
 program=${1:-$here/../crates/cocytus_main/out/cocytus_main}
@@ -17,4 +17,5 @@ else
     "$program" serve < "$work/settings.toml" > "$work/served" 2> "$work/notice" & server=$! pid=$!
     sleep 2
 fi
-python3 "$here/hostile/crowd.py" "$port" "$pid" "${SECONDS_OF_A_RUN:-3}"
+rustc --edition 2024 -O -o "$work/load" "$here/load/main.rs"
+python3 "$here/hostile/crowd.py" "$port" "$pid" "${SECONDS_OF_A_RUN:-3}" "$work/load"

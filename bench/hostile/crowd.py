@@ -1,13 +1,15 @@
-# What a crowd costs, and what bad clients do to it: python3 crowd.py PORT PID SECONDS. Called by bench/crowd.sh.
+# What a crowd costs, and what bad clients do to it: python3 crowd.py PORT PID SECONDS LOAD, the last being bench/load as built. Called by bench/crowd.sh.
 
+import multiprocessing
 import os
 import select
 import socket
+import subprocess
 import sys
 import threading
 import time
 
-ADDRESS, PID, SECONDS = ("127.0.0.1", int(sys.argv[1])), sys.argv[2], float(sys.argv[3])
+ADDRESS, PID, SECONDS, LOAD = ("127.0.0.1", int(sys.argv[1])), sys.argv[2], float(sys.argv[3]), sys.argv[4]
 CROWD = 990
 BURST = 1000
 
@@ -67,12 +69,30 @@ def burst():
     time.sleep(1)
 
 
-crowd, quiet = [], 0
+crowd, quiet = [], {}
+
+
+def told(name, way, answered, middle, last, longest):
+    if name == "quiet":
+        quiet[way] = last
+    print(f"{name}; {way}: {answered} answered, p50 {middle:.0f} us, p99 {last:.0f}, longest {longest:.0f}; p99 {last / quiet[way]:.1f} of quiet; server {resident()} KiB", flush=True)
+
+
+# As many connections more ask all at once, each the next request as it is answered, a tenth of them sets; what they are answered is checked.
+def measure_at_once(name):
+    words = f"127.0.0.1:{ADDRESS[1]} --gets 90 --size 100 --connections {CROWD} --threads 2 --seconds {SECONDS}".split()
+    said = subprocess.run([LOAD, *words], capture_output=True, text=True, check=True).stdout.split()
+    of = {key: float(value) for key, value in zip(said[::2], said[1::2])}
+    told(name, "all at once", int(of["requests"]), of["p50_us"], of["p99_us"], of["max_us"])
 
 
 # The crowd asks in turn, each the same get, and is answered right.
 def measure(name):
-    global quiet
+    measure_in_turn(name)
+    measure_at_once(name)
+
+
+def measure_in_turn(name):
     times, begun, at = [], time.monotonic(), 0
     while time.monotonic() - begun < SECONDS:
         link, sent = crowd[at % CROWD], time.monotonic()
@@ -81,24 +101,21 @@ def measure(name):
         at += 1
         assert answer == b"VALUE a 0 100\r\n" + b"x" * 100 + b"\r\nEND\r\n", answer
     times.sort()
-    last = times[int(len(times) * 0.99)] * 1e6
-    if name == "quiet":
-        quiet = last
-    print(f"{name}: {len(times)} answered, p50 {times[len(times) // 2] * 1e6:.0f} us, p99 {last:.0f}, longest {times[-1] * 1e6:.0f}; p99 {last / quiet:.1f} of quiet; server {resident()} KiB", flush=True)
+    told(name, "in turn", len(times), *(times[int(len(times) * part)] * 1e6 for part in (0.5, 0.99)), times[-1] * 1e6)
 
 
-# Something that goes on in threads while the crowd is measured: it gives its count when it is told to stop.
-def beside(name, act, threads=1):
-    stop, counts = threading.Event(), []
-    others = [threading.Thread(target=lambda: counts.append(act(stop)), daemon=True) for _ in range(threads)]
+# Something that goes on in processes of its own while the crowd is measured: it gives its count when it is told to stop.
+def beside(name, act, many=1):
+    stop, counts = multiprocessing.Event(), multiprocessing.Queue()
+    others = [multiprocessing.Process(target=lambda: counts.put(act(stop)), daemon=True) for _ in range(many)]
     for other in others:
         other.start()
     time.sleep(0.2)
     measure(name)
     stop.set()
+    print(f"    {sum(counts.get(timeout=60) for _ in others)} {act.__name__.replace('_', ' ')}")
     for other in others:
         other.join(60)
-    print(f"    {sum(counts)} {act.__name__.replace('_', ' ')}")
 
 
 KEYS = b" ".join(b"b%d" % (number % 4) for number in range(8000))

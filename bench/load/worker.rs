@@ -2,7 +2,7 @@
 
 use crate::Shared;
 use crate::connection::{Act, Connection, PATIENCE, Pending, connect};
-use crate::poll::{self, Entry};
+use crate::poll::Poll;
 use crate::protocol::{Answer, Protocol};
 use crate::report::Tally;
 use crate::value::{self, Pattern};
@@ -29,6 +29,7 @@ pub struct Worker<'a> {
     stage: Stage,
     end: Instant,
     broken: u32,
+    poll: Poll,
     piece: Vec<u8>,
 }
 
@@ -121,6 +122,7 @@ impl Worker<'_> {
         connection.input.clear();
         std::thread::sleep(Duration::from_millis(100));
         if let Ok(stream) = connect(&self.shared.options.address) {
+            self.poll.watch(&stream, connection.rest);
             connection.stream = stream;
         }
         let _ = self.send(connection);
@@ -135,13 +137,12 @@ impl Worker<'_> {
 
     // Waits for the connections, and treats those that have something to read; or mends them where none has.
     fn turn(&mut self, connections: &mut [Connection]) {
-        let mut entries: Vec<Entry> = connections.iter().map(|connection| Entry::of(&connection.stream)).collect();
-        poll::wait(&mut entries, PATIENCE.as_millis() as i32);
-        let late = entries.iter().all(|entry| !entry.is_ready());
-        for (connection, entry) in connections.iter_mut().zip(&entries) {
-            if entry.is_ready() {
-                self.serve(connection, true);
-            } else if late && !connection.pending.is_empty() {
+        let ready = self.poll.wait(PATIENCE.as_millis() as i32);
+        for number in &ready {
+            self.serve(&mut connections[number / self.shared.options.threads], true);
+        }
+        if ready.is_empty() {
+            for connection in connections.iter_mut().filter(|connection| !connection.pending.is_empty()) {
                 self.mend(connection, std::io::ErrorKind::TimedOut.into());
             }
         }
@@ -174,8 +175,10 @@ pub fn work(shared: &Shared, thread: usize) -> Tally {
         stage: Stage::Fill,
         end: Instant::now(),
         broken: 0,
+        poll: Poll::new(),
         piece: vec![0; 262_144],
     };
+    connections.iter().for_each(|connection| worker.poll.watch(&connection.stream, connection.rest));
     worker.run(Stage::Fill, &mut connections);
     shared.barrier.wait();
     worker.run(Stage::Load, &mut connections);

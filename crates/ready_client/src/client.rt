@@ -12,9 +12,9 @@ use outbox::{Outbox, TryStream};
 use std::alloc::Global;
 
 /// How many steps a turn has: so many requests are answered or pieces read before others are served.
-const STEPS: u32 = 64;
+const STEPS: u32 = 32;
 
-/// The most bytes that may wait to be sent while more is answered: where more wait a turn ends.
+/// The most bytes that may wait to be sent while more is answered: where more wait a turn ends, and the next sends them.
 const MOST_WAITING: usize = 262_144;
 
 /// What a turn came to.
@@ -76,15 +76,18 @@ impl<S: TryStream> Client<S> {
         ensures later { S.faults self.old.stream ≤ S.faults self.new.stream }
         ensures room { length room.new ≡ 65536 }
     {
+        if self.outbox.len() > MOST_WAITING {
+            return self.send();
+        }
         'steps: for _ in 0..STEPS {
             if self.end.is_some() {
                 return self.finish();
             }
-            if self.outbox.len() > MOST_WAITING {
-                return self.send();
-            }
             if self.step(alloc, caller, clock, room) {
                 return self.pause();
+            }
+            if self.outbox.len() > MOST_WAITING {
+                return Turn::More;
             }
         }
         self.send()

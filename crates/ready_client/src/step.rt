@@ -8,6 +8,9 @@ use front_end::{Caller, Connection, ConnectionFault, End};
 use outbox::{Outbox, Reading, TryStream};
 use std::alloc::Global;
 
+/// The most bytes that one step reads, so that the requests in them hold up no other connection for long.
+const PIECE: usize = 16_384;
+
 /// What one step of a connection came to.
 #[derive(Clone, Copy, Debug, PartialEq, Eq)]
 pub enum Step {
@@ -92,7 +95,7 @@ fn read<C: Caller, S: TryStream>(
     if most == 0 {
         return Ok(Step::Ends(End::Worn));
     }
-    let into = &mut room[..most];
+    let into = &mut room[..most.min(PIECE)];
     match stream.try_read(into) {
         Ok(Reading::Came(n)) => take::<C>(connection, outbox, &into[..n]),
         Ok(Reading::Ended) => Ok(Step::Ends(connection.end())),

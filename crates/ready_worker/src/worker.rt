@@ -70,8 +70,8 @@ impl Worker {
             if is_over && self.places.is_empty() {
                 return;
             }
-            self.wait();
-            self.serve_round(lane, caller, clock);
+            let ready = self.wait();
+            self.serve_round(lane, caller, clock, ready);
         }
     }
 
@@ -104,29 +104,39 @@ impl Worker {
         watched.is_ok() && self.places.insert(place).is_ok()
     }
 
-    // Waits until a connection is ready or the acceptor calls, unless there are some to serve.
-    fn wait(&mut self) {
+    // Waits until a connection is ready or the acceptor calls, unless there are some to serve. Those that are ready come
+    // before those that have more to do: it says how many they are.
+    fn wait(&mut self) -> usize {
         let time = if self.queue.is_empty() {
             None
         } else {
             Some(Duration::from_secs(0))
         };
+        let mut ready: usize = 0;
         if self.poll.poll(&mut self.events, time).is_err() {
-            return;
+            return ready;
         }
         'events: for event in self.events.iter() {
             let Token(key) = event.token();
             if let Some(place) = self.places.get_mut(key) {
-                if !place.queued && self.queue.push_back(key).is_ok() {
+                if !place.queued && self.queue.push_front(key).is_ok() {
                     place.queued = true;
+                    ready = ready.saturating_add(1);
                 }
             }
         }
+        ready
     }
 
-    // Gives each connection in the queue one turn.
-    fn serve_round<C: Caller, T: Clock>(&mut self, lane: &Lane, caller: &mut C, clock: &T) {
-        'queue: for _ in 0..self.queue.len() {
+    // Gives each connection that is ready one turn, and then one of those that have more to do.
+    fn serve_round<C: Caller, T: Clock>(
+        &mut self,
+        lane: &Lane,
+        caller: &mut C,
+        clock: &T,
+        ready: usize,
+    ) {
+        'queue: for _ in 0..=ready {
             let Some(key) = self.queue.pop_front() else {
                 return;
             };

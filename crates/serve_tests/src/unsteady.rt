@@ -15,6 +15,8 @@ pub(crate) struct Unsteady<N> {
 }
 
 impl<N> Unsteady<N> {
+    ghost use Rattle.std.specs.Prelude.{◌≡◌};
+
     pub(crate) fn new(port: TcpEdge<N>, failing: [u64; 2]) -> Unsteady<N> {
         Unsteady {
             port,

@@ -16,7 +16,10 @@ steps-preserved g c = record {
 }
 
 pub returns-then-len-gt-MOST_WAITING-clause-comes : goal.returns-then-len-gt-MOST_WAITING-clause-comes
-returns-then-len-gt-MOST_WAITING-clause-comes g c = λ input before come. sends _ _ input _ _ before _ _ c.steps.self.connection c.send.new.self.connection _ _ c.send.ensures.text c.send.ensures.input c.send.ensures.connection c.send.ensures.end (c.steps.invariant.comes input before come)
+returns-then-len-gt-MOST_WAITING-clause-comes g c = λ input before come. sends _ _ input _ _ before _ _ c.args.self.now.connection c.send.new.self.connection _ _ c.send.ensures.text c.send.ensures.input c.send.ensures.connection c.send.ensures.end come
+
+pub returns-then-len-gt-MOST_WAITING-2-clause-comes : goal.returns-then-len-gt-MOST_WAITING-2-clause-comes
+returns-then-len-gt-MOST_WAITING-2-clause-comes g c = λ input before come. c.step.ensures.comes input before (c.steps.invariant.comes input before come)
 
 pub returns-clause-comes : goal.returns-clause-comes
 returns-clause-comes g c = λ input before come. sends _ _ input _ _ before _ _ c.steps.self.connection c.send-2.new.self.connection _ _ c.send-2.ensures.text c.send-2.ensures.input c.send-2.ensures.connection c.send-2.ensures.end (c.steps.invariant.comes input before come)
