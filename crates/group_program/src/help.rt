@@ -71,7 +71,9 @@ pub fn help_at(alloc: Global, words: &[String], status: Status) -> Result<String
         Status::BadFrame(at) => {
             format!(in alloc; "the frame at byte {at} of the input is none of a message\n")
         }
-        Status::Refused(n) => format!(in alloc; "line {n} of the transcript is none that the script can have there\n"),
+        Status::Refused(n) => format!(in alloc;
+            "line {n} of the transcript is none that the script can have there\n"
+        ),
         Status::BadShape(field) => format!(in alloc; "{}\n", BadShape { field }),
         Status::BadConfig(key) => format!(in alloc; "{}\n", key.allowed()),
         Status::TooLong => too_long(words).to_string(alloc),
@@ -92,7 +94,8 @@ fn lines(words: &[String]) -> &'static str {
 fn too_long(words: &[String]) -> &'static str {
     match words.first() {
         Some(word) if word.as_str() == "serve" => "settings have at most 65536 bytes\n",
-        Some(word) if word.as_str() == "verify" => "a script and its transcript have at most 67108864 bytes\n",
+        Some(word) if word.as_str() == "verify" =>
+            "a script and its transcript have at most 67108864 bytes\n",
         _ => "a script has at most 16777216 bytes\n",
     }
 }
