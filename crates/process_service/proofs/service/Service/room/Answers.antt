@@ -1,4 +1,4 @@
-use Rattle.std.proofs.Common.{◌≤◌, vec_capacity, IfOk, length, sym, subst}
+use Rattle.std.proofs.Common.{◌≡◌, vec_capacity, IfOk, length, sym, subst}
 use Rattle.group_run.specs.Replica.{Replica, up_to}
 use Rattle.process_service.proofs.Lent.{IsLent, here}
 use Rattle.process_service.proofs.service.Service.room.Goals as goal
