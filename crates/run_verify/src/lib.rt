@@ -20,6 +20,7 @@ mod places;
 mod placing;
 mod script;
 mod setting;
+mod shadow;
 mod sheet;
 mod spaces;
 pub mod step;
