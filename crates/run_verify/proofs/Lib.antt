@@ -14,11 +14,15 @@ mod ImpliedStands
 mod ImpliedSteps
 mod ImpliedTurn
 mod ImpliedWithin
+pub mod Logging
+pub mod Meeting
 mod PlainRead
+pub mod Moving
 pub mod PlainScript
 pub mod Duties
 pub mod Entering
 pub mod Finding
+pub mod Judged
 pub mod Keeps
 pub mod Keys
 pub mod LogAhead
@@ -32,4 +36,6 @@ pub mod Shadowing
 pub mod Stamping
 pub mod Taking
 pub mod Vectors
+pub mod Verdicts
+pub mod Within
 pub mod Walking

@@ -14,6 +14,6 @@ account_of a = record {
   table = contents a.table;
   changes = lists_of a.changes.items;
   entries = a.entries;
-  placed = a.placed;
+  placed = 0;
   shown = a.shown;
 }

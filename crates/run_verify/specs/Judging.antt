@@ -1,6 +1,6 @@
 -- What judging a line comes to.
 use Rattle.std.specs.Prelude.{ℕ, ◌≡◌, ◌≢◌, ◌<◌, ◌≤◌, ◌+◌, Bool, true, false, List, [], All, Option, Some, None, Result, Ok, Err, ⊤, ◌⊎◌, slice_get, option_and_then}
-use Rattle.group_types.specs.Dimensions.{Dimensions, callers, space_of}
+use Rattle.group_types.specs.Dimensions.{Dimensions, space_of}
 use Rattle.group_types.specs.Names.{IsProcess}
 use Rattle.group_calls.specs.declared.event.Event.{Event}
 use Rattle.group_calls.specs.declared.event.Event.TheVariants as happens
@@ -14,6 +14,7 @@ use Rattle.scenario_text.specs.Texts.{entry_text, reply_text}
 use Rattle.transcript_text.specs.Forms.{FitsReply}
 use Rattle.transcript_text.specs.declared.name.Name.{Name}
 use Rattle.run_verify.specs.Passing.{Account, Answers, LogsAhead, TellsEntry, after_answer, front_of, next_name}
+use Rattle.run_verify.specs.Plain.{FitsEvent}
 use Rattle.run_verify.specs.Steps.{Setting}
 use Rattle.run_verify.specs.declared.call.Call.{Call}
 use Rattle.run_verify.specs.declared.step.Step.{Step}
@@ -25,18 +26,9 @@ Judges Good now (Ok true) = Good now
 Judges Good now (Ok false) = (next : _) → ¬ (Good next)
 Judges Good now (Err _) = ⊤
 
--- an event whose caller is one
-abbrev pub IsEventOf : Event → Type 0
-IsEventOf (happens.Ask caller _ _) = caller < callers
-IsEventOf (happens.Collect caller _ _) = caller < callers
-IsEventOf (happens.Trace caller _ _ _) = caller < callers
-IsEventOf (happens.Deliver _ _) = ⊤
-IsEventOf (happens.Fail _ _) = ⊤
-IsEventOf (happens.Flush _) = ⊤
-
 -- a step of a script of this group
 abbrev pub IsStepOf : Dimensions → Step → Type 0
-IsStepOf s (Make event) = IsEventOf event
+IsStepOf s (Make event) = FitsEvent event
 IsStepOf s (Look p run) = IsProcess s p × (run.at + run.len ≤ space_of s)
 IsStepOf s Deliveries = ⊤
 IsStepOf s Placing = ⊤

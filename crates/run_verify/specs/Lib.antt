@@ -2,6 +2,7 @@ pub mod Accounts
 pub mod Books
 pub mod Changes
 pub mod Checked
+pub mod Courses
 pub mod Dues
 pub mod Items
 pub mod Judging
@@ -15,6 +16,7 @@ pub mod Shadows
 pub mod Sheet
 pub mod Showing
 pub mod Steps
+pub mod Text
 pub mod Told
 pub mod Updates
 pub mod Verdict

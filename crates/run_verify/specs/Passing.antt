@@ -207,10 +207,16 @@ after_entry sheet a e run = record {
   shown = a.shown;
 }
 
--- a change's run is the one that the text tells of a value of this length
-abbrev pub IsToldRun : Sheet → Account → Entry → Option Run → Type 0
-IsToldRun sheet a e run = IsRunIn sheet.lines sheet.script.shape (part_of sheet e) (length (changes_at a (part_of sheet e)) + 1)
-    (length (value_in ((table_after a.table e.op).items (key_of e.op.act)))) run
+-- the run of a change is the one that the text tells, where it writes a value
+abbrev pub IsToldFor : Sheet → ℕ → ℕ → Effect → Option Run → Type 0
+IsToldFor sheet d number (Writes value found) run = IsRunIn sheet.lines sheet.script.shape d number (length value) run
+IsToldFor sheet d number Removes run = ⊤
+IsToldFor sheet d number Keeps run = ⊤
+
+-- so is the run of an entry's change, which it makes where it is accepted
+abbrev pub IsToldRun : Bool → Sheet → Account → Entry → Option Run → Type 0
+IsToldRun true sheet a e run = IsToldFor sheet (part_of sheet e) (length (changes_at a (part_of sheet e)) + 1) (change_of a e run).effect run
+IsToldRun false sheet a e run = ⊤
 
 -- log lines may come behind an event's answer, and for deliveries
 abbrev pub MayLog : State → Type 0
@@ -221,7 +227,8 @@ with_account s a = record { account = a; steps = s.steps; logging = s.logging }
 
 -- a log line passes
 abbrev pub PassesEntry : Sheet → State → List ℕ → State → Type 0
-PassesEntry sheet s line next = MayLog s × (e : Entry) × (run : Option Run) × TellsEntry s.account line e × IsToldRun sheet s.account e run × (next ≡ with_account s (after_entry sheet s.account e run))
+PassesEntry sheet s line next =
+    MayLog s × (e : Entry) × (run : Option Run) × TellsEntry s.account line e × IsToldRun (accepts e.reply) sheet s.account e run × (next ≡ with_account s (after_entry sheet s.account e run))
 
 -- behind the last line of a step
 abbrev pub on_to : Account → List Step → State

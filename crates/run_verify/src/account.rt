@@ -15,7 +15,6 @@ pub(crate) struct Account {
     pub(crate) table: Book,
     pub(crate) changes: Vec<Vec<Change>>,
     pub(crate) entries: u64,
-    pub(crate) placed: u64,
     pub(crate) shown: u64,
     pub(crate) shadows: Vec<Shadow>,
     ghost callers: { length calls.items ≡ 256 },

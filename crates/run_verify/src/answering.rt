@@ -3,8 +3,9 @@ ghost use Rattle.scenario_run.specs.Lines.{lines_of};
 ghost use Rattle.transcript_text.specs.Forms.{kind_of};
 ghost use Rattle.run_verify.specs.Accounts.{account_of};
 ghost use Rattle.run_verify.specs.Books.{contents};
-ghost use Rattle.run_verify.specs.Judging.{IsAnswered, IsEventOf, Judges, TellsReplyTo};
+ghost use Rattle.run_verify.specs.Judging.{IsAnswered, Judges, TellsReplyTo};
 ghost use Rattle.run_verify.specs.Passing.{after_event};
+ghost use Rattle.run_verify.specs.Plain.{FitsEvent};
 
 use crate::account::Account;
 use crate::calls::{add_call, calls_of, is_ahead, is_text_of, reply_in};
@@ -25,7 +26,7 @@ impl Account {
         line: &[u8],
         ahead: &[u8],
     ) -> Result<bool, AllocError>
-        requires { IsEventOf event.now }
+        requires { FitsEvent event.now }
         ensures { Judges (IsAnswered (account_of self.old) event.now line.now (lines_of ahead.now)) (account_of self.new) result }
     {
         match read_said(kind(event), line) {
@@ -43,7 +44,7 @@ impl Account {
 
     /// Keeps the call that an event asks, if it asks one, which takes effect or not.
     fn ask(&mut self, event: &Event, taken: bool) -> Result<bool, AllocError>
-        requires { IsEventOf event.now }
+        requires { FitsEvent event.now }
         ensures account { OnOk result (account_of self.new ≡ after_event (account_of self.old) event.now taken) }
         ensures goes { IfOk result (λ goes. goes ≡ true) }
     {
@@ -56,7 +57,7 @@ impl Account {
 
     /// Whether a text is that of the reply of the entry of an event's call.
     fn is_reply_to(&self, event: &Event, reply: &[u8], ahead: &[u8]) -> Result<bool, AllocError>
-        requires { IsEventOf event.now }
+        requires { FitsEvent event.now }
         ensures { IfOk result (λ yes. IsTrue yes ↔ TellsReplyTo (account_of self.now) event.now reply.now (lines_of ahead.now)) }
     {
         match event {

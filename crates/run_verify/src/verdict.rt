@@ -1,4 +1,5 @@
 use group_types::Field;
+use std::alloc::AllocError;
 
 /// What is found of a transcript.
 #[derive(Clone, Copy, Debug, PartialEq, Eq)]
@@ -16,4 +17,15 @@ pub enum VerifyFault {
     BadLine(u64),
     BadShape(Field),
     Want,
+}
+
+impl From<AllocError> for VerifyFault {
+    ghost use Rattle.std.specs.Prelude.{◌≡◌};
+    ghost use Rattle.run_verify.specs.declared.verdict.VerifyFault.TheVariants.{Want};
+
+    ghost from_gives = { λ _ fault. fault ≡ Want };
+
+    fn from(_: AllocError) -> VerifyFault {
+        VerifyFault::Want
+    }
 }

@@ -1,0 +1,39 @@
+-- A line is judged for the step in turn.
+use Rattle.std.proofs.Common.{◌≡◌, ◌≢◌, ◌⊎◌, inl, inr, ℕ, Bool, true, false, List, ◌∷◌, refl, sym, ap, subst}
+use Rattle.group_types.specs.Dimensions.{Dimensions}
+use Rattle.transcript_text.specs.declared.place.Place.{Place}
+use Rattle.run_verify.specs.Courses.{HasFoundBy, HasFoundOn, IsMet, IsSheetOf, met_by, state_of}
+use Rattle.run_verify.specs.Passing.{Account, PassesBy, State, after_answer, with_shown}
+use Rattle.run_verify.specs.Sheet.{Sheet}
+use Rattle.run_verify.specs.declared.pass.Found.{Found}
+use Rattle.run_verify.specs.declared.pass.Found.TheVariants as found
+use Rattle.run_verify.specs.declared.step.Step.{Step}
+use Rattle.run_verify.specs.declared.step.Step.TheVariants.{Make, Deliveries, Look, Placing}
+
+met : (sheet : Sheet) (a : Account) (step : Step) (steps : List Step) (logging : Bool) (line : List ℕ) (ahead : List (List ℕ)) (now : Account) → step ≢ Placing
+    → IsMet sheet.script.shape a step line ahead now → HasFoundBy false sheet a step steps logging line ahead now (met_by step)
+met sheet a (Make event) steps logging line ahead now other (answer, answers, same) = (other, (answer, answers, ap (λ (x : Account). state_of x steps true) same))
+met sheet a Deliveries steps logging line ahead now other ((n, low, is), same) = (other, (n, low, is, ap (λ (x : Account). state_of x steps false) same))
+met sheet a (Look p run) steps logging line ahead now other (inl (tells, same)) = (other, inl (tells, ap (λ (x : Account). state_of x steps false) same))
+met sheet a (Look p run) steps logging line ahead now other (inr (lost, same)) = (other, inr (lost, ap (λ (x : Account). state_of x steps false) same))
+met sheet a Placing steps logging line ahead now other is = absurd (other refl)
+
+unmet : (sheet : Sheet) (a : Account) (step : Step) (steps : List Step) (logging : Bool) (line : List ℕ) (ahead : List (List ℕ)) → step ≢ Placing
+    → ((next : Account) → ¬ (IsMet sheet.script.shape a step line ahead next)) → (next : State) → ¬ (PassesBy false sheet (state_of a (step ∷ steps) logging) line ahead next)
+unmet sheet a (Make event) steps logging line ahead other none next (answer, answers, same) = none (after_answer a event answer) (answer, answers, refl)
+unmet sheet a Deliveries steps logging line ahead other none next (n, low, is, same) = none a ((n, low, is), refl)
+unmet sheet a (Look p run) steps logging line ahead other none next (inl (tells, same)) = none (with_shown a) (inl (tells, refl))
+unmet sheet a (Look p run) steps logging line ahead other none next (inr (lost, same)) = none a (inr (lost, refl))
+unmet sheet a Placing steps logging line ahead other none next passes = absurd (other refl)
+
+module _ (s : Dimensions) (places : List Place) (a : Account) (step : Step) (logging : Bool) (line : List ℕ) (ahead : List (List ℕ)) where
+  -- a line that tells what the step asks for
+  pub meets : (now : Account) (p : Found) → step ≢ Placing → IsMet s a step line ahead now → p ≡ met_by step → HasFoundOn false s places a step logging line ahead now p
+  meets now p other is same sheet steps of =
+      subst (HasFoundBy false sheet a step steps logging line ahead now) (sym same)
+          (met sheet a step steps logging line ahead now other (subst (λ (d : Dimensions). IsMet d a step line ahead now) (sym of.shape) is))
+
+  -- one that doesn't
+  pub meets_nothing : (now : Account) → step ≢ Placing → ((next : Account) → ¬ (IsMet s a step line ahead next)) → HasFoundOn false s places a step logging line ahead now found.Fails
+  meets_nothing now other none sheet steps of =
+      unmet sheet a step steps logging line ahead other (λ next is. none next (subst (λ (d : Dimensions). IsMet d a step line ahead next) of.shape is))
