@@ -3,9 +3,10 @@ use Rattle.std.proofs.Common.{◌≡◌, ◌≢◌, ◌<◌, ◌≤◌, ◌+◌,
 use Rattle.std.proofs.Math.Seq.{take-add}
 use Rattle.std.proofs.lemmas.Bool.{cases_lt}
 use Rattle.std.proofs.lemmas.Grind.{get_or-set_at}
-use Rattle.std.proofs.lemmas.List.{get_or-append_right, get_or_append_left, get_or-set_other, length-append, length-set, take-append-le}
+use Rattle.std.proofs.lemmas.List.{append-nil, get_or-append_right, get_or_append_left, get_or-set_other, length-append, length-set, take-append-le}
 use Rattle.group_types.specs.Dimensions.{Dimensions, space_of}
-use Rattle.group_types.specs.Lists.{at}
+use Rattle.group_types.proofs.Lists.{at-put, at-put-other}
+use Rattle.group_types.specs.Lists.{at, put}
 use Rattle.run_verify.specs.Changes.{space_after, space_behind, written_by}
 use Rattle.run_verify.specs.Shadows.{AllFollow, AreMore, Follows, IsShadowAt}
 use Rattle.run_verify.specs.Showing.{spaces_in}
@@ -79,3 +80,20 @@ follow-more cs now more shadow is follows =
 pub follow_more : (changes now : List (List Change)) (shadows : List Shadow) → AreMore changes now → AllFollow changes shadows → AllFollow now shadows
 follow_more changes now shadows more all i d below =
     follow-more (at [] changes (i % 16)) (at [] now (i % 16)) (more (i % 16)).0 (get_or shadows i d) (more (i % 16)).1 (all i d below)
+
+-- ---- more changes
+
+more-at : (ls : List (List Change)) (i d : ℕ) (xs more : List Change) → xs ≡ at [] ls i ++ more → (d ≡ i) ⊎ (d ≢ i) → (new : List Change) × (at [] (put [] ls i xs) d ≡ at [] ls d ++ new)
+more-at ls i d xs more is (inl same) = (more,
+  ap (λ (k : ℕ). at [] (put [] ls i xs) k) same ∙ at-put [] [] ls i xs ∙ is ∙ ap (λ (k : ℕ). at [] ls k ++ more) (sym same))
+more-at ls i d xs more is (inr differs) = ([], at-put-other [] ls i d xs differs ∙ sym (append-nil (at [] ls d)))
+
+same-or-not : (d i : ℕ) → (d ≡ i) ⊎ (d ≢ i)
+same-or-not d i = by (cases_lt d i) (cases_lt i d) where
+  by : (d < i) ⊎ (i ≤ d) → (i < d) ⊎ (d ≤ i) → (d ≡ i) ⊎ (d ≢ i)
+  by (inl less) _ = inr (λ same. omega (arith, less, same))
+  by (inr low) (inl more) = inr (λ same. omega (arith, more, same))
+  by (inr low) (inr high) = inl (omega (arith, low, high))
+
+pub more_put : (ls : List (List Change)) (i : ℕ) (xs more : List Change) → xs ≡ at [] ls i ++ more → AreMore ls (put [] ls i xs)
+more_put ls i xs more is d = more-at ls i d xs more is (same-or-not d i)

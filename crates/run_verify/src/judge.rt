@@ -101,6 +101,7 @@ impl Account {
             changes: nothing(alloc, shape.k())?,
             entries: 0,
             shown: 0,
+            shadows: Vec::new(alloc),
         })
     }
 }

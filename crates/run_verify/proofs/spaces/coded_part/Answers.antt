@@ -6,6 +6,7 @@ use Rattle.group_types.specs.Dimensions.{space_of}
 use Rattle.run_verify.specs.Accounts.{lists_of}
 use Rattle.run_verify.specs.Showing.{AreBelow, spaces_in}
 use Rattle.run_verify.specs.Updates.{spaces_by}
+use Rattle.run_verify.specs.declared.shadow.Shadow.{Shadow}
 use Rattle.run_verify.proofs.Parts.{IsSummed, sum_goes}
 use Rattle.run_verify.proofs.spaces.coded_part.Goals as goal
 
@@ -23,7 +24,8 @@ partitions-preserved c =
     let summed = subst (λ (rest : List ℕ). IsSummed c.args.shape.m c.args.process size c.args.run spaces d rest c.partitions.sum.items target) split c.partitions.invariant.summed in
     record {
       summed = sum_goes c.args.shape.m c.args.process size c.args.run c.requires.run spaces d (get_or stamp d 0) (drop (d + 1) stamp) c.partitions.sum.items target c.deref.result.now c.add_part.new.sum.items summed
-          (c.deref.ensures.value ∙ c.in_ok-place.ensures.there.space _) (ap length c.deref.ensures.value ∙ c.in_ok-place.ensures.there.long _) c.add_part.ensures.sum;
+          (c.deref.ensures.value ∙ ap (λ (x : Shadow). x.space.items) c.index.ensures ∙ c.in_ok-place.ensures.there.space c.index.result.now)
+          (ap length c.deref.ensures.value ∙ ap (λ (x : Shadow). length x.space.items) c.index.ensures ∙ c.in_ok-place.ensures.there.long c.index.result.now) c.add_part.ensures.sum;
       long = c.add_part.ensures.long;
       within = omega (arith, low);
       below = below.1;
