@@ -84,8 +84,10 @@ follow_more changes now shadows more all i d below =
 -- ---- more changes
 
 more-at : (ls : List (List Change)) (i d : ℕ) (xs more : List Change) → xs ≡ at [] ls i ++ more → (d ≡ i) ⊎ (d ≢ i) → (new : List Change) × (at [] (put [] ls i xs) d ≡ at [] ls d ++ new)
-more-at ls i d xs more is (inl same) = (more,
-  ap (λ (k : ℕ). at [] (put [] ls i xs) k) same ∙ at-put [] [] ls i xs ∙ is ∙ ap (λ (k : ℕ). at [] ls k ++ more) (sym same))
+more-at ls i d xs more is (inl same) = (
+  more,
+  ap (λ (k : ℕ). at [] (put [] ls i xs) k) same ∙ at-put [] [] ls i xs ∙ is ∙ ap (λ (k : ℕ). at [] ls k ++ more) (sym same),
+)
 more-at ls i d xs more is (inr differs) = ([], at-put-other [] ls i d xs differs ∙ sym (append-nil (at [] ls d)))
 
 same-or-not : (d i : ℕ) → (d ≡ i) ⊎ (d ≢ i)

@@ -81,21 +81,21 @@ pub(crate) fn coded_part(
     'partitions: while (partition as usize) < stamp.len() {
         let number = stamp[partition as usize];
         let place = go_to(alloc, shape, shadows, changes, row, partition, number)?;
-        add_part(shape, process, partition, run, &shadows[place].space, &mut sum);
+        add_part(
+            shape,
+            process,
+            partition,
+            run,
+            &shadows[place].space,
+            &mut sum,
+        );
         partition += 1;
     }
     Ok(sum)
 }
 
 /// Adds a part of the space of a partition, times the coefficient of a parity process.
-fn add_part(
-    shape: Shape,
-    process: u32,
-    partition: u32,
-    run: Run,
-    space: &[u8],
-    sum: &mut Vec<u8>,
-)
+fn add_part(shape: Shape, process: u32, partition: u32, run: Run, space: &[u8], sum: &mut Vec<u8>)
     requires process { process < shape.m }
     requires partition { partition < shape.k }
     requires run { run.at + run.len ≤ length space.now }

@@ -1,9 +1,8 @@
-use Rattle.std.proofs.Common.{[], ◌++◌, ◌∷◌, ◌∙◌, List, refl, subst, sym}
+use Rattle.std.proofs.Common.{[], ◌++◌, ◌∷◌, ◌∙◌, refl, subst, sym}
 use Rattle.std.proofs.lemmas.List.{append-nil}
 use Rattle.group_types.specs.Lists.{at}
 use Rattle.run_verify.specs.Accounts.{lists_of}
 use Rattle.run_verify.specs.Shadows.{AreMore}
-use Rattle.run_verify.specs.declared.change.Change.{Change}
 use Rattle.run_verify.proofs.Shadowing.{more_put}
 use Rattle.run_verify.proofs.Vectors.{list_here, list_more, list_set}
 use Rattle.run_verify.proofs.keep.add_change.Goals as goal

@@ -1,4 +1,4 @@
-use Rattle.std.proofs.Common.{◌≡◌, ◌<◌, ◌∙◌, [], ℕ, List, All, ap, length, subst, sym, arith}
+use Rattle.std.proofs.Common.{◌∙◌, [], ℕ, List, All, ap, subst, sym, arith}
 use Rattle.std.proofs.lemmas.List.{length-map}
 use Rattle.group_types.specs.Lists.{at}
 use Rattle.run_verify.specs.Accounts.{lists_of}

@@ -1,4 +1,4 @@
-use Rattle.std.proofs.Common.{List, subst, sym}
+use Rattle.std.proofs.Common.{subst, sym}
 use Rattle.run_verify.specs.Shadows.{AllFollow}
 use Rattle.run_verify.proofs.Shadowing.{follow_pushed}
 use Rattle.run_verify.proofs.spaces.grow.Goals as goal
