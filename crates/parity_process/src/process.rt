@@ -1,10 +1,9 @@
-ghost use Rattle.std.specs.Prelude.{◌≡◌, ◌⊎◌, ◌+◌, ◌<◌, ◌≤◌, ◌^◌, [], length, map, IsSome, None, true, IfOk, OnErr, ◌-◌, min};
+ghost use Rattle.std.specs.Prelude.{◌≡◌, ◌⊎◌, ◌+◌, ◌<◌, ◌≤◌, ◌^◌, [], length, map, true, IfOk, OnErr, ◌-◌, min};
 ghost use Rattle.std.specs.List.{range_with_len};
 ghost use Rattle.group_types.specs.Dimensions.{space_of};
 ghost use Rattle.group_types.specs.declared.process.ProcessId.TheVariants.{ParityNode};
 ghost use Rattle.erasure_code.specs.Spaces.{bytes_at};
 ghost use Rattle.group_types.specs.Hash.{home_of};
-ghost use Rattle.group_types.specs.Lists.{at};
 ghost use Rattle.memc_table.specs.Act.{key_of};
 ghost use Rattle.group_run.specs.Applying.{head_at, replica_of, sending};
 ghost use Rattle.group_run.specs.Asking.{ask_process, collect_from, fate_of, only};
