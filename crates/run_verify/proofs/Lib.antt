@@ -21,6 +21,14 @@ pub mod Moving
 pub mod PlainScript
 pub mod Duties
 pub mod Entering
+pub mod Exact
+mod ExactAhead
+mod ExactEntries
+mod ExactFits
+mod ExactNext
+mod ExactOnce
+mod ExactRuns
+mod ExactUpdates
 pub mod Finding
 pub mod Judged
 pub mod Keeps

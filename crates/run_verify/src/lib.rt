@@ -17,6 +17,7 @@ mod items;
 mod judge;
 mod judging;
 mod keep;
+pub mod laws;
 mod look;
 mod pass;
 mod places;
