@@ -1,12 +1,48 @@
 -- A transcript that is checked has no line that fails.
-use Rattle.std.proofs.Common.{◌≡◌, ◌<◌, ◌^◌, List, length, refl, arith}
+use Rattle.std.proofs.Common.{◌≡◌, ◌<◌, ◌+◌, ◌^◌, ℕ, List, [], ◌∷◌, length, Option, refl, sym, subst, arith}
+use Rattle.group_types.proofs.Lists.{at-replicate}
+use Rattle.group_types.specs.Dimensions.{Dimensions}
+use Rattle.group_types.specs.declared.run.Run.{Run}
+use Rattle.group_calls.specs.Turns.{Turn}
 use Rattle.run_verify.specs.Exact.{CheckedTranscriptsPass}
+use Rattle.run_verify.specs.Passing.{Account, PassAll, first_account, first_state}
+use Rattle.run_verify.specs.Sheet.{Sheet}
+use Rattle.run_verify.specs.Told.{runs_told, turns_told}
+use Rattle.run_verify.specs.declared.change.Change.{Change}
+use Rattle.run_verify.proofs.ExactEntries.{Checks, Now}
+use Rattle.run_verify.proofs.ExactFits.{empty-fits}
+use Rattle.run_verify.proofs.ExactKnown.{checks_of, fit_steps}
 use Rattle.run_verify.proofs.ExactNext.{never_fails}
-use Rattle.run_verify.proofs.ExactAhead.{logs-ahead}
-use Rattle.run_verify.proofs.ExactEntries.{entry_passes}
-use Rattle.run_verify.proofs.ExactRuns.{run_found}
-use Rattle.run_verify.proofs.ExactUpdates.{next-update, no-update}
-use Rattle.run_verify.proofs.ExactFits.{reply-fits, table-fits, empty-fits}
+use Rattle.run_verify.proofs.ExactScript.{good_sheet}
+use Rattle.run_verify.proofs.ExactSteps.{steps_pass}
+use Rattle.run_verify.proofs.ImpliedChanges.{MatchAll}
+use Rattle.run_verify.proofs.ImpliedStands.{stands-first}
+use Rattle.run_verify.proofs.PlainScript.{ends-read}
+use Rattle.run_verify.specs.Updates.{updates_by}
+
+-- before the first line nothing was asked, and nothing is logged
+now-first : (sheet : Sheet) (runs : List (List (Option Run))) → Now sheet runs (first_account sheet.script.shape.k) [] []
+now-first sheet runs = record {
+  stands = stands-first sheet.script.shape.k;
+  table = refl;
+  changes = λ d below. subst (λ (cs : List Change). MatchAll cs (updates_by sheet.script.shape runs [] d)) (sym (at-replicate {X = List Change} [] sheet.script.shape.k d)) tt;
+  fits = empty-fits sheet.script.shape.k;
+  placed = refl;
+}
 
 pub checked_transcripts_pass : CheckedTranscriptsPass
-checked_transcripts_pass text sheet short is checked = ?
+checked_transcripts_pass text sheet short is checked =
+    let good = good_sheet text sheet is in
+    let ends = ends-read text sheet is in
+    let turns : List Turn = turns_told checked.told in
+    let runs : List (List (Option Run)) = runs_told checked.told in
+    let checks = checks_of sheet (length text + 1) good (omega (arith, short)) ends checked in
+    let first : Account = first_account sheet.script.shape.k in
+    let all = steps_pass sheet turns runs checks sheet.script.steps checked.told [] refl refl checked.tells ends (fit_steps sheet.script.shape sheet.script.steps good.fit) checked.shown first false (now-first sheet runs) in
+    let passes : PassAll sheet (first_state sheet.script) sheet.lines all.0 = subst (λ (ls : List (List ℕ)). PassAll sheet (first_state sheet.script) ls all.0) (sym checked.lines) all.1 in
+    let few = good.short in
+    record {
+      account = all.0;
+      passes = passes;
+      none = λ n. never_fails sheet n sheet.script.shape.k all.0 sheet.script.steps good.shape (omega (arith, short, few)) passes;
+    }

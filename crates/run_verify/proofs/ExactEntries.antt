@@ -117,16 +117,16 @@ table-push t (d ∷ before) e = table-push (table_after t d.op) before e
 
 module _ (sheet : Sheet) (turns : List Turn) (runs : List (List (Option Run))) (c : Checks sheet turns runs) (before more : List Entry) (e : Entry) (log_is : log_of turns ≡ before ++ e ∷ more)
     (hs : List Head) (a : Account) (now : Now sheet runs a hs before) where
-  s : Dimensions
+  abbrev s : Dimensions
   s = sheet.script.shape
 
-  d : ℕ
+  abbrev d : ℕ
   d = part_of sheet e
 
   low : d < s.k
   low = home-in (key_of e.op.act) s.k c.shape.k.0
 
-  t : Contents
+  abbrev t : Contents
   t = table_of (empty_table s.k) before
 
   reply-is : e.reply ≡ reply_of a.table e.op
@@ -135,7 +135,7 @@ module _ (sheet : Sheet) (turns : List Turn) (runs : List (List (Option Run))) (
   short : length before + 1 < 2 ^ 64
   short = let few = c.short in let many = ap length log_is in omega (arith, few, many, length-append before (e ∷ more))
 
-  u : Logged
+  abbrev u : Logged
   u = update_by t (runs_behind s runs d before) e
 
   is-update : accepts e.reply ≡ true → is_update_of s.k d e ≡ true
@@ -147,7 +147,7 @@ module _ (sheet : Sheet) (turns : List Turn) (runs : List (List (Option Run))) (
   item-is : u.item ≡ (table_after a.table e.op).items (key_of e.op.act)
   item-is = ap (λ (x : Contents). (table_after x e.op).items (key_of e.op.act)) (sym now.table)
 
-  value : List ℕ
+  abbrev value : List ℕ
   value = value_in ((table_after a.table e.op).items (key_of e.op.act))
 
   written : (accepted : accepts e.reply ≡ true) → StandsRight s (updates_by s runs before d) u true → IsToldFor sheet d (length (changes_at a d) + 1) (Writes value u.run) u.run
@@ -160,7 +160,7 @@ module _ (sheet : Sheet) (turns : List Turn) (runs : List (List (Option Run))) (
       let place : at [] runs d ≡ map (λ v. v.run) us ++ Some run ∷ up.back = up.runs_are ∙ ap (λ (r : Option Run). map (λ v. v.run) us ++ r ∷ up.back) run_is in
       let found = c.found d (length value) run (map (λ v. v.run) us) up.back low fits place in
       let many = length-same (changes_at a d) us (now.changes d low) in
-      let count : suc (length (map (λ v. v.run) us)) ≡ length (changes_at a d) + 1 = ap suc (length-map (λ v. v.run) us ∙ sym many) ∙ omega arith in
+      let count : suc (length (map (λ v. v.run) us)) ≡ length (changes_at a d) + 1 = ap suc (length-map us (λ v. v.run) ∙ sym many) ∙ omega arith in
       subst (λ (r : Option Run). IsRunIn sheet.lines s d (length (changes_at a d) + 1) (length value) r) (sym run_is) (subst (λ (n : ℕ). IsRunIn sheet.lines s d n (length value) (Some run)) count found)
 
   told : accepts e.reply ≡ true → IsToldFor sheet d (length (changes_at a d) + 1) (change_of a e u.run).effect u.run

@@ -109,32 +109,27 @@ module _ (s : Dimensions) (d len : ℕ) (run : Run) (fd : d < 2 ^ 64) (fits : Fi
       subst (λ (t : List (List ℕ)). IsRunIn t s d (suc (length front)) len (Some run)) (sym (append_assoc (run_lines e 0 rs) (place_lines (suc e) others) rest))
       (behind-none s d (suc (length front)) len (Some run) (run_lines e 0 rs) (place_lines (suc e) others ++ rest) none behind)
 
+  -- found behind the lines of another step
+  behind-told : (told : Told) (more : List Told) (front : List (Option Run)) → (runs_in told ≡ []) × NoneOf d (suc (length front)) (told_lines told) → ((j : ℕ) → length (at [] (runs_told (told ∷ more)) j) + 1 < 2 ^ 64)
+      → at [] (runs_told (told ∷ more)) d ≡ front ++ Some run ∷ back
+      → (((j : ℕ) → length (at [] (runs_told more) j) + 1 < 2 ^ 64) → at [] (runs_told more) d ≡ front ++ Some run ∷ back → IsRunIn (lines_told more) s d (suc (length front)) len (Some run))
+      → IsRunIn (lines_told (told ∷ more)) s d (suc (length front)) len (Some run)
+  behind-told told more front (none, skips) few is onward =
+      let same : runs_told (told ∷ more) ≡ runs_told more = ap (λ (r : List (List (Option Run))). r ++ runs_told more) none in
+      behind-none s d (suc (length front)) len (Some run) (told_lines told) (lines_told more) skips
+      (onward (subst (λ (r : List (List (Option Run))). (j : ℕ) → length (at [] r j) + 1 < 2 ^ 64) same few) (sym (ap (λ (r : List (List (Option Run))). at [] r d) same) ∙ is))
+
   -- found among all lines
   pub run_found : (steps : List Step) (told : List Told) (front : List (Option Run)) → EndsPlacing steps → TellAll steps told → ((j : ℕ) → length (at [] (runs_told told) j) + 1 < 2 ^ 64) → length front + 1 < 2 ^ 64
       → at [] (runs_told told) d ≡ front ++ Some run ∷ back → IsRunIn (lines_told told) s d (suc (length front)) len (Some run)
   run_found [] told front ends tells few short is = absurd ends
   run_found (step ∷ steps) [] front ends tells few short is = absurd tells
-  run_found (Make event ∷ steps) (told ∷ more) front ends (tell, tells) few short is = onward (no-told d (suc (length front)) (Make event) told (λ e. cc e) tell)
-    where
-      onward : (runs_in told ≡ []) × NoneOf d (suc (length front)) (told_lines told) → IsRunIn (told_lines told ++ lines_told more) s d (suc (length front)) len (Some run)
-      onward (none, no) =
-          let same : runs_told (told ∷ more) ≡ runs_told more = ap (λ (r : List (List (Option Run))). r ++ runs_told more) none in
-          behind-none s d (suc (length front)) len (Some run) (told_lines told) (lines_told more) no (run_found steps more front ends tells
-          (subst (λ (r : List (List (Option Run))). (j : ℕ) → length (at [] r j) + 1 < 2 ^ 64) same few) short (sym (ap (λ (r : List (List (Option Run))). at [] r d) same) ∙ is))
-  run_found (Deliveries ∷ steps) (told ∷ more) front ends (tell, tells) few short is = onward (no-told d (suc (length front)) Deliveries told (λ e. cc e) tell)
-    where
-      onward : (runs_in told ≡ []) × NoneOf d (suc (length front)) (told_lines told) → IsRunIn (told_lines told ++ lines_told more) s d (suc (length front)) len (Some run)
-      onward (none, no) =
-          let same : runs_told (told ∷ more) ≡ runs_told more = ap (λ (r : List (List (Option Run))). r ++ runs_told more) none in
-          behind-none s d (suc (length front)) len (Some run) (told_lines told) (lines_told more) no (run_found steps more front ends tells
-          (subst (λ (r : List (List (Option Run))). (j : ℕ) → length (at [] r j) + 1 < 2 ^ 64) same few) short (sym (ap (λ (r : List (List (Option Run))). at [] r d) same) ∙ is))
-  run_found (Look p at_run ∷ steps) (told ∷ more) front ends (tell, tells) few short is = onward (no-told d (suc (length front)) (Look p at_run) told (λ e. cc e) tell)
-    where
-      onward : (runs_in told ≡ []) × NoneOf d (suc (length front)) (told_lines told) → IsRunIn (told_lines told ++ lines_told more) s d (suc (length front)) len (Some run)
-      onward (none, no) =
-          let same : runs_told (told ∷ more) ≡ runs_told more = ap (λ (r : List (List (Option Run))). r ++ runs_told more) none in
-          behind-none s d (suc (length front)) len (Some run) (told_lines told) (lines_told more) no (run_found steps more front ends tells
-          (subst (λ (r : List (List (Option Run))). (j : ℕ) → length (at [] r j) + 1 < 2 ^ 64) same few) short (sym (ap (λ (r : List (List (Option Run))). at [] r d) same) ∙ is))
+  run_found (Make event ∷ steps) (told ∷ more) front ends (tell, tells) few short is =
+      behind-told told more front (no-told d (suc (length front)) (Make event) told (λ e. cc e) tell) few is (λ few' is'. run_found steps more front ends tells few' short is')
+  run_found (Deliveries ∷ steps) (told ∷ more) front ends (tell, tells) few short is =
+      behind-told told more front (no-told d (suc (length front)) Deliveries told (λ e. cc e) tell) few is (λ few' is'. run_found steps more front ends tells few' short is')
+  run_found (Look p seen ∷ steps) (told ∷ more) front ends (tell, tells) few short is =
+      behind-told told more front (no-told d (suc (length front)) (Look p seen) told (λ e. cc e) tell) few is (λ few' is'. run_found steps more front ends tells few' short is')
   run_found (Placing ∷ (step ∷ steps)) (told ∷ more) front ends tells few short is = absurd (cc ends)
   run_found (Placing ∷ []) (told ∷ (next ∷ more)) front ends (tell, tells) few short is = absurd tells
   run_found (Placing ∷ []) (Placed runs ∷ []) front ends (tell, tells) few short is =

@@ -83,7 +83,7 @@ kept-logs sheet (e ∷ es) a b name call reply (run, tells, logs) is replied =
         let replies : call.reply ≡ None = ap (λ (c : Call). c.reply) (some_same call (call_with e None) (sym is ∙ old)) in
         cc (sym replied ∙ replies)
 
-get-append : {A : Type 0} (xs ys : List A) (i : ℕ) (y : A) → slice_get ys i ≡ Some y → slice_get (xs ++ ys) (length xs + i) ≡ Some y
+pub get-append : {A : Type 0} (xs ys : List A) (i : ℕ) (y : A) → slice_get ys i ≡ Some y → slice_get (xs ++ ys) (length xs + i) ≡ Some y
 get-append [] ys i y is = let e : 0 + i ≡ i = omega arith in rw e is
 get-append (x ∷ xs) ys i y is = let e : suc (length xs) + i ≡ suc (length xs + i) = omega arith in rw e (get-append xs ys i y is)
 

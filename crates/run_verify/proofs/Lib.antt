@@ -25,9 +25,14 @@ pub mod Exact
 mod ExactAhead
 mod ExactEntries
 mod ExactFits
+mod ExactKnown
 mod ExactNext
 mod ExactOnce
+mod ExactPlaces
 mod ExactRuns
+mod ExactScript
+mod ExactSteps
+mod ExactTurns
 mod ExactUpdates
 pub mod Finding
 pub mod Judged

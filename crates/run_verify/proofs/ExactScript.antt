@@ -1,0 +1,449 @@
+-- What a script that is read from a text keeps to: its shape, its callers and calls, and its ops are within their limits.
+use Rattle.std.proofs.Common.{◌≡◌, ◌<◌, ◌≤◌, ◌+◌, ◌^◌, ◌&&◌, ℕ, suc, nat_lt, Bool, true, false, List, [], ◌∷◌, ◌++◌, ◌∙◌, All, length, Option, Some, None, Result, Ok, Err, if◌then◌else◌, refl, sym, ap, subst, arith}
+use Rattle.std.proofs.lemmas.Bool.Decides.{nat_tests}
+use Rattle.std.proofs.lemmas.List.{length-append}
+use Rattle.std.specs.Prelude.{⊤, slice_index}
+use Rattle.std.specs.Str.{bytes_eq}
+use Rattle.group_types.specs.Dimensions.{Dimensions, callers}
+use Rattle.group_types.specs.Names.{IsProcess, same_process}
+use Rattle.group_types.specs.Shape.{IsShape}
+use Rattle.group_types.specs.declared.process.ProcessId.{ProcessId}
+use Rattle.group_types.specs.declared.run.Run.{Run}
+use Rattle.memc_table.specs.Act.{value_of}
+use Rattle.memc_table.specs.Numeral.{number_of}
+use Rattle.memc_table.specs.declared.act.Act.{Act}
+use Rattle.memc_table.specs.declared.act.Act.TheVariants as act
+use Rattle.group_calls.specs.declared.event.Event.{Event}
+use Rattle.group_calls.specs.declared.event.Event.TheVariants as happens
+use Rattle.scenario_text.proofs.Lines.{line_of-within}
+use Rattle.scenario_text.proofs.Read.{bound, mapped, passed}
+use Rattle.scenario_text.specs.Acts.{act_of, act_by, stored, store_of, verb_of}
+use Rattle.scenario_text.specs.Meaning.{delivery, event_line, is_skipped, keyword_of, line_by, line_of, look, meaning_of, or_bad_line}
+use Rattle.scenario_text.specs.Words.{keep_of_word, key_of_word, number_below, partition_of_word, process_of_word, run_of, value_of_word, words_of}
+use Rattle.scenario_text.specs.declared.keyword.Keyword.{Keyword}
+use Rattle.scenario_text.specs.declared.keyword.Keyword.TheVariants as keyword
+use Rattle.scenario_text.specs.declared.line.Line.{Line}
+use Rattle.scenario_text.specs.declared.line.Line.TheVariants.{Skipped, Group, Ask, Collect, Deliver, Fail, Flush, Trace, Drain, Show, Places, Time, Stop}
+use Rattle.scenario_text.specs.declared.line.LineFault.{LineFault}
+use Rattle.scenario_text.specs.declared.line.LineFault.TheVariants.{BadLine}
+use Rattle.scenario_text.specs.declared.read_act.Store.{Store}
+use Rattle.scenario_text.specs.declared.verb.StoreMode.{StoreMode}
+use Rattle.scenario_text.specs.declared.verb.StoreMode.TheVariants.{Set, Add, Replace}
+use Rattle.scenario_text.specs.declared.verb.Verb.{Verb}
+use Rattle.scenario_text.specs.declared.verb.Verb.TheVariants as verb
+use Rattle.scenario_run.specs.Course.{Fault, Goes, Ends, Refused}
+use Rattle.scenario_run.specs.Lines.{lines_of}
+use Rattle.transcript_text.specs.Forms.{AreBytes}
+use Rattle.run_verify.specs.Sheet.{Sheet, before_separator, behind_separator, joined, separator, sheet_of}
+use Rattle.run_verify.proofs.Judged.{lines-few}
+use Rattle.run_verify.specs.Steps.{Script, Setting, StepNext, asks_for, bad_line, behind, by_trace, ended, from_line, next_by, next_of, script_in, shape_in, stands_well}
+use Rattle.run_verify.specs.declared.step.Step.{Step}
+use Rattle.run_verify.specs.declared.step.Step.TheVariants.{Make, Deliveries, Look, Placing}
+use Rattle.run_verify.proofs.ExactEntries.{FitsAsk}
+use Rattle.run_verify.proofs.ExactFits.{FitsAct, number-fits}
+
+-- ---- words
+
+under-by : (limit n : ℕ) (word : List ℕ) (o : Option ℕ) → number_of word ≡ o → number_below limit word ≡ Some n → n < limit
+unfolding number_below
+under-by limit n word None is same = absurd (cc (rw is at same))
+under-by limit n word (Some m) is same =
+    let test = passed (nat_lt m limit) (Some m) n (rw is at same) in
+    let low = test.0 in
+    let value : m ≡ n = cc (test.1) in
+    let below : m < limit = grind (arith, nat_tests, low) in
+    rw value at below
+
+under : (limit n : ℕ) (word : List ℕ) → number_below limit word ≡ Some n → n < limit
+under limit n word is = under-by limit n word (number_of word) refl is
+
+-- the flags of an act have 32 bits
+abbrev FlagsFit : Act → Type 0
+FlagsFit (act.Set key flags expiry value) = flags < 2 ^ 32
+FlagsFit (act.Add key flags expiry value) = flags < 2 ^ 32
+FlagsFit (act.Replace key flags expiry value) = flags < 2 ^ 32
+FlagsFit (act.Cas key flags expiry cas value) = flags < 2 ^ 32
+FlagsFit _ = ⊤
+
+as-act : (a b : Act) → a ≡ b → FlagsFit a → FlagsFit b
+as-act a b same h = subst FlagsFit same h
+
+store-flags : (flags : List ℕ) (words : List (List ℕ)) (s : Store) → store_of flags words ≡ Some s → s.flags < 2 ^ 32
+unfolding store_of
+store-flags flags [] s is = cc is
+store-flags flags (value ∷ exptime) s is =
+    let f = bound (number_below (2 ^ 32) flags) _ s is in
+    let v = bound (value_of_word value) _ s f.2 in
+    let e = bound _ _ s v.2 in
+    let same : record { flags = f.0; expiry = e.0; value = v.0 } ≡ s = cc e.2 in
+    subst (λ (n : ℕ). n < 2 ^ 32) (ap (λ (x : Store). x.flags) same) (under (2 ^ 32) f.0 flags f.1)
+
+stored-flags : (mode : StoreMode) (key : List ℕ) (s : Store) → s.flags < 2 ^ 32 → FlagsFit (stored mode key s)
+stored-flags Set key s h = h
+stored-flags Add key s h = h
+stored-flags Replace key s h = h
+
+act_by-flags : (v : Verb) (key : List ℕ) (words : List (List ℕ)) (a : Act) → act_by v key words ≡ Some a → FlagsFit a
+unfolding act_by
+act_by-flags verb.Get key [] a is = let k = mapped act.Get (key_of_word key) a is in as-act (act.Get k.0) a k.2 tt
+act_by-flags verb.Get key (w ∷ ws) a is = cc is
+act_by-flags (verb.Store mode) key [] a is = cc is
+act_by-flags (verb.Store mode) key (flags ∷ words) a is =
+    let k = bound (key_of_word key) _ a is in
+    let s = bound (store_of flags words) _ a k.2 in
+    as-act (stored mode k.0 s.0) a (cc s.2) (stored-flags mode k.0 s.0 (store-flags flags words s.0 s.1))
+act_by-flags verb.Cas key [] a is = cc is
+act_by-flags verb.Cas key (flags ∷ []) a is = cc is
+act_by-flags verb.Cas key (flags ∷ cas ∷ words) a is =
+    let k = bound (key_of_word key) _ a is in
+    let n = bound (number_of cas) _ a k.2 in
+    let s = bound (store_of flags words) _ a n.2 in
+    as-act (act.Cas k.0 s.0.flags s.0.expiry n.0 s.0.value) a (cc s.2) (store-flags flags words s.0 s.1)
+act_by-flags verb.Delete key [] a is = let k = mapped act.Delete (key_of_word key) a is in as-act (act.Delete k.0) a k.2 tt
+act_by-flags verb.Delete key (w ∷ ws) a is = cc is
+act_by-flags verb.Touch key [] a is = cc is
+act_by-flags verb.Touch key (w ∷ []) a is =
+    let k = bound (key_of_word key) _ a is in
+    let e = bound _ _ a k.2 in
+    as-act (act.Touch k.0 e.0) a (cc e.2) tt
+act_by-flags verb.Touch key (w ∷ x ∷ ws) a is = cc is
+act_by-flags verb.Append key [] a is = cc is
+act_by-flags verb.Append key (w ∷ []) a is =
+    let k = bound (key_of_word key) _ a is in
+    let v = bound (value_of_word w) _ a k.2 in
+    as-act (act.Append k.0 v.0) a (cc v.2) tt
+act_by-flags verb.Append key (w ∷ x ∷ ws) a is = cc is
+act_by-flags verb.Prepend key [] a is = cc is
+act_by-flags verb.Prepend key (w ∷ []) a is =
+    let k = bound (key_of_word key) _ a is in
+    let v = bound (value_of_word w) _ a k.2 in
+    as-act (act.Prepend k.0 v.0) a (cc v.2) tt
+act_by-flags verb.Prepend key (w ∷ x ∷ ws) a is = cc is
+act_by-flags verb.Incr key [] a is = cc is
+act_by-flags verb.Incr key (w ∷ []) a is =
+    let k = bound (key_of_word key) _ a is in
+    let n = bound (number_of w) _ a k.2 in
+    as-act (act.Incr k.0 n.0) a (cc n.2) tt
+act_by-flags verb.Incr key (w ∷ x ∷ ws) a is = cc is
+act_by-flags verb.Decr key [] a is = cc is
+act_by-flags verb.Decr key (w ∷ []) a is =
+    let k = bound (key_of_word key) _ a is in
+    let n = bound (number_of w) _ a k.2 in
+    as-act (act.Decr k.0 n.0) a (cc n.2) tt
+act_by-flags verb.Decr key (w ∷ x ∷ ws) a is = cc is
+
+act-flags : (words : List (List ℕ)) (a : Act) → act_of words ≡ Some a → FlagsFit a
+act-flags [] a is = cc is
+act-flags (name ∷ []) a is = cc is
+act-flags (name ∷ key ∷ words) a is = let v = bound (verb_of name) _ a is in act_by-flags v.0 key words a v.2
+
+act-fits : (a : Act) → FlagsFit a → AreBytes (value_of a) → FitsAct a
+act-fits (act.Get key) flags bytes = tt
+act-fits (act.Set key f expiry value) flags bytes = (flags, bytes)
+act-fits (act.Add key f expiry value) flags bytes = (flags, bytes)
+act-fits (act.Replace key f expiry value) flags bytes = (flags, bytes)
+act-fits (act.Cas key f expiry cas value) flags bytes = (flags, bytes)
+act-fits (act.Delete key) flags bytes = tt
+act-fits (act.Touch key expiry) flags bytes = tt
+act-fits (act.Append key value) flags bytes = bytes
+act-fits (act.Prepend key value) flags bytes = bytes
+act-fits (act.Incr key n) flags bytes = tt
+act-fits (act.Decr key n) flags bytes = tt
+
+-- ---- lines
+
+-- a line's flags have 32 bits, and its call 64
+abbrev Limits : Line → Type 0
+Limits (Ask caller p a) = FlagsFit a
+Limits (Collect caller call p) = call < 2 ^ 64
+Limits (Trace caller call d p) = call < 2 ^ 64
+Limits _ = ⊤
+
+as-line : (a l : Line) → Some a ≡ Some l → Limits a → Limits l
+as-line a l is h = let same : a ≡ l = cc is in subst Limits same h
+
+delivered : (from to : ProcessId) (l : Line) → delivery from to ≡ Some l → Limits l
+delivered from to l = by (same_process from to)
+  where
+    by : (b : Bool) → (if b then None else Some (Deliver from to)) ≡ Some l → Limits l
+    by true is = cc is
+    by false is = as-line (Deliver from to) l is tt
+
+looked : (s : Dimensions) (p : ProcessId) (run : Run) (l : Line) → look s p run ≡ Some l → Limits l
+looked s p run l is = let p' = passed _ (Some (Show p run)) l is in as-line (Show p run) l p'.1 tt
+
+line_by-limits : (s : Dimensions) (k : Keyword) (words : List (List ℕ)) (l : Line) → line_by s k words ≡ Some l → Limits l
+unfolding line_by
+line_by-limits s keyword.Ask [] l is = cc is
+line_by-limits s keyword.Ask (a ∷ []) l is = cc is
+line_by-limits s keyword.Ask (caller ∷ at ∷ op) l is =
+    let c = bound (number_below callers caller) _ l is in
+    let p = bound (process_of_word s at) _ l c.2 in
+    let a = bound (act_of op) _ l p.2 in
+    as-line (Ask c.0 p.0 a.0) l a.2 (act-flags op a.0 a.1)
+line_by-limits s keyword.Collect [] l is = cc is
+line_by-limits s keyword.Collect (a ∷ []) l is = cc is
+line_by-limits s keyword.Collect (a ∷ b ∷ []) l is = cc is
+line_by-limits s keyword.Collect (caller ∷ call ∷ at ∷ []) l is =
+    let c = bound (number_below callers caller) _ l is in
+    let n = bound (number_of call) _ l c.2 in
+    let p = bound (process_of_word s at) _ l n.2 in
+    as-line (Collect c.0 n.0 p.0) l p.2 (number-fits call n.0 n.1)
+line_by-limits s keyword.Collect (a ∷ b ∷ d ∷ e ∷ ws) l is = cc is
+line_by-limits s keyword.Deliver [] l is = cc is
+line_by-limits s keyword.Deliver (a ∷ []) l is = cc is
+line_by-limits s keyword.Deliver (from ∷ to ∷ []) l is =
+    let f = bound (process_of_word s from) _ l is in
+    let t = bound (process_of_word s to) _ l f.2 in
+    delivered f.0 t.0 l t.2
+line_by-limits s keyword.Deliver (a ∷ b ∷ d ∷ ws) l is = cc is
+line_by-limits s keyword.Fail [] l is = cc is
+line_by-limits s keyword.Fail (a ∷ []) l is = cc is
+line_by-limits s keyword.Fail (at ∷ keep ∷ []) l is =
+    let p = bound (process_of_word s at) _ l is in
+    let n = bound (keep_of_word keep) _ l p.2 in
+    as-line (Fail p.0 n.0) l n.2 tt
+line_by-limits s keyword.Fail (a ∷ b ∷ d ∷ ws) l is = cc is
+line_by-limits s keyword.Flush [] l is = cc is
+line_by-limits s keyword.Flush (at ∷ []) l is = let p = mapped Flush (process_of_word s at) l is in subst Limits p.2 tt
+line_by-limits s keyword.Flush (a ∷ b ∷ ws) l is = cc is
+line_by-limits s keyword.Trace [] l is = cc is
+line_by-limits s keyword.Trace (a ∷ []) l is = cc is
+line_by-limits s keyword.Trace (a ∷ b ∷ []) l is = cc is
+line_by-limits s keyword.Trace (a ∷ b ∷ d ∷ []) l is = cc is
+line_by-limits s keyword.Trace (caller ∷ call ∷ partition ∷ at ∷ []) l is =
+    let c = bound (number_below callers caller) _ l is in
+    let n = bound (number_of call) _ l c.2 in
+    let d = bound (partition_of_word s partition) _ l n.2 in
+    let p = bound (process_of_word s at) _ l d.2 in
+    as-line (Trace c.0 n.0 d.0 p.0) l p.2 (number-fits call n.0 n.1)
+line_by-limits s keyword.Trace (a ∷ b ∷ d ∷ e ∷ f ∷ ws) l is = cc is
+line_by-limits s keyword.Drain [] l is = as-line Drain l is tt
+line_by-limits s keyword.Drain (a ∷ ws) l is = cc is
+line_by-limits s keyword.Show [] l is = cc is
+line_by-limits s keyword.Show (a ∷ []) l is = cc is
+line_by-limits s keyword.Show (a ∷ b ∷ []) l is = cc is
+line_by-limits s keyword.Show (at ∷ from ∷ len ∷ []) l is =
+    let p = bound (process_of_word s at) _ l is in
+    let r = bound (run_of from len) _ l p.2 in
+    looked s p.0 r.0 l r.2
+line_by-limits s keyword.Show (a ∷ b ∷ d ∷ e ∷ ws) l is = cc is
+line_by-limits s keyword.Places [] l is = as-line Places l is tt
+line_by-limits s keyword.Places (a ∷ ws) l is = cc is
+line_by-limits s keyword.Time [] l is = cc is
+line_by-limits s keyword.Time (moment ∷ []) l is = let n = mapped Time (number_below (2 ^ 62 + 1) moment) l is in subst Limits n.2 tt
+line_by-limits s keyword.Time (a ∷ b ∷ ws) l is = cc is
+line_by-limits s keyword.Stop [] l is = as-line Stop l is tt
+line_by-limits s keyword.Stop (a ∷ ws) l is = cc is
+
+words-limits : (s : Dimensions) (words : List (List ℕ)) (l : Line) → event_line s words ≡ Some l → Limits l
+words-limits s [] l is = cc is
+words-limits s (name ∷ words) l is = let k = bound (keyword_of name) _ l is in line_by-limits s k.0 words l k.2
+
+read-limits : (s : Dimensions) (line : List ℕ) (l : Line) → line_of (Some s) line ≡ Ok l → Limits l
+read-limits s line l is = by (is_skipped line) is
+  where
+    read : (o : Option Line) → event_line s (words_of line) ≡ o → or_bad_line o ≡ Ok l → Limits l
+    read None none is = cc is
+    read (Some m) some is = let same : m ≡ l = cc is in subst Limits same (words-limits s (words_of line) m some)
+
+    by : (b : Bool) → (if b then Ok Skipped else meaning_of (Some s) (words_of line)) ≡ Ok l → Limits l
+    by true is = let same : Skipped ≡ l = cc is in subst Limits same tt
+    by false is = read (event_line s (words_of line)) refl is
+
+-- ---- steps
+
+-- a step whose event, or whose process, is within the limits
+abbrev pub FitsFully : Dimensions → Step → Type 0
+FitsFully s (Make event) = FitsAsk event
+FitsFully s (Look p run) = IsProcess s p
+FitsFully s Deliveries = ⊤
+FitsFully s Placing = ⊤
+
+abbrev pub FitAll : Dimensions → List Step → Type 0
+FitAll s [] = Unit {0}
+FitAll s (step ∷ steps) = FitsFully s step × FitAll s steps
+
+fit-append : (s : Dimensions) (xs ys : List Step) → FitAll s xs → FitAll s ys → FitAll s (xs ++ ys)
+fit-append s [] ys fit more = more
+fit-append s (x ∷ xs) ys (first, fit) more = (first, fit-append s xs ys fit more)
+
+abbrev Good : Option Setting → Type 0
+Good None = Unit {0}
+Good (Some s) = IsShape s.shape
+
+-- the group of a setting stays, and the steps fit it
+abbrev GoodNext : Option Setting → Option Setting → List Step → Type 0
+GoodNext None next steps = Good next × (steps ≡ [])
+GoodNext (Some s) None steps = ⊥
+GoodNext (Some s) (Some t) steps = (t.shape ≡ s.shape) × FitAll s.shape steps × (length steps ≤ 1)
+
+abbrev GoodLine : Option Setting → StepNext → Type 0
+GoodLine setting (Goes next steps text) = GoodNext setting next steps
+GoodLine setting Ends = Unit {0}
+GoodLine setting (Refused cause) = Unit {0}
+
+none-ask : (s : Setting) → GoodNext (Some s) (Some s) []
+none-ask s = (refl, tt, omega arith)
+
+traced : (s : Setting) (caller call : ℕ) (e : Event) → FitsAsk e → GoodLine (Some s) (by_trace s caller call e)
+traced s caller call e fits = by (nat_lt call (slice_index s.asked caller))
+  where
+    by : (b : Bool) → GoodLine (Some s) (if b then asks_for s (Make e) else Refused BadLine)
+    by true = (refl, (fits, tt), omega arith)
+    by false = tt
+
+good-line : (setting : Option Setting) (line : List ℕ) → Good setting → GoodLine setting (next_of setting line)
+good-line None line good = by (line_of None line) refl
+  where
+    by : (r : Result Line LineFault) → line_of None line ≡ r → GoodLine None (next_by None r)
+    by (Err fault) is = tt
+    by (Ok Skipped) is = (tt, refl)
+    by (Ok (Group shape)) is = (line_of-within None line (Group shape) is, refl)
+    by (Ok (Ask caller p a)) is = tt
+    by (Ok (Collect caller call p)) is = tt
+    by (Ok (Deliver from to)) is = tt
+    by (Ok (Fail p keep)) is = tt
+    by (Ok (Flush p)) is = tt
+    by (Ok (Trace caller call d p)) is = tt
+    by (Ok Drain) is = tt
+    by (Ok (Show p run)) is = tt
+    by (Ok Places) is = tt
+    by (Ok (Time moment)) is = tt
+    by (Ok Stop) is = tt
+good-line (Some s) line good = by (line_of (Some s.shape) line) refl
+  where
+    by : (r : Result Line LineFault) → line_of (Some s.shape) line ≡ r → GoodLine (Some s) (next_by (Some s) r)
+    by (Err fault) is = tt
+    by (Ok Skipped) is = none-ask s
+    by (Ok (Group shape)) is = tt
+    by (Ok (Ask caller p a)) is = let w = line_of-within (Some s.shape) line (Ask caller p a) is in (refl, ((w.0, act-fits a (read-limits s.shape line (Ask caller p a) is) w.2), tt), omega arith)
+    by (Ok (Collect caller call p)) is = let w = line_of-within (Some s.shape) line (Collect caller call p) is in (refl, ((w.0, read-limits s.shape line (Collect caller call p) is), tt), omega arith)
+    by (Ok (Deliver from to)) is = (refl, (tt, tt), omega arith)
+    by (Ok (Fail p keep)) is = (refl, (tt, tt), omega arith)
+    by (Ok (Flush p)) is = (refl, (tt, tt), omega arith)
+    by (Ok (Trace caller call d p)) is = let w = line_of-within (Some s.shape) line (Trace caller call d p) is in traced s caller call (happens.Trace caller call d p) (w.0, read-limits s.shape line (Trace caller call d p) is)
+    by (Ok Drain) is = (refl, (tt, tt), omega arith)
+    by (Ok (Show p run)) is = let w = line_of-within (Some s.shape) line (Show p run) is in (refl, (w.0, tt), omega arith)
+    by (Ok Places) is = (refl, (tt, tt), omega arith)
+    by (Ok (Time moment)) is = (refl, tt, omega arith)
+    by (Ok Stop) is = tt
+
+-- ---- scripts
+
+-- what a script keeps to, where the lines before set this
+pub record GoodScript (setting : Option Setting) (m : ℕ) (script : Script) : Type 0 where
+  pub shape : IsShape script.shape
+  pub kept : (s : Setting) → setting ≡ Some s → script.shape ≡ s.shape
+  pub fit : FitAll script.shape script.steps
+  pub few : length script.steps ≤ m
+
+abbrev Outcome : Type 0
+Outcome = Result Script (Fault LineFault)
+
+behind-ok : (steps : List Step) (r : Outcome) (script : Script) → behind steps r ≡ Ok script → (rest : Script) × (r ≡ Ok rest) × (record { shape = rest.shape; steps = steps ++ rest.steps } ≡ script)
+behind-ok steps (Ok rest) script is = (rest, refl, cc is)
+behind-ok steps (Err fault) script is = cc is
+
+good-ended : (n m : ℕ) (setting : Option Setting) (script : Script) → Good setting → ended n setting ≡ Ok script → GoodScript setting m script
+good-ended n m None script good is = cc is
+good-ended n m (Some s) script good is =
+    let same : record { shape = s.shape; steps = [] } ≡ script = cc is in
+    subst (GoodScript (Some s) m) same (record { shape = good; kept = λ t is. let e : s ≡ t = cc is in ap (λ (x : Setting). x.shape) e; fit = tt; few = omega arith })
+
+more-lines : (setting : Option Setting) (m : ℕ) (script : Script) → GoodScript setting m script → GoodScript setting (suc m) script
+more-lines setting m script g = let few = g.few in record { shape = g.shape; kept = g.kept; fit = g.fit; few = omega (arith, few) }
+
+-- the next line goes on
+goes-on : (setting next : Option Setting) (steps : List Step) (m : ℕ) (rest : Script) → GoodNext setting next steps → GoodScript next m rest → GoodScript setting (suc m) (record { shape = rest.shape; steps = steps ++ rest.steps })
+goes-on None next steps m rest (good, none) g =
+    let few = g.few in
+    subst (λ (st : List Step). GoodScript None (suc m) (record { shape = rest.shape; steps = st ++ rest.steps })) (sym none) (record { shape = g.shape; kept = λ s is. cc is; fit = g.fit; few = omega (arith, few) })
+goes-on (Some s) None steps m rest none g = absurd none
+goes-on (Some s) (Some t) steps m rest (shape_is, fit, one) g =
+    let same : rest.shape ≡ s.shape = g.kept t refl ∙ shape_is in
+    let few = g.few in
+    record {
+      shape = g.shape;
+      kept = λ u is. let e : s ≡ u = cc is in same ∙ ap (λ (x : Setting). x.shape) e;
+      fit = fit-append rest.shape steps rest.steps (subst (λ (d : Dimensions). FitAll d steps) (sym same) fit) g.fit;
+      few = omega (arith, few, one, length-append steps rest.steps);
+    }
+
+next-good : (setting next : Option Setting) (steps : List Step) → Good setting → GoodNext setting next steps → Good next
+next-good None next steps good (fine, none) = fine
+next-good (Some s) None steps good none = absurd none
+next-good (Some s) (Some t) steps good (shape_is, fit, one) = subst IsShape (sym shape_is) good
+
+-- a line that is skipped sets nothing and asks nothing
+skips : (line : List ℕ) (setting : Option Setting) → is_skipped line ≡ true → next_of setting line ≡ Goes setting [] []
+skips line None skipped = rw skipped refl
+skips line (Some s) skipped = rw skipped refl
+
+abbrev Goal : List (List ℕ) → Type 0
+Goal lines = (n : ℕ) (setting : Option Setting) (script : Script) → Good setting → script_in n setting lines ≡ Ok script → GoodScript setting (length lines) script
+
+good-from : (n : ℕ) (setting : Option Setting) (line : List ℕ) (lines : List (List ℕ)) (script : Script) → Goal lines → Good setting → (next : StepNext) → GoodLine setting next → (well : Bool)
+    → from_line false well n setting next (λ s. script_in (n + 1) s lines) ≡ Ok script → GoodScript setting (suc (length lines)) script
+good-from n setting line lines script onward good (Goes next steps text) fine false is = cc is
+good-from n setting line lines script onward good (Goes next steps text) fine true is =
+    let rest = behind-ok steps (script_in (n + 1) next lines) script is in
+    subst (GoodScript setting (suc (length lines))) rest.2 (goes-on setting next steps (length lines) rest.0 fine (onward (n + 1) next rest.0 (next-good setting next steps good fine) rest.1))
+good-from n setting line lines script onward good Ends fine well is = good-ended n (suc (length lines)) setting script good is
+good-from n setting line lines script onward good (Refused cause) fine well is = cc is
+
+good-script : (lines : List (List ℕ)) → Goal lines
+good-script [] n setting script good is = good-ended n 0 setting script good is
+good-script (line ∷ lines) n setting script good is = by (is_skipped line) refl (good-script lines)
+  where
+    by : (b : Bool) → is_skipped line ≡ b → Goal lines → GoodScript setting (suc (length lines)) script
+    by true skipped onward =
+        let read : script_in (n + 1) setting lines ≡ Ok script = sym (ap (λ (x : StepNext). from_line true (stands_well line lines) n setting x (λ s. script_in (n + 1) s lines)) (skips line setting skipped))
+        ∙ sym (ap (λ (b : Bool). from_line b (stands_well line lines) n setting (next_of setting line) (λ s. script_in (n + 1) s lines)) skipped) ∙ is in
+        more-lines setting (length lines) script (onward (n + 1) setting script good read)
+    by false written onward =
+        good-from n setting line lines script onward good (next_of setting line) (good-line setting line good) (stands_well line lines)
+        (sym (ap (λ (b : Bool). from_line b (stands_well line lines) n setting (next_of setting line) (λ s. script_in (n + 1) s lines)) written) ∙ is)
+
+-- ---- sheets
+
+before-few : (lines : List (List ℕ)) → length (before_separator lines) ≤ length lines
+before-few [] = omega arith
+before-few (line ∷ lines) = by (bytes_eq line separator) (before-few lines)
+  where
+    by : (b : Bool) → length (before_separator lines) ≤ length lines → length (if b then [] else line ∷ before_separator lines) ≤ suc (length lines)
+    by true few = omega arith
+    by false few = omega (arith, few)
+
+behind-few : (lines more : List (List ℕ)) → behind_separator lines ≡ Some more → length more ≤ length lines
+behind-few [] more is = cc is
+behind-few (line ∷ lines) more is = by (bytes_eq line separator) is (behind-few lines more)
+  where
+    by : (b : Bool) → (if b then Some lines else behind_separator lines) ≡ Some more → (behind_separator lines ≡ Some more → length more ≤ length lines) → length more ≤ suc (length lines)
+    by true is few = let same : lines ≡ more = cc is in let many = ap length same in omega (arith, many)
+    by false is few = let most = few is in omega (arith, most)
+
+joined-ok : (n : ℕ) (r : Outcome) (lines : Option (List (List ℕ))) (sheet : Sheet) → joined n r lines ≡ Ok sheet → (r ≡ Ok sheet.script) × (lines ≡ Some sheet.lines)
+joined-ok n (Err fault) lines sheet is = cc is
+joined-ok n (Ok script) None sheet is = cc is
+joined-ok n (Ok script) (Some lines) sheet is =
+    let same : record { script = script; lines = lines } ≡ sheet = cc is in
+    (ap (λ (x : Sheet). Ok x.script) same, ap (λ (x : Sheet). Some x.lines) same)
+
+-- what a sheet keeps to that is read from a text
+pub record GoodSheet (sheet : Sheet) (m : ℕ) : Type 0 where
+  pub shape : IsShape sheet.script.shape
+  pub fit : FitAll sheet.script.shape sheet.script.steps
+  pub few : length sheet.script.steps ≤ m
+  pub short : length sheet.lines ≤ m
+
+pub good_sheet : (text : List ℕ) (sheet : Sheet) → sheet_of text ≡ Ok sheet → GoodSheet sheet (length text + 1)
+good_sheet text sheet is =
+    let lines : List (List ℕ) = lines_of text in
+    let both = joined-ok (length lines + 1) (script_in 1 None (before_separator lines)) (behind_separator lines) sheet is in
+    let g = good-script (before_separator lines) 1 None sheet.script tt both.0 in
+    let few = g.few in
+    let most = before-few lines in
+    let short = behind-few lines sheet.lines both.1 in
+    let all = lines-few text in
+    record { shape = g.shape; fit = g.fit; few = omega (arith, few, most, all); short = omega (arith, short, all) }
