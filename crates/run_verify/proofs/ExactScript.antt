@@ -17,7 +17,7 @@ use Rattle.group_calls.specs.declared.event.Event.{Event}
 use Rattle.group_calls.specs.declared.event.Event.TheVariants as happens
 use Rattle.scenario_text.proofs.Lines.{line_of-within}
 use Rattle.scenario_text.proofs.Read.{bound, mapped, passed}
-use Rattle.scenario_text.specs.Acts.{act_of, act_by, stored, store_of, verb_of}
+use Rattle.scenario_text.specs.Acts.{act_of, act_by, exptime_of, stored, store_of, verb_of}
 use Rattle.scenario_text.specs.Meaning.{delivery, event_line, is_skipped, keyword_of, line_by, line_of, look, meaning_of, or_bad_line}
 use Rattle.scenario_text.specs.Words.{keep_of_word, key_of_word, number_below, partition_of_word, process_of_word, run_of, value_of_word, words_of}
 use Rattle.scenario_text.specs.declared.keyword.Keyword.{Keyword}
@@ -74,7 +74,7 @@ store-flags flags [] s is = cc is
 store-flags flags (value ∷ exptime) s is =
     let f = bound (number_below (2 ^ 32) flags) _ s is in
     let v = bound (value_of_word value) _ s f.2 in
-    let e = bound _ _ s v.2 in
+    let e = bound (exptime_of exptime) _ s v.2 in
     let same : record { flags = f.0; expiry = e.0; value = v.0 } ≡ s = cc e.2 in
     subst (λ (n : ℕ). n < 2 ^ 32) (ap (λ (x : Store). x.flags) same) (under (2 ^ 32) f.0 flags f.1)
 
@@ -104,7 +104,7 @@ act_by-flags verb.Delete key (w ∷ ws) a is = cc is
 act_by-flags verb.Touch key [] a is = cc is
 act_by-flags verb.Touch key (w ∷ []) a is =
     let k = bound (key_of_word key) _ a is in
-    let e = bound _ _ a k.2 in
+    let e = bound (exptime_of (w ∷ [])) _ a k.2 in
     as-act (act.Touch k.0 e.0) a (cc e.2) tt
 act_by-flags verb.Touch key (w ∷ x ∷ ws) a is = cc is
 act_by-flags verb.Append key [] a is = cc is
