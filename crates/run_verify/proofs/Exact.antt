@@ -1,15 +1,16 @@
 -- A transcript that is checked has no line that fails.
-use Rattle.std.proofs.Common.{◌≡◌, ◌<◌, ◌+◌, ◌^◌, ℕ, false, List, [], ◌∷◌, length, Option, refl, sym, subst, arith}
+use Rattle.std.proofs.Common.{◌≡◌, ◌+◌, ◌∙◌, ℕ, false, List, [], length, Ok, Option, refl, sym, subst, arith}
 use Rattle.group_types.proofs.Lists.{at-replicate}
-use Rattle.group_types.specs.Dimensions.{Dimensions}
 use Rattle.group_types.specs.declared.run.Run.{Run}
 use Rattle.group_calls.specs.Turns.{Turn}
-use Rattle.run_verify.specs.Exact.{CheckedTranscriptsPass}
+use Rattle.run_verify.specs.Checked.{IsChecked}
+use Rattle.run_verify.specs.Exact.{CheckedTranscriptsPass, VerdictsAreExact}
 use Rattle.run_verify.specs.Passing.{Account, PassAll, first_account, first_state}
-use Rattle.run_verify.specs.Sheet.{Sheet}
+use Rattle.run_verify.specs.Sheet.{Sheet, sheet_of}
 use Rattle.run_verify.specs.Told.{runs_told, turns_told}
 use Rattle.run_verify.specs.declared.change.Change.{Change}
-use Rattle.run_verify.proofs.ExactEntries.{Checks, Now}
+use Rattle.run_verify.specs.declared.verdict.Verdict.TheVariants.{Verified, Refused}
+use Rattle.run_verify.proofs.ExactEntries.{Now}
 use Rattle.run_verify.proofs.ExactFits.{empty-fits}
 use Rattle.run_verify.proofs.ExactKnown.{checks_of, fit_steps}
 use Rattle.run_verify.proofs.ExactNext.{never_fails}
@@ -46,3 +47,16 @@ checked_transcripts_pass text sheet short is checked =
       passes = passes;
       none = λ n. never_fails sheet n sheet.script.shape.k all.0 sheet.script.steps good.shape (omega (arith, short, few)) passes;
     }
+
+-- a text gives one sheet
+one-sheet : (text : List ℕ) (one other : Sheet) → sheet_of text ≡ Ok one → sheet_of text ≡ Ok other → other ≡ one
+one-sheet text one other is also = let same : Ok other ≡ Ok one = sym also ∙ is in cc same
+
+pub verdicts_are_exact : VerdictsAreExact
+verdicts_are_exact text (Verified entries shown) short (sheet, is, verified) = (sheet, is, verified.checked)
+verdicts_are_exact text (Refused n) short (sheet, is, fails) = λ found. refused found.0 found.1 found.2
+  where
+    refused : (other : Sheet) → sheet_of text ≡ Ok other → ¬ (IsChecked other.script other.lines)
+    refused other also checked =
+        let same = one-sheet text sheet other is also in
+        (checked_transcripts_pass text sheet short is (subst (λ (x : Sheet). IsChecked x.script x.lines) same checked)).none n fails

@@ -1,7 +1,6 @@
 -- An entry that stands among the lines of the log right ahead is found there.
 use Rattle.std.proofs.Common.{◌≡◌, ◌≢◌, inl, inr, ◌<◌, ◌^◌, ℕ, zero, suc, List, [], ◌∷◌, ◌++◌, ◌∙◌, map, slice_get, codes, Some, append_assoc, refl, sym, ap, subst, arith}
 use Rattle.group_types.specs.Dimensions.{callers}
-use Rattle.memc_table.specs.declared.reply.Reply.{Reply}
 use Rattle.group_calls.specs.Turns.{CallName, name_of}
 use Rattle.group_calls.specs.declared.entry.Entry.{Entry}
 use Rattle.scenario_text.specs.Texts.{entry_text, name_text, reply_text}

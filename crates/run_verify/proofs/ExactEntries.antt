@@ -1,12 +1,11 @@
 -- An entry of a checked transcript is told by its line, and leads to an account that says of the log what the one before said.
-use Rattle.std.proofs.Common.{◌≡◌, ◌≢◌, ◌⊎◌, inl, inr, ◌<◌, ◌≤◌, ◌+◌, ◌^◌, ◌==◌, ℕ, zero, suc, Bool, true, false, List, [], ◌∷◌, ◌++◌, ◌∙◌, map, length, slice_get, Option, Some, None, append_assoc, if◌then◌else◌, refl, sym, ap, subst, arith}
+use Rattle.std.proofs.Common.{◌≡◌, ◌≢◌, ◌⊎◌, inl, inr, ◌<◌, ◌+◌, ◌^◌, ◌==◌, ℕ, zero, suc, Bool, true, false, List, [], ◌∷◌, ◌++◌, ◌∙◌, map, length, slice_get, Option, Some, None, if◌then◌else◌, refl, sym, ap, subst, arith}
 use Rattle.std.proofs.lemmas.Bool.{cases_eq}
 use Rattle.std.proofs.lemmas.Bool.Decides.{nat_tests}
-use Rattle.std.proofs.lemmas.List.{append-nil, length-append, length-map}
+use Rattle.std.proofs.lemmas.List.{length-append, length-map}
 use Rattle.std.specs.Prelude.{Contains}
 use Rattle.group_types.proofs.Lists.{at-put, at-put-other}
 use Rattle.group_types.specs.Dimensions.{Dimensions, callers}
-use Rattle.group_types.specs.Hash.{home_of}
 use Rattle.group_types.specs.Lists.{at}
 use Rattle.group_types.specs.Shape.{IsShape}
 use Rattle.group_types.specs.declared.run.Run.{Run}
@@ -18,7 +17,7 @@ use Rattle.memc_table.specs.declared.act.Act.TheVariants.{Get, Set, Add, Replace
 use Rattle.memc_table.specs.declared.holding.Holding.{Holding}
 use Rattle.memc_table.specs.declared.reply.Reply.{Reply}
 use Rattle.group_calls.specs.Log.{IsLegal, IsLegalFrom, table_of}
-use Rattle.group_calls.specs.Turns.{CallName, Turn, accepts, asks_of, entry_of, log_of, name_of}
+use Rattle.group_calls.specs.Turns.{CallName, Turn, accepts, entry_of, log_of, name_of}
 use Rattle.group_calls.specs.Within.{IsAsk, IsTaken}
 use Rattle.group_calls.specs.declared.entry.Entry.{Entry}
 use Rattle.group_calls.specs.declared.event.Event.{Event}
@@ -28,20 +27,18 @@ use Rattle.scenario_text.specs.Texts.{entry_text}
 use Rattle.transcript_text.specs.Forms.{FitsReply}
 use Rattle.run_verify.specs.Checked.{ArePlaced, RepliesWithin}
 use Rattle.run_verify.specs.Passing.{Account, FitsRun, IsRunIn, IsToldFor, IsToldRun, TellsEntry, after_entry, call_of, change_of, changes_at, effect_of, is_taken, part_of, value_in, with_change}
-use Rattle.run_verify.specs.Plain.{FitsEvent}
 use Rattle.run_verify.specs.Sheet.{Sheet}
 use Rattle.run_verify.specs.Updates.{StandsRight, brings_value, updates_by}
 use Rattle.run_verify.specs.declared.call.Call.{Call}
-use Rattle.run_verify.specs.declared.change.Change.{Change}
 use Rattle.run_verify.specs.declared.change.Effect.TheVariants.{Writes}
 use Rattle.run_verify.proofs.ExactFits.{FitsAct, FitsTable, reply-fits, table-fits}
 use Rattle.run_verify.proofs.ExactUpdates.{Update, next-update, no-update, runs_behind, update_by}
 use Rattle.run_verify.proofs.ImpliedAccount.{Stands, call_with}
-use Rattle.run_verify.proofs.ImpliedChanges.{MatchAll, Matches, change-matches, change_by, length-same, push-matches}
-use Rattle.run_verify.proofs.ImpliedHeads.{Head, IsAsked, get-last, get-within}
+use Rattle.run_verify.proofs.ImpliedChanges.{MatchAll, Matches, change-matches, length-same, push-matches}
+use Rattle.run_verify.proofs.ImpliedHeads.{Head, IsAsked, get-within}
 use Rattle.run_verify.proofs.ImpliedItems.{IsLeft, item-left}
 use Rattle.run_verify.proofs.ImpliedPlaces.{run_told}
-use Rattle.run_verify.proofs.ImpliedStands.{some_same, stands-entry}
+use Rattle.run_verify.proofs.ImpliedStands.{stands-entry}
 use Rattle.run_verify.proofs.ImpliedTurn.{get-append}
 use Rattle.run_verify.proofs.Logging.{home-in}
 

@@ -1,24 +1,22 @@
 -- What is known of a sheet of a text whose transcript is checked.
-use Rattle.std.proofs.Common.{inl, inr, ◌≡◌, ◌⊎◌, ◌<◌, ◌≤◌, ◌+◌, ◌^◌, ◌==◌, ℕ, zero, suc, List, [], ◌∷◌, ◌++◌, ◌∙◌, map, take, length, slice_get, Option, Some, None, if◌then◌else◌, refl, sym, ap, subst, arith}
+use Rattle.std.proofs.Common.{inl, inr, ◌≡◌, ◌⊎◌, ◌<◌, ◌≤◌, ◌+◌, ◌^◌, ℕ, zero, suc, List, [], ◌∷◌, ◌++◌, ◌∙◌, map, take, length, slice_get, Option, Some, refl, sym, ap, subst, arith}
 use Rattle.std.proofs.lemmas.Bool.{cases_lt}
 use Rattle.std.proofs.lemmas.Bool.Decides.{nat_tests}
 use Rattle.std.proofs.lemmas.List.{append-nil, length-append, length-map}
 use Rattle.std.proofs.lemmas.List.Elements.{All-append, All-cons, All-head, All-nil, All-tail, All-weaker}
 use Rattle.std.specs.Prelude.{All}
 use Rattle.group_types.proofs.Lists.{at_behind}
-use Rattle.group_types.specs.Dimensions.{Dimensions, callers}
+use Rattle.group_types.specs.Dimensions.{Dimensions}
 use Rattle.group_types.specs.Lists.{at}
 use Rattle.group_types.specs.declared.run.Run.{Run}
-use Rattle.memc_table.specs.Asked.{Asked}
 use Rattle.memc_table.specs.Contents.{empty_table}
-use Rattle.group_calls.specs.Turns.{CallName, Turn, asks_in, asks_of, log_of}
-use Rattle.group_calls.specs.Within.{IsAsk}
+use Rattle.group_calls.specs.Turns.{Turn, asks_in, asks_of, log_of}
 use Rattle.group_calls.specs.declared.entry.Entry.{Entry}
 use Rattle.group_calls.specs.declared.event.Event.{Event}
 use Rattle.group_calls.specs.declared.event.Event.TheVariants as happens
 use Rattle.scenario_text.specs.Texts.{entry_text}
 use Rattle.run_verify.specs.Checked.{ArePlaced, IsChecked}
-use Rattle.run_verify.specs.Passing.{FitsRun, IsRunIn}
+use Rattle.run_verify.specs.Passing.{IsRunIn}
 use Rattle.run_verify.specs.Plain.{EndsPlacing, FitSteps, FitsEvent, FitsStep}
 use Rattle.run_verify.specs.Sheet.{Sheet}
 use Rattle.run_verify.specs.Told.{Made, Drained, Shown, Lost, Down, Placed}

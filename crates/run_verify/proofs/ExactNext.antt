@@ -3,16 +3,15 @@ use Rattle.std.proofs.Common.{◌≡◌, inl, inr, ◌<◌, ◌≤◌, ◌+◌, 
 use Rattle.std.proofs.lemmas.Bool.{cases_eq}
 use Rattle.std.proofs.lemmas.List.{length-append}
 use Rattle.group_types.proofs.Lists.{at-put, at-put-other, at-replicate}
-use Rattle.group_types.specs.Lists.{at, put}
+use Rattle.group_types.specs.Lists.{at}
 use Rattle.group_types.specs.Shape.{IsShape}
-use Rattle.group_types.specs.declared.process.ProcessId.{ProcessId}
 use Rattle.group_types.specs.declared.run.Run.{Run}
 use Rattle.memc_table.specs.Act.{key_of}
 use Rattle.memc_table.specs.Asked.{Asked}
 use Rattle.memc_table.specs.Contents.{reply_of, table_after}
 use Rattle.memc_table.specs.declared.act.Act.{Act}
 use Rattle.memc_table.specs.declared.act.Act.TheVariants.{Get, Set, Add, Replace, Cas, Delete, Touch, Append, Prepend, Incr, Decr}
-use Rattle.group_calls.specs.Turns.{CallName, accepts, name_of}
+use Rattle.group_calls.specs.Turns.{CallName, accepts}
 use Rattle.group_calls.specs.declared.entry.Entry.{Entry}
 use Rattle.group_calls.specs.declared.event.Answer.{Answer}
 use Rattle.group_calls.specs.declared.event.Answer.TheVariants as answered
@@ -21,7 +20,7 @@ use Rattle.group_calls.specs.declared.event.Event.{Event}
 use Rattle.group_calls.specs.declared.event.Event.TheVariants as happens
 use Rattle.scenario_text.specs.Texts.{answer_text}
 use Rattle.transcript_text.proofs.Entries.{FitsEntry, entry-line, entry-names}
-use Rattle.run_verify.specs.Passing.{Account, Due, FailsAt, IsToldFor, IsToldRun, PassAll, Passes, PassesBy, PassesEntry, PassesPlace, PassesStep, State, TellsEntry, after_answer, after_entry, after_event, begins_entry, call_of, change_of, changes_at, dues_from, effect_of, first_account, is_taken, part_of, value_in, with_account, with_change}
+use Rattle.run_verify.specs.Passing.{Account, Due, FailsAt, IsToldFor, IsToldRun, PassAll, Passes, PassesBy, PassesEntry, PassesPlace, PassesStep, State, TellsEntry, after_entry, after_event, begins_entry, call_of, change_of, changes_at, dues_from, effect_of, first_account, is_taken, part_of, value_in, with_account, with_change}
 use Rattle.run_verify.specs.Sheet.{Sheet}
 use Rattle.run_verify.specs.declared.call.Call.{Call}
 use Rattle.run_verify.specs.declared.change.Change.{Change}

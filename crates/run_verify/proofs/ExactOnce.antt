@@ -1,5 +1,5 @@
 -- A line leads to one state alone.
-use Rattle.std.proofs.Common.{◌≡◌, ◌≢◌, ◌⊎◌, inl, inr, ◌<◌, ◌≤◌, ◌+◌, ◌^◌, ◌==◌, ◌&&◌, ℕ, zero, suc, Bool, true, false, List, [], ◌∷◌, ◌++◌, ◌∙◌, length, drop, Option, Some, None, append_assoc, codes, refl, sym, ap, subst, arith}
+use Rattle.std.proofs.Common.{◌≡◌, inl, inr, ◌<◌, ◌^◌, ℕ, List, [], ◌∷◌, ◌++◌, ◌∙◌, Option, Some, append_assoc, codes, sym, ap, arith}
 use Rattle.std.proofs.lemmas.Fmt.{decimal_injective}
 use Rattle.std.proofs.lemmas.List.{append_cancel_left}
 use Rattle.std.specs.Fmt.{decimal}
@@ -8,7 +8,7 @@ use Rattle.group_types.specs.declared.run.Run.{Run}
 use Rattle.scenario_text.specs.Texts.{place_text}
 use Rattle.transcript_text.proofs.Cuts.{cut_same}
 use Rattle.transcript_text.proofs.Numbers.{Lacks-decimal}
-use Rattle.run_verify.specs.Passing.{FitsRun, IsRunIn}
+use Rattle.run_verify.specs.Passing.{IsRunIn}
 
 numbers : ℕ → ℕ → Run → List ℕ
 numbers d n run = decimal d ++ 32 ∷ (decimal n ++ 32 ∷ (decimal run.at ++ 32 ∷ decimal run.len))

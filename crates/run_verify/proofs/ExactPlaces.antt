@@ -1,8 +1,7 @@
 -- The place lines of a checked transcript pass.
-use Rattle.std.proofs.Common.{inl, inr, ◌≡◌, ◌<◌, ◌≤◌, ◌+◌, ℕ, zero, suc, Bool, true, false, List, [], ◌∷◌, ◌++◌, ◌∙◌, map, drop, length, Option, Some, None, refl, sym, ap, subst, arith}
+use Rattle.std.proofs.Common.{◌≡◌, ◌<◌, ◌≤◌, ◌+◌, ℕ, zero, suc, Bool, true, false, List, [], ◌∷◌, ◌++◌, ◌∙◌, map, drop, length, Option, Some, None, refl, sym, ap, subst, arith}
 use Rattle.std.proofs.Math.Seq.{drop-nil}
-use Rattle.std.proofs.lemmas.Bool.{cases_eq}
-use Rattle.std.proofs.lemmas.List.{append-nil, length-append}
+use Rattle.std.proofs.lemmas.List.{length-append}
 use Rattle.std.specs.List.{range_with_len}
 use Rattle.group_types.specs.Dimensions.{Dimensions}
 use Rattle.group_types.specs.Lists.{at}
@@ -11,17 +10,17 @@ use Rattle.memc_table.specs.declared.holding.Holding.{Holding}
 use Rattle.group_run.specs.Meaning.{Logged}
 use Rattle.scenario_text.specs.Texts.{place_text}
 use Rattle.run_verify.specs.Changes.{run_behind}
-use Rattle.run_verify.specs.Passing.{Account, Due, PassAll, PassesBy, PassesPlace, TellsRun, begins_entry, changes_at, due_for, dues_from, dues_of, on_to, with_placed}
+use Rattle.run_verify.specs.Passing.{Account, Due, PassAll, PassesBy, PassesPlace, begins_entry, changes_at, due_for, dues_from, dues_of, on_to, with_placed}
 use Rattle.run_verify.specs.Sheet.{Sheet}
-use Rattle.run_verify.specs.Told.{count_placed, place_lines, placed_line, run_lines}
-use Rattle.run_verify.specs.Updates.{IsClear, StandRight, StandsRight, brings_value, item_runs}
+use Rattle.run_verify.specs.Told.{place_lines, placed_line, run_lines}
+use Rattle.run_verify.specs.Updates.{IsClear, StandRight, StandsRight, brings_value}
 use Rattle.run_verify.specs.declared.change.Change.{Change}
 use Rattle.run_verify.specs.declared.change.Effect.{Effect}
 use Rattle.run_verify.specs.declared.change.Effect.TheVariants.{Writes, Removes, Keeps}
 use Rattle.run_verify.specs.declared.step.Step.TheVariants.{Placing}
 use Rattle.run_verify.proofs.ImpliedChanges.{IsKind, MatchAll, Matches, item-run, push-matches}
 use Rattle.run_verify.proofs.ImpliedCourse.{AllTold, state}
-use Rattle.run_verify.proofs.ImpliedPlaces.{AreClear, IsClearBy, all_lined, run_told, runs_for, runs_of}
+use Rattle.run_verify.proofs.ImpliedPlaces.{AreClear, IsClearBy, run_told, runs_for, runs_of}
 use Rattle.run_verify.proofs.ImpliedStands.{some_same}
 
 -- ---- values stand clear

@@ -1,5 +1,5 @@
 -- All lines of a checked transcript pass, step by step.
-use Rattle.std.proofs.Common.{inl, inr, ◌≡◌, ◌≢◌, ◌<◌, ◌≤◌, ◌+◌, ◌^◌, ℕ, zero, suc, Bool, true, false, List, [], ◌∷◌, ◌++◌, ◌∙◌, map, take, drop, length, codes, Option, Some, None, append_assoc, refl, sym, ap, subst, arith}
+use Rattle.std.proofs.Common.{inl, inr, ◌≡◌, ◌<◌, ◌≤◌, ◌+◌, ◌^◌, ℕ, suc, Bool, true, false, List, [], ◌∷◌, ◌++◌, ◌∙◌, map, take, drop, length, Option, append_assoc, refl, sym, ap, subst, arith}
 use Rattle.std.proofs.lemmas.List.{append-nil, length-append}
 use Rattle.std.proofs.lemmas.List.Elements.{All-cons, All-head, All-nil, All-tail}
 use Rattle.std.specs.List.{range_with_len}
@@ -29,16 +29,15 @@ use Rattle.run_verify.specs.Passing.{Account, Answers, PassAll, PassesBy, State,
 use Rattle.run_verify.specs.Plain.{EndsPlacing, FitSteps}
 use Rattle.run_verify.specs.Sheet.{Sheet}
 use Rattle.run_verify.specs.Told.{Made, Drained, Shown, Lost, Down, Placed}
-use Rattle.run_verify.specs.Told.{IsDelivery, TellAll, Told, count_placed, drained_line, lines_told, place_lines, placed_line, runs_told, turns_in, turns_told}
-use Rattle.run_verify.specs.Updates.{IsStampOf, StandRight, shown_at, space_after, updates_by}
-use Rattle.run_verify.specs.declared.change.Change.{Change}
+use Rattle.run_verify.specs.Told.{IsDelivery, TellAll, Told, count_placed, drained_line, lines_told, place_lines, placed_line, runs_told, turns_told}
+use Rattle.run_verify.specs.Updates.{IsStampOf, StandRight, space_after, updates_by}
 use Rattle.run_verify.specs.declared.step.Step.{Step}
 use Rattle.run_verify.specs.declared.step.Step.TheVariants.{Make, Deliveries, Look, Placing}
 use Rattle.run_verify.proofs.ExactEntries.{Checks, Now}
 use Rattle.run_verify.proofs.ExactPlaces.{all_clear, made_of, places_pass, told_all}
 use Rattle.run_verify.proofs.ExactTurns.{LogsGo, answer_right, fits-go, go-append, log-append, logs-pass, logs_go, now_answered}
 use Rattle.run_verify.proofs.ImpliedChanges.{length-same, runs-same, spaces-same}
-use Rattle.run_verify.proofs.ImpliedCourse.{AllTold, state}
+use Rattle.run_verify.proofs.ImpliedCourse.{state}
 use Rattle.run_verify.proofs.ImpliedHeads.{heads_of}
 use Rattle.run_verify.proofs.ImpliedPlaces.{AreClear, all_lined, runs_for, runs_of}
 use Rattle.run_verify.proofs.ImpliedShown.{shown-same, stamp-same}
@@ -156,9 +155,11 @@ module _ (sheet : Sheet) (turns : List Turn) (runs : List (List (Option Run))) (
       let none = now.placed in
       let passes = places_pass sheet (dues_from a 0 s.k) a logging (place_lines 0 (runs_of a 0 s.k)) (ap (λ (n : ℕ). drop n (dues_from a 0 s.k)) none ∙ drop-none (dues_from a 0 s.k)) told in
       let lined = all_lined s a 0 s.k (place_lines 0 (runs_of a 0 s.k)) told in
-      let count : a.placed + length (dues_from a 0 s.k) ≡ count_placed (runs_of a 0 s.k) = (let n = lined.count in omega (arith, none, n)) in
-      (passes.0, subst (λ (r : List (List (Option Run))). PassAll sheet (state a (Placing ∷ []) logging) (place_lines 0 r ++ placed_line (count_placed r) ∷ []) passes.0) (sym mine)
-      (subst (λ (n : ℕ). PassAll sheet (state a (Placing ∷ []) logging) (place_lines 0 (runs_of a 0 s.k) ++ placed_line n ∷ []) passes.0) count passes.1))
+      let count : a.placed + length (dues_from a 0 s.k) ≡ count_placed (runs_of a 0 s.k) = (let n = lined.count in omega (arith, none, n)) in (
+        passes.0,
+        subst (λ (r : List (List (Option Run))). PassAll sheet (state a (Placing ∷ []) logging) (place_lines 0 r ++ placed_line (count_placed r) ∷ []) passes.0) (sym mine)
+            (subst (λ (n : ℕ). PassAll sheet (state a (Placing ∷ []) logging) (place_lines 0 (runs_of a 0 s.k) ++ placed_line n ∷ []) passes.0) count passes.1),
+      )
     where
       drop-none : {A : Type 0} (xs : List A) → drop 0 xs ≡ xs
       drop-none [] = refl
@@ -177,18 +178,25 @@ module _ (sheet : Sheet) (turns : List Turn) (runs : List (List (Option Run))) (
       let right = answer_right sheet turns runs c before t (turns_told more) is a now (fits-go sheet t.logged (after_answer a t.event t.answer) go.0 go.1) (lines_told more) event t.answer event_is refl may in
       let next : State = state (after_answer a event t.answer) steps true in
       let ahead : List (List ℕ) = map entry_text t.logged ++ lines_told more in
-      let answers : Answers a event (answer_text t.answer) ahead t.answer = record { can = may; fits = fits; text = refl; right = right } in
-      (rest.0, (next, subst (λ (b : Bool). PassesBy b sheet (state a (Make event ∷ steps) logging) (answer_text t.answer) ahead next) (sym (answer-begins t.answer)) (t.answer, answers, refl),
-      logs-pass sheet t.logged next go.0 rest.0 (lines_told more) (inl refl) mine rest.1))
+      let answers : Answers a event (answer_text t.answer) ahead t.answer = record { can = may; fits = fits; text = refl; right = right } in (
+        rest.0,
+        (
+          next,
+          subst (λ (b : Bool). PassesBy b sheet (state a (Make event ∷ steps) logging) (answer_text t.answer) ahead next) (sym (answer-begins t.answer)) (t.answer, answers, refl),
+          logs-pass sheet t.logged next go.0 rest.0 (lines_told more) (inl refl) mine rest.1,
+        ),
+      )
 
   drained-passes : (ts : List Turn) (n : ℕ) (steps : List Step) (more : List Told) (before : List Turn) (a : Account) (logging : Bool) → turns ≡ before ++ (ts ++ turns_told more) → All (λ turn. IsDelivery turn.event) ts → n < 2 ^ 64
       → NowFor a before → Onward steps more (before ++ ts) → (final : Account) × PassAll sheet (state a (Deliveries ∷ steps) logging) (lines_told (Drained ts n ∷ more)) final
   drained-passes ts n steps more before a logging is all few now onward =
       let go = drained-go ts before (turns_told more) a is all now in
       let rest = onward go.0 false go.2 in
-      let behind : PassAll sheet (state go.0 (Deliveries ∷ steps) logging) (drained_line n ∷ lines_told more) rest.0 = (on_to go.0 steps, (n, few, refl, refl), rest.1) in
-      (rest.0, subst (λ (ls : List (List ℕ)). PassAll sheet (state a (Deliveries ∷ steps) logging) ls rest.0) (sym (append_assoc (map entry_text (log_of ts)) (drained_line n ∷ []) (lines_told more)))
-      (logs-pass sheet (log_of ts) (state a (Deliveries ∷ steps) logging) go.0 rest.0 (drained_line n ∷ lines_told more) (inr (steps, refl)) go.1 behind))
+      let behind : PassAll sheet (state go.0 (Deliveries ∷ steps) logging) (drained_line n ∷ lines_told more) rest.0 = (on_to go.0 steps, (n, few, refl, refl), rest.1) in (
+        rest.0,
+        subst (λ (ls : List (List ℕ)). PassAll sheet (state a (Deliveries ∷ steps) logging) ls rest.0) (sym (append_assoc (map entry_text (log_of ts)) (drained_line n ∷ []) (lines_told more)))
+            (logs-pass sheet (log_of ts) (state a (Deliveries ∷ steps) logging) go.0 rest.0 (drained_line n ∷ lines_told more) (inr (steps, refl)) go.1 behind),
+      )
 
   shown-behind : (before ts : List Turn) (steps : List Step) (more : List Told) → AreWellShown s runs (log_of before ++ log_of ts) steps more → AreWellShown s runs (log_of (before ++ ts)) steps more
   shown-behind before ts steps more shown = subst (λ (es : List Entry). AreWellShown s runs es steps more) (sym (log-append before ts)) shown

@@ -1,9 +1,8 @@
 -- A turn of a checked transcript passes: its answer is right, and its entries follow.
-use Rattle.std.proofs.Common.{◌≡◌, ◌≢◌, ◌⊎◌, inl, inr, ◌<◌, ◌≤◌, ◌+◌, ◌^◌, ℕ, zero, suc, Bool, true, false, List, [], ◌∷◌, ◌++◌, ◌∙◌, map, take, length, slice_get, Option, Some, None, option_and_then, append_assoc, refl, sym, ap, subst, arith}
-use Rattle.std.proofs.lemmas.List.{append-nil, length-append, take_all}
+use Rattle.std.proofs.Common.{◌≡◌, ◌⊎◌, inl, inr, ◌<◌, ◌≤◌, ◌+◌, ◌^◌, ℕ, zero, suc, List, [], ◌∷◌, ◌++◌, ◌∙◌, map, take, length, slice_get, Option, Some, None, option_and_then, append_assoc, refl, sym, ap, subst, arith}
+use Rattle.std.proofs.lemmas.List.{append-nil, length-append}
 use Rattle.std.specs.Prelude.{Contains}
 use Rattle.group_types.specs.Dimensions.{callers}
-use Rattle.group_types.specs.Lists.{at}
 use Rattle.group_types.specs.declared.process.ProcessId.{ProcessId}
 use Rattle.group_types.specs.declared.run.Run.{Run}
 use Rattle.memc_table.specs.Asked.{Asked}
@@ -16,7 +15,6 @@ use Rattle.group_calls.specs.declared.event.Answer.TheVariants as answered
 use Rattle.group_calls.specs.declared.event.Event.{Event}
 use Rattle.group_calls.specs.declared.event.Event.TheVariants as happens
 use Rattle.scenario_text.specs.Texts.{entry_text, reply_text}
-use Rattle.transcript_text.proofs.Entries.{FitsEntry}
 use Rattle.transcript_text.specs.Forms.{MayAnswer, kind_of}
 use Rattle.run_verify.specs.Passing.{Account, IsReplyTo, IsRight, IsThere, IsToldRun, LogsAhead, MayLog, PassAll, State, TellsEntry, after_answer, after_entry, call_of, front_of, logged_reply, next_name, with_account}
 use Rattle.run_verify.specs.Sheet.{Sheet}
@@ -25,7 +23,7 @@ use Rattle.run_verify.proofs.ExactAhead.{AreNamedApart, logs-ahead}
 use Rattle.run_verify.proofs.ExactEntries.{Checks, FitsAsk, Now, entry_passes}
 use Rattle.run_verify.proofs.ImpliedAccount.{Stands}
 use Rattle.run_verify.proofs.ImpliedAhead.{AllFit}
-use Rattle.run_verify.proofs.ImpliedHeads.{Head, IsAsked, ask-head, asks-heads, get-within, heads_of, heads-push}
+use Rattle.run_verify.proofs.ImpliedHeads.{Head, ask-head, asks-heads, get-within, heads_of, heads-push}
 use Rattle.run_verify.proofs.ImpliedStands.{stands-event}
 use Rattle.run_verify.proofs.ImpliedTurn.{get-append, get-contains, log-push}
 

@@ -26,6 +26,7 @@ mod ExactAhead
 mod ExactEntries
 mod ExactFits
 mod ExactKnown
+mod ExactLimits
 mod ExactNext
 mod ExactOnce
 mod ExactPlaces
