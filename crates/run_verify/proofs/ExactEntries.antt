@@ -39,7 +39,7 @@ use Rattle.run_verify.proofs.ImpliedHeads.{Head, IsAsked, get-within}
 use Rattle.run_verify.proofs.ImpliedItems.{IsLeft, item-left}
 use Rattle.run_verify.proofs.ImpliedPlaces.{run_told}
 use Rattle.run_verify.proofs.ImpliedStands.{stands-entry}
-use Rattle.run_verify.proofs.ImpliedTurn.{get-append}
+use Rattle.run_verify.proofs.ImpliedTurn.{contains-get, get-append}
 use Rattle.run_verify.proofs.Logging.{home-in}
 
 -- an event whose op, caller and call are within their limits
@@ -103,6 +103,11 @@ told-for sheet d n (Append key v) value run item left told = told refl
 told-for sheet d n (Prepend key v) value run item left told = told refl
 told-for sheet d n (Incr key m) value run item left told = told refl
 told-for sheet d n (Decr key m) value run item left told = told refl
+
+pub get-front : {A : Type 0} (xs ys : List A) (i : ℕ) (x : A) → slice_get xs i ≡ Some x → slice_get (xs ++ ys) i ≡ Some x
+get-front [] ys i x is = cc is
+get-front (y ∷ xs) ys zero x is = is
+get-front (y ∷ xs) ys (suc i) x is = get-front xs ys i x is
 
 legal-at : (t : Contents) (before more : List Entry) (e : Entry) → IsLegalFrom t (before ++ e ∷ more) → e.reply ≡ reply_of (table_of t before) e.op
 legal-at t [] more e legal = legal.0
@@ -201,15 +206,7 @@ module _ (sheet : Sheet) (turns : List Turn) (runs : List (List (Option Run))) (
     entry-there = rw log_is (let zero-behind : length before + 0 ≡ length before = omega arith in subst (λ (n : ℕ). slice_get (before ++ e ∷ more) n ≡ Some e) zero-behind (get-append before (e ∷ more) 0 e refl))
 
     contains : Contains (log_of turns) e
-    contains = contains-at (log_of turns) (length before) e entry-there
-      where
-        index-at : (xs : List Entry) (i : ℕ) (x : Entry) → slice_get xs i ≡ Some x → Contains xs x
-        index-at [] i x is = cc is
-        index-at (y ∷ xs) zero x is = (0, omega arith, cc is)
-        index-at (y ∷ xs) (suc i) x is = let rest = index-at xs i x is in (suc rest.0, (let b = rest.1 in omega (arith, b)), rest.2)
-
-        contains-at : (xs : List Entry) (i : ℕ) (x : Entry) → slice_get xs i ≡ Some x → Contains xs x
-        contains-at xs i x is = index-at xs i x is
+    contains = contains-get (log_of turns) (length before) e entry-there
 
     taken : is_taken h.answer ≡ true
     taken = by (is_taken h.answer) refl
@@ -236,11 +233,6 @@ module _ (sheet : Sheet) (turns : List Turn) (runs : List (List (Option Run))) (
             let inside = get-within before behind.0 (entry_of (name_of e) call.op reply) behind.1 in
             let first : slice_get (log_of turns) behind.0 ≡ Some (entry_of (name_of e) call.op reply) = rw log_is (get-front before (e ∷ more) behind.0 _ behind.1) in
             absurd (c.within.once behind.0 (length before) (entry_of (name_of e) call.op reply) e inside first entry-there refl)
-          where
-            get-front : (xs ys : List Entry) (i : ℕ) (x : Entry) → slice_get xs i ≡ Some x → slice_get (xs ++ ys) i ≡ Some x
-            get-front [] ys i x is = cc is
-            get-front (y ∷ xs) ys zero x is = is
-            get-front (y ∷ xs) ys (suc i) x is = get-front xs ys i x is
 
     fits-op : (e.caller < callers) × FitsAct e.op.act → FitsTable (length before + 1) (table_after a.table e.op)
     fits-op fits = table-fits (length before) a.table e.op now.fits short fits.1

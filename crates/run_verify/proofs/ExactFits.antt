@@ -1,8 +1,8 @@
 -- The replies of a table whose ops are within their limits.
-use Rattle.std.proofs.Common.{◌≡◌, ◌<◌, ◌≤◌, ◌+◌, ◌-◌, ◌%◌, ◌^◌, ◌==◌, ◌&&◌, ℕ, zero, suc, Bool, true, false, nat_le, nat_lt, List, [], ◌∷◌, ◌++◌, length, slice_index, Option, Some, None, if◌then◌else◌, refl, arith}
+use Rattle.std.proofs.Common.{◌≡◌, ◌<◌, ◌≤◌, ◌+◌, ◌-◌, ◌%◌, ◌^◌, ◌==◌, ◌&&◌, ℕ, Bool, true, false, nat_le, nat_lt, List, [], ◌∷◌, ◌++◌, length, Option, Some, None, if◌then◌else◌, refl, arith}
 use Rattle.std.proofs.lemmas.Bool.Decides.{nat_tests}
 use Rattle.std.proofs.lemmas.Fmt.{digits_decimal}
-use Rattle.std.proofs.lemmas.List.Elements.{All-append, All-cons, All-head, All-nil, All-replicate, All-set, All-tail, All-weaker}
+use Rattle.std.proofs.lemmas.List.Elements.{All-append, All-cons, All-nil, All-replicate, All-set}
 use Rattle.std.specs.Char.{is_ascii_digit}
 use Rattle.std.specs.Cmp.Lexicographic.{slice_cmp}
 use Rattle.std.specs.Fmt.{decimal}
@@ -24,6 +24,8 @@ use Rattle.memc_table.specs.declared.ruling.Ruling.{Ruling}
 use Rattle.memc_table.specs.declared.ruling.Ruling.TheVariants.{Refused, Accepted}
 use Rattle.transcript_text.proofs.Numbers.{own}
 use Rattle.transcript_text.specs.Forms.{AreBytes, FitsReply}
+use Rattle.scenario_text.proofs.Read.{passed}
+use Rattle.run_verify.proofs.Within.{low-at, more-low}
 
 -- an act whose flags have 32 bits, and whose value consists of bytes
 abbrev pub FitsAct : Act → Type 0
@@ -67,10 +69,6 @@ digits-bytes (d ∷ ds) digits =
 
 decimal-bytes : (n : ℕ) → n < 2 ^ 64 → AreBytes (decimal n)
 decimal-bytes n fits = digits-bytes (decimal n) (digits_decimal own n fits)
-
-passed : {A : Type 0} (b : Bool) (x : Option A) (z : A) → (if b then x else None) ≡ Some z → (b ≡ true) × (x ≡ Some z)
-passed true x z is = (refl, is)
-passed false x z is = cc is
 
 -- a number that is read has 64 bits
 pub number-fits : (word : List ℕ) (n : ℕ) → number_of word ≡ Some n → n < 2 ^ 64
@@ -134,14 +132,6 @@ ruling-fits t n (Decr key by) None fn fa fh = tt
 ruling-fits t n (Decr key by) (Some h) fn fa fh = lowered-fits n h by (number_of h.item.value) fn fh (λ x is. number-fits h.item.value x is)
 
 -- ---- tables
-
-low-at : (n : ℕ) (counts : List ℕ) (i : ℕ) → All (λ count. count ≤ n) counts → slice_index counts i ≤ n
-low-at n [] i all = omega arith
-low-at n (c ∷ cs) zero all = All-head (λ count. count ≤ n) c cs all
-low-at n (c ∷ cs) (suc i) all = low-at n cs i (All-tail (λ count. count ≤ n) c cs all)
-
-more-low : (n : ℕ) (counts : List ℕ) → All (λ count. count ≤ n) counts → All (λ count. count ≤ n + 1) counts
-more-low n counts all = All-weaker (λ count. count ≤ n) (λ count. count ≤ n + 1) (λ x low. omega (arith, low)) counts all
 
 live-fits : (t : ℕ) (o : Option Holding) → FitsLive o → FitsLive (live_at t o)
 live-fits t None fits = tt

@@ -28,7 +28,7 @@ use Rattle.run_verify.proofs.ExactEntries.{Checks, FitsAsk}
 use Rattle.run_verify.proofs.ExactRuns.{run_found}
 use Rattle.run_verify.proofs.ExactScript.{FitAll, FitsFully, GoodSheet}
 use Rattle.run_verify.proofs.ExactSteps.{updates-few}
-use Rattle.run_verify.proofs.ExactTurns.{log-append}
+use Rattle.run_verify.proofs.ImpliedShadow.{log-append}
 
 -- ---- steps
 

@@ -1,32 +1,15 @@
 -- A line leads to one state alone.
-use Rattle.std.proofs.Common.{◌≡◌, inl, inr, ◌<◌, ◌^◌, ℕ, List, [], ◌∷◌, ◌++◌, ◌∙◌, Option, Some, append_assoc, codes, sym, ap, arith}
+use Rattle.std.proofs.Common.{◌≡◌, inl, inr, ◌<◌, ◌^◌, ℕ, List, [], ◌∷◌, ◌++◌, ◌∙◌, Option, Some, codes, sym, ap, arith}
 use Rattle.std.proofs.lemmas.Fmt.{decimal_injective}
 use Rattle.std.proofs.lemmas.List.{append_cancel_left}
-use Rattle.std.specs.Fmt.{decimal}
 use Rattle.group_types.specs.Dimensions.{Dimensions, space_of}
 use Rattle.group_types.specs.declared.run.Run.{Run}
 use Rattle.scenario_text.specs.Texts.{place_text}
-use Rattle.transcript_text.proofs.Cuts.{cut_same}
-use Rattle.transcript_text.proofs.Numbers.{Lacks-decimal}
 use Rattle.run_verify.specs.Passing.{IsRunIn}
-
-numbers : ℕ → ℕ → Run → List ℕ
-numbers d n run = decimal d ++ 32 ∷ (decimal n ++ 32 ∷ (decimal run.at ++ 32 ∷ decimal run.len))
-
-place-line : (d n : ℕ) (run : Run) → place_text d n run ≡ codes "place " ++ numbers d n run
-unfolding numbers
-place-line d n run = ap (λ (t : List ℕ). codes "place " ++ t)
-    (append_assoc (decimal d ++ 32 ∷ decimal n) (32 ∷ decimal run.at) (32 ∷ decimal run.len) ∙ append_assoc (decimal d) (32 ∷ decimal n) (32 ∷ (decimal run.at ++ 32 ∷ decimal run.len)))
-
--- a number in front of a space
-first : (n m : ℕ) (r s : List ℕ) → n < 2 ^ 64 → m < 2 ^ 64 → decimal n ++ 32 ∷ r ≡ decimal m ++ 32 ∷ s → (n ≡ m) × (r ≡ s)
-first n m r s fn fm same =
-    let both = cut_same 32 (decimal n) (decimal m) r s (Lacks-decimal 32 n (omega arith) fn) (Lacks-decimal 32 m (omega arith) fm) same in
-    (decimal_injective n m fn fm both.0, both.1)
+use Rattle.run_verify.proofs.Finding.{first, numbers, place-line}
 
 -- a place line is of one update alone
 pub place_once : (d n e m : ℕ) (run other : Run) → d < 2 ^ 64 → n < 2 ^ 64 → e < 2 ^ 64 → m < 2 ^ 64 → place_text d n run ≡ place_text e m other → (d ≡ e) × (n ≡ m)
-unfolding numbers
 place_once d n e m run other fd fn fe fm same =
     let all : codes "place " ++ numbers d n run ≡ codes "place " ++ numbers e m other = sym (place-line d n run) ∙ same ∙ place-line e m other in
     let a = first d e _ _ fd fe (append_cancel_left (codes "place ") _ _ all) in
@@ -35,7 +18,6 @@ place_once d n e m run other fd fn fe fm same =
 
 -- and tells one run, where the run is short
 pub run_once : (d n : ℕ) (run other : Run) → d < 2 ^ 64 → n < 2 ^ 64 → run.at < 2 ^ 64 → run.len < 2 ^ 64 → other.at < 2 ^ 64 → other.len < 2 ^ 64 → place_text d n run ≡ place_text d n other → run ≡ other
-unfolding numbers
 run_once d n run other fd fn fa fl ga gl same =
     let all : codes "place " ++ numbers d n run ≡ codes "place " ++ numbers d n other = sym (place-line d n run) ∙ same ∙ place-line d n other in
     let a = first d d _ _ fd fd (append_cancel_left (codes "place ") _ _ all) in

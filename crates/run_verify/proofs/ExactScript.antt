@@ -23,6 +23,7 @@ use Rattle.run_verify.specs.declared.step.Step.{Step}
 use Rattle.run_verify.specs.declared.step.Step.TheVariants.{Make, Deliveries, Look, Placing}
 use Rattle.run_verify.proofs.ExactEntries.{FitsAsk}
 use Rattle.run_verify.proofs.ExactLimits.{act-fits, read-limits}
+use Rattle.run_verify.proofs.PlainScript.{skips}
 
 -- ---- steps
 
@@ -147,11 +148,6 @@ next-good : (setting next : Option Setting) (steps : List Step) → Good setting
 next-good None next steps good (fine, none) = fine
 next-good (Some s) None steps good none = absurd none
 next-good (Some s) (Some t) steps good (shape_is, fit, one) = subst IsShape (sym shape_is) good
-
--- a line that is skipped sets nothing and asks nothing
-skips : (line : List ℕ) (setting : Option Setting) → is_skipped line ≡ true → next_of setting line ≡ Goes setting [] []
-skips line None skipped = rw skipped refl
-skips line (Some s) skipped = rw skipped refl
 
 abbrev Goal : List (List ℕ) → Type 0
 Goal lines = (n : ℕ) (setting : Option Setting) (script : Script) → Good setting → script_in n setting lines ≡ Ok script → GoodScript setting (length lines) script

@@ -35,13 +35,15 @@ use Rattle.run_verify.specs.declared.step.Step.{Step}
 use Rattle.run_verify.specs.declared.step.Step.TheVariants.{Make, Deliveries, Look, Placing}
 use Rattle.run_verify.proofs.ExactEntries.{Checks, Now}
 use Rattle.run_verify.proofs.ExactPlaces.{all_clear, made_of, places_pass, told_all}
-use Rattle.run_verify.proofs.ExactTurns.{LogsGo, answer_right, fits-go, go-append, log-append, logs-pass, logs_go, now_answered}
+use Rattle.run_verify.proofs.ExactTurns.{LogsGo, answer_right, fits-go, go-append, logs-pass, logs_go, now_answered}
 use Rattle.run_verify.proofs.ImpliedChanges.{length-same, runs-same, spaces-same}
 use Rattle.run_verify.proofs.ImpliedCourse.{state}
 use Rattle.run_verify.proofs.ImpliedHeads.{heads_of}
 use Rattle.run_verify.proofs.ImpliedPlaces.{AreClear, all_lined, runs_for, runs_of}
 use Rattle.run_verify.proofs.ImpliedShown.{shown-same, stamp-same}
 use Rattle.run_verify.proofs.ImpliedTurn.{log-push}
+use Rattle.run_verify.proofs.ImpliedShadow.{log-append}
+use Rattle.run_verify.proofs.ExactUpdates.{drop-none}
 
 answer-begins : (answer : Answer) → begins_entry (answer_text answer) ≡ false
 answer-begins (answered.Reply reply) = refl
@@ -153,17 +155,13 @@ module _ (sheet : Sheet) (turns : List Turn) (runs : List (List (Option Run))) (
       let mine : told_runs ≡ runs_of a 0 s.k = sym runs_are ∙ whole in
       let told = told_all s a 0 s.k (λ p low high. clear p (omega (arith, high))) in
       let none = now.placed in
-      let passes = places_pass sheet (dues_from a 0 s.k) a logging (place_lines 0 (runs_of a 0 s.k)) (ap (λ (n : ℕ). drop n (dues_from a 0 s.k)) none ∙ drop-none (dues_from a 0 s.k)) told in
+      let passes = places_pass sheet (dues_from a 0 s.k) a logging (place_lines 0 (runs_of a 0 s.k)) (ap (λ (n : ℕ). drop n (dues_from a 0 s.k)) none ∙ sym (drop-none (dues_from a 0 s.k))) told in
       let lined = all_lined s a 0 s.k (place_lines 0 (runs_of a 0 s.k)) told in
       let count : a.placed + length (dues_from a 0 s.k) ≡ count_placed (runs_of a 0 s.k) = (let n = lined.count in omega (arith, none, n)) in (
         passes.0,
         subst (λ (r : List (List (Option Run))). PassAll sheet (state a (Placing ∷ []) logging) (place_lines 0 r ++ placed_line (count_placed r) ∷ []) passes.0) (sym mine)
             (subst (λ (n : ℕ). PassAll sheet (state a (Placing ∷ []) logging) (place_lines 0 (runs_of a 0 s.k) ++ placed_line n ∷ []) passes.0) count passes.1),
       )
-    where
-      drop-none : {A : Type 0} (xs : List A) → drop 0 xs ≡ xs
-      drop-none [] = refl
-      drop-none (x ∷ xs) = refl
 
   -- what is behind a step passes, wherever it begins
   abbrev Onward : List Step → List Told → List Turn → Type 0

@@ -20,12 +20,13 @@ use Rattle.run_verify.specs.Passing.{Account, IsReplyTo, IsRight, IsThere, IsTol
 use Rattle.run_verify.specs.Sheet.{Sheet}
 use Rattle.run_verify.specs.declared.call.Call.{Call}
 use Rattle.run_verify.proofs.ExactAhead.{AreNamedApart, logs-ahead}
-use Rattle.run_verify.proofs.ExactEntries.{Checks, FitsAsk, Now, entry_passes}
+use Rattle.run_verify.proofs.ExactEntries.{Checks, FitsAsk, Now, entry_passes, get-front}
 use Rattle.run_verify.proofs.ImpliedAccount.{Stands}
 use Rattle.run_verify.proofs.ImpliedAhead.{AllFit}
 use Rattle.run_verify.proofs.ImpliedHeads.{Head, ask-head, asks-heads, get-within, heads_of, heads-push}
 use Rattle.run_verify.proofs.ImpliedStands.{stands-event}
-use Rattle.run_verify.proofs.ImpliedTurn.{get-append, get-contains, log-push}
+use Rattle.run_verify.proofs.ImpliedTurn.{contains-get, get-append, get-contains, log-push}
+use Rattle.run_verify.proofs.ImpliedShadow.{log-append}
 
 -- entries pass one after the other
 abbrev pub LogsGo : Sheet → Account → List Entry → Account → Type 0
@@ -46,10 +47,6 @@ pub fits-go : (sheet : Sheet) (es : List Entry) (a b : Account) → LogsGo sheet
 fits-go sheet [] a b go = tt
 fits-go sheet (e ∷ es) a b (run, tells, told, go) = (record { caller = tells.named.0; call = tells.named.1; reply = tells.fits }, fits-go sheet es (after_entry sheet a e run) b go)
 
-pub log-append : (xs ys : List Turn) → log_of (xs ++ ys) ≡ log_of xs ++ log_of ys
-log-append [] ys = refl
-log-append (t ∷ xs) ys = ap (λ (es : List Entry). t.logged ++ es) (log-append xs ys) ∙ sym (append_assoc t.logged (log_of xs) (log_of ys))
-
 take-front : {A : Type 0} (xs ys : List A) → take (length xs) (xs ++ ys) ≡ xs
 take-front [] ys = refl
 take-front (x ∷ xs) ys = ap (λ (zs : List _). x ∷ zs) (take-front xs ys)
@@ -64,13 +61,8 @@ get-both [] ys j x below is = absurd (omega (arith, below))
 get-both (z ∷ xs) ys zero x below is = is
 get-both (z ∷ xs) ys (suc j) x below is = get-both xs ys j x (omega (arith, below)) is
 
-contains-index : {A : Type 0} (xs : List A) (i : ℕ) (x : A) → slice_get xs i ≡ Some x → Contains xs x
-contains-index [] i x is = cc is
-contains-index (y ∷ xs) zero x is = (0, omega arith, cc is)
-contains-index (y ∷ xs) (suc i) x is = let rest = contains-index xs i x is in (suc rest.0, (let b = rest.1 in omega (arith, b)), rest.2)
-
 contains-middle : {A : Type 0} (xs ys : List A) (x : A) → Contains (xs ++ x ∷ ys) x
-contains-middle xs ys x = contains-index (xs ++ x ∷ ys) (length xs + 0) x (get-append xs (x ∷ ys) 0 x refl)
+contains-middle xs ys x = contains-get (xs ++ x ∷ ys) (length xs + 0) x (get-append xs (x ∷ ys) 0 x refl)
 
 -- where an element of two lists stands
 get-parts : {A : Type 0} (xs ys : List A) (i : ℕ) (x : A) → slice_get (xs ++ ys) i ≡ Some x → (slice_get xs i ≡ Some x) ⊎ ((j : ℕ) × (slice_get ys j ≡ Some x))
@@ -128,13 +120,8 @@ module _ (sheet : Sheet) (turns : List Turn) (runs : List (List (Option Run))) (
   named-apart : AreNamedApart t.logged
   named-apart i j d e less at_i at_j = c.within.once (length (log_of before) + i) (length (log_of before) + j) d e (omega (arith, less)) (there i d at_i) (there j e at_j)
     where
-      front : (es : List Entry) (i : ℕ) (x : Entry) → slice_get es i ≡ Some x → slice_get (es ++ log_of after) i ≡ Some x
-      front [] i x is = cc is
-      front (y ∷ es) zero x is = is
-      front (y ∷ es) (suc i) x is = front es i x is
-
       there : (i : ℕ) (x : Entry) → slice_get t.logged i ≡ Some x → slice_get (log_of turns) (length (log_of before) + i) ≡ Some x
-      there i x is = rw log-parts (get-append (log_of before) (t.logged ++ log_of after) i x (front t.logged i x is))
+      there i x is = rw log-parts (get-append (log_of before) (t.logged ++ log_of after) i x (get-front t.logged (log_of after) i x is))
 
   module _ (a : Account) (now : Now sheet runs a (heads_of 0 before) (log_of before)) (fit : AllFit t.logged) (rest : List (List ℕ)) where
     abbrev ahead : List (List ℕ)
@@ -175,14 +162,9 @@ module _ (sheet : Sheet) (turns : List Turn) (runs : List (List (Option Run))) (
             replies (Some logged) some =
                 let behind = (now.stands.asked name call is).logged logged some in
                 let inside = get-within (log_of before) behind.0 (entry_of name call.op logged) behind.1 in
-                let first : slice_get (log_of turns) behind.0 ≡ Some (entry_of name call.op logged) = rw log-parts (front (log_of before) (t.logged ++ log_of after) behind.0 _ behind.1) in
-                let second : slice_get (log_of turns) (length (log_of before) + j) ≡ Some (entry_of name since.op reply) = rw log-parts (get-append (log_of before) (t.logged ++ log_of after) j _ (front t.logged (log_of after) j _ there)) in
+                let first : slice_get (log_of turns) behind.0 ≡ Some (entry_of name call.op logged) = rw log-parts (get-front (log_of before) (t.logged ++ log_of after) behind.0 _ behind.1) in
+                let second : slice_get (log_of turns) (length (log_of before) + j) ≡ Some (entry_of name since.op reply) = rw log-parts (get-append (log_of before) (t.logged ++ log_of after) j _ (get-front t.logged (log_of after) j _ there)) in
                 absurd (c.within.once behind.0 (length (log_of before) + j) (entry_of name call.op logged) (entry_of name since.op reply) (omega (arith, inside)) first second refl)
-              where
-                front : (xs ys : List Entry) (i : ℕ) (x : Entry) → slice_get xs i ≡ Some x → slice_get (xs ++ ys) i ≡ Some x
-                front [] ys i x is = cc is
-                front (y ∷ xs) ys zero x is = is
-                front (y ∷ xs) ys (suc i) x is = front xs ys i x is
 
         by : (slice_get (log_of before) since.place ≡ Some (entry_of name since.op reply)) ⊎ ((j : ℕ) × (slice_get t.logged j ≡ Some (entry_of name since.op reply))) → IsThere (logged_reply a name) name reply ahead
         by (inl before_is) =

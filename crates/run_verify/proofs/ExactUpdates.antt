@@ -18,7 +18,7 @@ drop-one : {A : Type 0} (n : ℕ) (xs : List A) → drop n (drop 1 xs) ≡ drop 
 drop-one n [] = drop-nil n ∙ sym (drop-nil (suc n))
 drop-one n (x ∷ xs) = refl
 
-drop-none : {A : Type 0} (xs : List A) → xs ≡ drop 0 xs
+pub drop-none : {A : Type 0} (xs : List A) → xs ≡ drop 0 xs
 drop-none [] = refl
 drop-none (x ∷ xs) = refl
 
