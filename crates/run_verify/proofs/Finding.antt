@@ -14,16 +14,15 @@ use Rattle.transcript_text.proofs.Numbers.{Lacks-decimal}
 use Rattle.run_verify.specs.Passing.{FitsRun, IsRunIn}
 use Rattle.run_verify.specs.Runs.{ArePlacesOf, IsRunAmong, Names}
 
-numbers : ℕ → ℕ → Run → List ℕ
+abbrev pub numbers : ℕ → ℕ → Run → List ℕ
 numbers d n run = decimal d ++ 32 ∷ (decimal n ++ 32 ∷ (decimal run.at ++ 32 ∷ decimal run.len))
 
-place-line : (d n : ℕ) (run : Run) → place_text d n run ≡ codes "place " ++ numbers d n run
-unfolding numbers
+pub place-line : (d n : ℕ) (run : Run) → place_text d n run ≡ codes "place " ++ numbers d n run
 place-line d n run = ap (λ (t : List ℕ). codes "place " ++ t)
     (append_assoc (decimal d ++ 32 ∷ decimal n) (32 ∷ decimal run.at) (32 ∷ decimal run.len) ∙ append_assoc (decimal d) (32 ∷ decimal n) (32 ∷ (decimal run.at ++ 32 ∷ decimal run.len)))
 
 -- a number in front of a space
-first : (n m : ℕ) (r s : List ℕ) → n < 2 ^ 64 → m < 2 ^ 64 → decimal n ++ 32 ∷ r ≡ decimal m ++ 32 ∷ s → (n ≡ m) × (r ≡ s)
+pub first : (n m : ℕ) (r s : List ℕ) → n < 2 ^ 64 → m < 2 ^ 64 → decimal n ++ 32 ∷ r ≡ decimal m ++ 32 ∷ s → (n ≡ m) × (r ≡ s)
 first n m r s fn fm same =
     let both = cut_same 32 (decimal n) (decimal m) r s (Lacks-decimal 32 n (omega arith) fn) (Lacks-decimal 32 m (omega arith) fm) same in
     (decimal_injective n m fn fm both.0, both.1)
@@ -36,7 +35,6 @@ record IsPlace (p : Place) (d n : ℕ) (run : Run) : Type 0 where
   len_is : p.run.len ≡ run.len
 
 place_same : (p : Place) (d n : ℕ) (run : Run) → FitsPlace p → d < 2 ^ 32 → n < 2 ^ 64 → run.at < 2 ^ 32 → run.len < 2 ^ 32 → text_of_place p ≡ place_text d n run → IsPlace p d n run
-unfolding numbers
 place_same p d n run (fd, fn, fa, fl) gd gn ga gl same =
     let all : codes "place " ++ numbers p.partition p.number p.run ≡ codes "place " ++ numbers d n run = sym (place-line p.partition p.number p.run) ∙ same ∙ place-line d n run in
     let a = first p.partition d _ _ (omega (arith, fd)) (omega (arith, gd)) (append_cancel_left (codes "place ") _ _ all) in

@@ -120,7 +120,7 @@ shadow-step sheet a Placing Lost next by = absurd by
 shadow-step sheet a Placing Down next by = absurd by
 shadow-step sheet a Placing (Placed runs) next by = (sym (ap (λ (c : Account). c.table) by.next_is), sym (ap (λ (c : Account). c.changes) by.next_is))
 
-log-append : (xs ys : List Turn) → log_of (xs ++ ys) ≡ log_of xs ++ log_of ys
+pub log-append : (xs ys : List Turn) → log_of (xs ++ ys) ≡ log_of xs ++ log_of ys
 log-append [] ys = refl
 log-append (t ∷ xs) ys = ap (λ (es : List Entry). t.logged ++ es) (log-append xs ys) ∙ sym (append_assoc t.logged (log_of xs) (log_of ys))
 

@@ -42,14 +42,14 @@ spaces-by-same f g k d (n ∷ stamp) same within =
     let rest = spaces-by-same f g k (d + 1) stamp same (omega (arith, within)) in
     cc (here, rest)
 
-shown-same : (s : Dimensions) (f g : ℕ → ℕ → List ℕ) (counts : ℕ → ℕ) (p : ProcessId) (run : Run) (stamp : List ℕ) → ((d n : ℕ) → d < s.k → f d n ≡ g d n) → IsProcess s p → IsStampOf s counts p stamp
+pub shown-same : (s : Dimensions) (f g : ℕ → ℕ → List ℕ) (counts : ℕ → ℕ) (p : ProcessId) (run : Run) (stamp : List ℕ) → ((d n : ℕ) → d < s.k → f d n ≡ g d n) → IsProcess s p → IsStampOf s counts p stamp
     → shown_at s f p run stamp ≡ shown_at s g p run stamp
 shown-same s f g counts (DataNode d) run stamp same within can = ap (λ (x : List ℕ). bytes_at run.at run.len x) (same d (at 0 stamp 0) within)
 shown-same s f g counts (ParityNode i) run stamp same within can =
     let long = can.0 in
     ap (λ (x : List (List ℕ)). bytes_at run.at run.len (coded s.m i (space_of s) x)) (spaces-by-same f g s.k 0 stamp same (omega (arith, long)))
 
-stamp-same : (s : Dimensions) (c e : ℕ → ℕ) (p : ProcessId) (stamp : List ℕ) → ((d : ℕ) → d < s.k → c d ≡ e d) → IsProcess s p → IsStampOf s c p stamp → IsStampOf s e p stamp
+pub stamp-same : (s : Dimensions) (c e : ℕ → ℕ) (p : ProcessId) (stamp : List ℕ) → ((d : ℕ) → d < s.k → c d ≡ e d) → IsProcess s p → IsStampOf s c p stamp → IsStampOf s e p stamp
 stamp-same s c e (DataNode d) stamp same within (n, is, below) = let eq = same d within in (n, is, omega (arith, below, eq))
 stamp-same s c e (ParityNode i) stamp same within (long, below) = (long, λ d small. let eq = same d small in let b = below d small in omega (arith, eq, b))
 

@@ -83,11 +83,11 @@ kept-logs sheet (e ∷ es) a b name call reply (run, tells, logs) is replied =
         let replies : call.reply ≡ None = ap (λ (c : Call). c.reply) (some_same call (call_with e None) (sym is ∙ old)) in
         cc (sym replied ∙ replies)
 
-get-append : {A : Type 0} (xs ys : List A) (i : ℕ) (y : A) → slice_get ys i ≡ Some y → slice_get (xs ++ ys) (length xs + i) ≡ Some y
+pub get-append : {A : Type 0} (xs ys : List A) (i : ℕ) (y : A) → slice_get ys i ≡ Some y → slice_get (xs ++ ys) (length xs + i) ≡ Some y
 get-append [] ys i y is = let e : 0 + i ≡ i = omega arith in rw e is
 get-append (x ∷ xs) ys i y is = let e : suc (length xs) + i ≡ suc (length xs + i) = omega arith in rw e (get-append xs ys i y is)
 
-contains-get : {A : Type 0} (xs : List A) (i : ℕ) (x : A) → slice_get xs i ≡ Some x → Contains xs x
+pub contains-get : {A : Type 0} (xs : List A) (i : ℕ) (x : A) → slice_get xs i ≡ Some x → Contains xs x
 contains-get xs i x is = (i, get-within xs i x is, index-get xs i x is)
   where
     index-get : {A : Type 0} (xs : List A) (i : ℕ) (x : A) → slice_get xs i ≡ Some x → slice_index_or xs i x ≡ x

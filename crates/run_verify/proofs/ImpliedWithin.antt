@@ -41,10 +41,6 @@ table-answer a (happens.Fail p keep) answer = refl
 table-answer a (happens.Flush p) answer = refl
 table-answer a (happens.Trace caller call d p) answer = refl
 
-log-append : (xs ys : List Turn) → log_of (xs ++ ys) ≡ log_of xs ++ log_of ys
-log-append [] ys = refl
-log-append (t ∷ xs) ys = ap (λ (es : List Entry). t.logged ++ es) (log-append xs ys) ∙ sym (append_assoc t.logged (log_of xs) (log_of ys))
-
 pub legal-course : (sheet : Sheet) (a : Account) (steps : List Step) (told : List Told) (final : Account) → Course sheet a steps told final → IsLegalFrom a.table (log_of (turns_told told))
 legal-course sheet a [] [] final course = tt
 legal-course sheet a [] (told ∷ more) final course = absurd course

@@ -133,7 +133,7 @@ shorter-last ((b ∷ bs) ∷ []) = omega arith
 shorter-last (line ∷ next ∷ lines) = let few = shorter-last (next ∷ lines) in omega (arith, few)
 
 -- a text has hardly more lines than bytes
-lines-few : (text : List ℕ) → length (lines_of text) ≤ length text + 1
+pub lines-few : (text : List ℕ) → length (lines_of text) ≤ length text + 1
 lines-few text =
     let is_end : ℕ → Bool = λ b. b == 10 in
     let short = shorter-last (slice_split is_end text) in

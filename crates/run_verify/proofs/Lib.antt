@@ -21,6 +21,20 @@ pub mod Moving
 pub mod PlainScript
 pub mod Duties
 pub mod Entering
+pub mod Exact
+mod ExactAhead
+mod ExactEntries
+mod ExactFits
+mod ExactKnown
+mod ExactLimits
+mod ExactNext
+mod ExactOnce
+mod ExactPlaces
+mod ExactRuns
+mod ExactScript
+mod ExactSteps
+mod ExactTurns
+mod ExactUpdates
 pub mod Finding
 pub mod Judged
 pub mod Keeps

@@ -75,7 +75,7 @@ does line s written = rw written (by (event_line s.shape (words_of line)) refl)
     by (Some l) is = does-line line s l (the-word s.shape line l is)
 
 -- the lines that mean nothing
-skips : (line : List ℕ) (setting : Option Setting) → is_skipped line ≡ true → next_of setting line ≡ Goes setting [] []
+pub skips : (line : List ℕ) (setting : Option Setting) → is_skipped line ≡ true → next_of setting line ≡ Goes setting [] []
 skips line None skipped = rw skipped refl
 skips line (Some s) skipped = rw skipped refl
 

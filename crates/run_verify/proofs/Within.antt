@@ -30,12 +30,12 @@ use Rattle.run_verify.proofs.Logging.{home-in}
 
 -- ---- the counts of a table
 
-low-at : (n : ℕ) (counts : List ℕ) (i : ℕ) → All (λ count. count ≤ n) counts → slice_index counts i ≤ n
+pub low-at : (n : ℕ) (counts : List ℕ) (i : ℕ) → All (λ count. count ≤ n) counts → slice_index counts i ≤ n
 low-at n [] i all = omega arith
 low-at n (c ∷ cs) zero all = All-head (λ count. count ≤ n) c cs all
 low-at n (c ∷ cs) (suc i) all = low-at n cs i (All-tail (λ count. count ≤ n) c cs all)
 
-more-low : (n : ℕ) (counts : List ℕ) → All (λ count. count ≤ n) counts → All (λ count. count ≤ n + 1) counts
+pub more-low : (n : ℕ) (counts : List ℕ) → All (λ count. count ≤ n) counts → All (λ count. count ≤ n + 1) counts
 more-low n counts all = All-weaker (λ count. count ≤ n) (λ count. count ≤ n + 1) (λ x low. omega (arith, low)) counts all
 
 ruled-low : (n : ℕ) (t : Contents) (key : List ℕ) (r : Ruling) → All (λ count. count ≤ n) t.counts → All (λ count. count ≤ n + 1) (after_ruling t key r).counts

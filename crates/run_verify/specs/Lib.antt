@@ -4,6 +4,7 @@ pub mod Changes
 pub mod Checked
 pub mod Courses
 pub mod Dues
+pub mod Exact
 pub mod Items
 pub mod Judging
 pub mod Keeping

@@ -1,5 +1,6 @@
 //! A transcript is verified by its script alone: each line is judged, and the first that fails is named. The contract says that
-//! a yes means that all which is told is legal, answered within its time, placed apart and shown as it was written.
+//! a yes means that all which is told is legal, answered within its time, placed apart and shown as it was written, and the
+//! laws say that a no means that it isn't so.
 //! `verify_text` reads the text from a source, and tells a yes. Reading the words of a transcript's lines is left to the
 //! crate below, and telling why there is no yes to the program.
 #![tactic(auto)]
@@ -17,6 +18,7 @@ mod items;
 mod judge;
 mod judging;
 mod keep;
+pub mod laws;
 mod look;
 mod pass;
 mod places;
