@@ -43,7 +43,7 @@ pub fn for_update<B: Beneath>(
     ensures room { OnOk result (HasRoom replica.new.room (update.now ∷ [])) }
     ensures ready { OnOk result (B.is_ready below.new partition.0 update.now) }
     ensures empty { IfOk result (λ p. p.room.items ≡ []) }
-    ensures fits { IfOk result (λ p. length (up_to stable replica.old.replica) ≤ vec_capacity p.room) }
+    ensures fits { IfOk result (λ p. vec_capacity p.room ≡ length (up_to stable replica.old.replica)) }
 {
     replica.reserve(update)?;
     below.reserve(partition, update)?;
@@ -76,7 +76,7 @@ pub fn for_list<B: Beneath>(
     ensures room { OnOk result (HasRoom replica.new.room list.now) }
     ensures ready { OnOk result (All (λ u. B.is_ready below.new partition.0 u) (drop (replica.old.replica.applied - base) list.now)) }
     ensures empty { IfOk result (λ p. p.room.items ≡ []) }
-    ensures fits { IfOk result (λ p. length (up_to base replica.old.replica) ≤ vec_capacity p.room) }
+    ensures fits { IfOk result (λ p. vec_capacity p.room ≡ length (up_to base replica.old.replica)) }
 {
     replica.reserve_list(list)?;
     let known = replica.applied().saturating_sub(base) as usize;

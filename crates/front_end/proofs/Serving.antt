@@ -9,23 +9,13 @@ use Rattle.memc_proto.specs.declared.request.Request.{Request}
 use Rattle.front_end.specs.Answers.{Stand, AreAnswered, AreHalted}
 use Rattle.front_end.specs.Calls.{Ways}
 use Rattle.front_end.specs.Connection.{IsOpen, IsWaiting, IsEndAt, HasCome, HasServed}
+use Rattle.front_end.specs.Going.{GoesOn}
 use Rattle.front_end.specs.Piece.{IsServed, HasTaken}
 use Rattle.front_end.specs.declared.end.ConnectionFault.{ConnectionFault}
 use Rattle.front_end.specs.declared.end.ConnectionFault.TheVariants.{ReadFault, WriteFault, Want}
 use Rattle.front_end.specs.declared.end.End.{End}
 use Rattle.front_end.specs.declared.end.End.TheVariants.{Quit, Ended, Cut, LineTooLong, Worn}
 use Rattle.front_end.proofs.Turning.{answered-none, answered-append}
-
--- a connection that goes on: its reader was fed what was read, and the requests are answered
-pub record GoesOn {C : Type 0} (ways : Ways C) (told : Option ℕ) (input input_now : Input) (before now : Stand C) (kept : Kept) (count : ℕ) : Type 0 where
-  pub read : List ℕ
-  pub consumed : Takes input input_now read
-  pub requests : List Request
-  pub has_read : HasRead kept read requests
-  pub no_quit : list_any is_quit requests ≡ false
-  pub short : ¬ (IsTooLong has_read.rest)
-  pub answered : AreAnswered ways told before now requests []
-  pub counted : length read ≡ count
 
 -- nothing was read
 pub goes_on-none : {C : Type 0} (ways : Ways C) (told : Option ℕ) (input : Input) (at : Stand C) (kept : Kept) (count : ℕ) → HasRead kept [] [] → count ≡ 0 → GoesOn ways told input input at at kept count

@@ -45,6 +45,7 @@ deliver <from> <to>
 fail <process> <keep>|all
 flush <process>
 show <process> <at> <len>
+places
 time <n>
 drain
 regroup <m> <blocks> <block>

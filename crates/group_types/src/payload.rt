@@ -1,4 +1,4 @@
-ghost use Rattle.std.specs.Prelude.{◌≡◌, ◌↔◌, length, IsTrue, IfOk};
+ghost use Rattle.std.specs.Prelude.{◌≡◌, ◌↔◌, [], length, IsTrue, IfOk};
 
 use bytes::Bytes;
 use std::alloc::{AllocError, Global};
@@ -28,6 +28,15 @@ impl Payload {
         Ok(Payload {
             bytes: Bytes::copy_from_slice(alloc, bytes)?,
         })
+    }
+
+    /// A payload of no bytes. It takes no memory.
+    pub fn empty() -> Payload
+        ensures { result ≡ [] }
+    {
+        Payload {
+            bytes: Bytes::new(),
+        }
     }
 
     /// A payload that takes the vector over, with no copy of its bytes.

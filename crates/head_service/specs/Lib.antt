@@ -10,3 +10,4 @@ pub mod Serving
 pub mod Acting
 pub mod Laws
 pub mod Flushing
+pub mod Wanting

@@ -10,6 +10,7 @@ ghost use Rattle.partition_replica.specs.State.{IsTidyBut};
 ghost use Rattle.head_service.specs.Acting.{IsMade, NeedsOf, acts, name_of, next_update};
 ghost use Rattle.head_service.specs.Issuing.{CanFollow};
 ghost use Rattle.head_service.specs.Paging.{DecisionMisses, MakesNoneOf};
+ghost use Rattle.head_service.specs.Wanting.{IsIssued, MayWant};
 ghost use Rattle.head_service.specs.declared.ask.Asked.TheVariants.{Done};
 ghost use Rattle.head_service.specs.declared.step.CallStep.{CallStep};
 ghost use Rattle.head_service.specs.Beneath.{found_in};
@@ -77,6 +78,8 @@ pub fn ask<B: Beneath>(
         (B.process below.old) decision)
         asked replica.new.replica held.new.items (B.process below.new)) }
     ensures block { IfOk result (NeedsOf replica.old.shape) }
+    ensures wanted { OnErr result (MayWant (space_of replica.old.shape) head.now.inherited replica.old.replica op.now
+        (found_in (B.shape below.old) partition.0 (B.process below.old))) }
     ensures replica_err { OnErr result (replica.new.replica ≡ replica.old.replica) }
     ensures bytes_err { OnErr result (B.process below.new ≡ B.process below.old) }
     ensures held_err { OnErr result (held.new.items ≡ held.old.items) }
@@ -119,6 +122,7 @@ fn act<B: Beneath>(
         (B.process below.old) decision)
         asked replica.new.replica held.new.items (B.process below.new)) }
     ensures block { IfOk result (NeedsOf replica.old.shape) }
+    ensures wanted { OnErr result (IsIssued decision) }
     ensures replica_err { OnErr result (replica.new.replica ≡ replica.old.replica) }
     ensures bytes_err { OnErr result (B.process below.new ≡ B.process below.old) }
     ensures held_err { OnErr result (held.new.items ≡ held.old.items) }

@@ -1,4 +1,4 @@
-ghost use Rattle.std.specs.Prelude.{◌≡◌, ◌+◌, ◌<◌, ◌≤◌, ℕ, List, [], ◌∷◌, IfOk, OnOk};
+ghost use Rattle.std.specs.Prelude.{◌≡◌, ◌+◌, ◌<◌, ◌≤◌, ℕ, List, [], ◌∷◌, IfOk, OnErr, OnOk};
 ghost use Rattle.group_types.specs.Dimensions.{Dimensions, space_of};
 ghost use Rattle.group_message.specs.declared.update.Update.{Update};
 ghost use Rattle.group_run.specs.Applying.{bytes_after};
@@ -6,6 +6,7 @@ ghost use Rattle.group_run.specs.Fitting.{Writes};
 ghost use Rattle.group_run.specs.Process.{Process};
 ghost use Rattle.head_service.specs.Beneath.{IsFound, found_in};
 ghost use Rattle.head_service.specs.Paging.{MakesNoneOf, Misses};
+ghost use Rattle.head_service.specs.Wanting.{IsThere};
 
 use group_calls::Found;
 use group_message::Update;
@@ -37,7 +38,8 @@ pub trait Beneath {
         requires partition { partition.0 < (shape self.now).k }
         requires within { run.at + run.len ≤ space_of (shape self.now) }
         ensures found { IfOk result (λ found. found ≡ found_in (shape self.now) partition.0 (process self.now) run) }
-        ensures whole { IfOk result (IsFound (shape self.now) run.len) };
+        ensures whole { IfOk result (IsFound (shape self.now) run.len) }
+        ensures wanted { OnErr result (IsThere (found_in (shape self.now) partition.0 (process self.now) run)) };
 
     /// Makes all that adding the update needs, and no page but those of the blocks in which it writes.
     fn reserve(&mut self, partition: Partition, update: &Update) -> Result<(), AllocError>

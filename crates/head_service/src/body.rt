@@ -1,4 +1,4 @@
-ghost use Rattle.std.specs.Prelude.{◌≡◌, ◌<◌, length, IfOk, IfSome};
+ghost use Rattle.std.specs.Prelude.{◌≡◌, ◌<◌, length, IfOk, IfSome, IsSome, OnErr};
 ghost use Rattle.field_byte.specs.Vectors.{add_bytes};
 ghost use Rattle.group_types.specs.Dimensions.{space_of};
 ghost use Rattle.group_run.specs.Deciding.{decide_left, decide_placed, decide_written};
@@ -30,6 +30,7 @@ pub fn decide_left<B: Beneath>(
     ensures decision { IfOk result (λ d. d ≡ decide_left (space_of replica.now.shape) replica.now.replica
         (found_in (B.shape below.now) partition.0 (B.process below.now)) outcome touch leaves) }
     ensures whole { IfOk result (IsWhole replica.now.shape) }
+    ensures wanted { OnErr result (IsSome leaves) }
 {
     let body = match leaves {
         None => Body::Remove,

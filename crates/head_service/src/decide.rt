@@ -1,10 +1,12 @@
-ghost use Rattle.std.specs.Prelude.{◌≡◌, ◌+◌, ◌<◌, ◌≤◌, ◌^◌, IfOk, IfSome, None, Some};
+ghost use Rattle.std.specs.Prelude.{◌≡◌, ◌+◌, ◌<◌, ◌≤◌, ◌^◌, ℕ, List, IfOk, IfSome, OnErr, None, Some};
 ghost use Rattle.group_types.specs.Dimensions.{space_of};
 ghost use Rattle.memc_table.specs.Act.{key_of};
-ghost use Rattle.group_run.specs.Deciding.{decide, decide_ruled, decide_waiting, run_needed};
-ghost use Rattle.group_run.specs.Replica.{last_of, run_in, slot_in};
+ghost use Rattle.memc_table.specs.Ruling.{HoldsItem};
+ghost use Rattle.group_run.specs.Deciding.{decide, decide_ruled, decide_waiting, ruling_with, run_needed, waits_for};
+ghost use Rattle.group_run.specs.Replica.{last_of, number_on, run_in, slot_in};
 ghost use Rattle.head_service.specs.Beneath.{found_in};
 ghost use Rattle.head_service.specs.Issuing.{CanFollow, IsWhole};
+ghost use Rattle.head_service.specs.Wanting.{IsThere, MayTake, TakesItem};
 
 use crate::beneath::Beneath;
 use crate::body::decide_left;
@@ -35,6 +37,9 @@ pub fn decide<B: Beneath>(
     ensures decision { IfOk result (λ d. d ≡ decide (space_of replica.now.shape) inherited replica.now.replica op.now
         (found_in (B.shape below.now) partition.0 (B.process below.now))) }
     ensures follows { IfOk result (λ d. CanFollow replica.now.shape replica.now.replica (key_of op.now.act) d) }
+    ensures wanted { OnErr result (MayTake replica.now.replica op.now (slot_in replica.now.replica.items (key_of op.now.act))
+        (found_in (B.shape below.now) partition.0 (B.process below.now))
+        (waits_for inherited op.now.act (number_on replica.now.replica.log (key_of op.now.act)))) }
 {
     let last = replica.unfinished(op.act().key());
     match waits_for(inherited, op.act(), last) {
@@ -57,6 +62,8 @@ fn decide_settled<B: Beneath>(
     ensures decision { IfOk result (λ d. d ≡ decide_waiting (space_of replica.now.shape) replica.now.replica op.now
         (found_in (B.shape below.now) partition.0 (B.process below.now)) (slot_in replica.now.replica.items (key_of op.now.act)) None) }
     ensures whole { IfOk result (IsWhole replica.now.shape) }
+    ensures wanted { OnErr result (TakesItem replica.now.replica op.now (slot_in replica.now.replica.items (key_of op.now.act))
+        (found_in (B.shape below.now) partition.0 (B.process below.now))) }
 {
     let slot = item(replica, op);
     match slot {
@@ -91,9 +98,9 @@ fn decide_unread<B: Beneath>(
     ensures decision { IfOk result (λ d. d ≡ decide_waiting (space_of replica.now.shape) replica.now.replica op.now
         (found_in (B.shape below.now) partition.0 (B.process below.now)) slot None) }
     ensures whole { IfOk result (IsWhole replica.now.shape) }
+    ensures wanted { OnErr result ((bytes : List ℕ) × HoldsItem (ruling_with replica.now.replica op.now slot bytes)) }
 {
-    let value = Payload::from_vec(Vec::new(alloc))?;
-    let ruling = ruling_with(alloc, replica, op, slot, value)?;
+    let ruling = ruling_with(alloc, replica, op, slot, Payload::empty())?;
     decide_ruled(partition, replica, op, below, ruling)
 }
 
@@ -114,6 +121,7 @@ fn decide_read<B: Beneath>(
     ensures decision { IfOk result (λ d. d ≡ decide_waiting (space_of replica.now.shape) replica.now.replica op.now
         (found_in (B.shape below.now) partition.0 (B.process below.now)) (Some slot) None) }
     ensures whole { IfOk result (IsWhole replica.now.shape) }
+    ensures wanted { OnErr result (IsThere (found_in (B.shape below.now) partition.0 (B.process below.now) (run_in slot))) }
 {
     if let Some(reply) = blind_reply(op, slot) {
         return Ok(Decision::Answer(reply));
@@ -144,6 +152,7 @@ fn decide_ruled<B: Beneath>(
     ensures decision { IfOk result (λ d. d ≡ decide_ruled (space_of replica.now.shape) replica.now.replica op.now
         (found_in (B.shape below.now) partition.0 (B.process below.now)) ruling) }
     ensures whole { IfOk result (IsWhole replica.now.shape) }
+    ensures wanted { OnErr result (HoldsItem ruling) }
 {
     match ruling {
         Ruling::Refused(reply) => Ok(Decision::Answer(reply)),

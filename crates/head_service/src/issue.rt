@@ -109,7 +109,7 @@ fn prepare<B: Beneath>(
     ensures sent { IfOk result (λ p. p.sent.items
         ≡ to_all peers.now (message_of (record { 0 = head.now.rank }) partition (Issued update.now replica.old.replica.applied))) }
     ensures settled { IfOk result (λ p. p.settled.items ≡ []) }
-    ensures fits { IfOk result (λ p. p.number - replica.old.replica.applied ≤ vec_capacity p.settled) }
+    ensures fits { IfOk result (λ p. vec_capacity p.settled ≡ p.number - replica.old.replica.applied) }
 {
     make_room(partition, update, replica, held, below)?;
     Prepared::of(
@@ -164,7 +164,7 @@ impl Prepared {
         ensures sent { IfOk result (λ p. p.sent.items
             ≡ to_all peers.now (message_of (record { 0 = head.now.rank }) partition (Issued update.now applied))) }
         ensures settled { IfOk result (λ p. p.settled.items ≡ []) }
-        ensures fits { IfOk result (λ p. p.number - applied ≤ vec_capacity p.settled) }
+        ensures fits { IfOk result (λ p. vec_capacity p.settled ≡ p.number - applied) }
     {
         let number = peers.least_acked(head, update.number);
         let settled = Vec::with_capacity(alloc, number.saturating_sub(applied) as usize)?;

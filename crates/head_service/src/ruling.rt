@@ -1,6 +1,6 @@
-ghost use Rattle.std.specs.Prelude.{◌≡◌, ◌&&◌, ◌<◌, ◌^◌, nat_lt, IfOk, Some};
+ghost use Rattle.std.specs.Prelude.{◌≡◌, ◌&&◌, ◌<◌, ◌^◌, nat_lt, IfOk, OnErr, Some};
 ghost use Rattle.memc_table.specs.Expiry.{is_live, live_at};
-ghost use Rattle.memc_table.specs.Ruling.{ruling_of};
+ghost use Rattle.memc_table.specs.Ruling.{HoldsItem, ruling_of};
 ghost use Rattle.group_run.specs.Deciding.{blind_reply, held_as, is_touch, outcome_of, reads_bytes, ruling_with, run_needed, unseen, waits_for};
 ghost use Rattle.group_run.specs.Replica as machine;
 ghost use Rattle.group_run.specs.Replica.{last_of, run_in};
@@ -89,7 +89,8 @@ pub fn ruling_with(
     value: Payload,
 ) -> Result<Ruling, AllocError>
     requires { last_of replica.now.replica < 2 ^ 62 }
-    ensures { IfOk result (λ ruling. ruling ≡ ruling_with replica.now.replica op.now slot value) }
+    ensures ruling { IfOk result (λ ruling. ruling ≡ ruling_with replica.now.replica op.now slot value) }
+    ensures wanted { OnErr result (HoldsItem (ruling_with replica.now.replica op.now slot value)) }
 {
     let number = replica.last() + 1;
     match slot {
@@ -102,7 +103,8 @@ pub fn ruling_with(
 }
 
 fn rule_held(alloc: Global, op: &Op, number: u64, held: &Holding) -> Result<Ruling, AllocError>
-    ensures { IfOk result (λ ruling. ruling ≡ ruling_of op.now.moment number op.now.act (live_at op.now.moment (Some held.now))) }
+    ensures ruling { IfOk result (λ ruling. ruling ≡ ruling_of op.now.moment number op.now.act (live_at op.now.moment (Some held.now))) }
+    ensures wanted { OnErr result (HoldsItem (ruling_of op.now.moment number op.now.act (live_at op.now.moment (Some held.now)))) }
 {
     rule(alloc, op, number, live(op.now(), Some(held)))
 }

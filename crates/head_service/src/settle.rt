@@ -15,7 +15,7 @@ use std::alloc::{AllocError, Global};
 /// Room for what is settled up to a number.
 pub fn room(alloc: Global, number: u64, replica: &Replica) -> Result<Vec<Settlement>, AllocError>
     ensures empty { IfOk result (λ room. room.items ≡ []) }
-    ensures fits { IfOk result (λ room. length (up_to number replica.now.replica) ≤ vec_capacity room) }
+    ensures fits { IfOk result (λ room. vec_capacity room ≡ length (up_to number replica.now.replica)) }
 {
     let reached = number.min(replica.last());
     Vec::with_capacity(alloc, reached.saturating_sub(replica.applied()) as usize)

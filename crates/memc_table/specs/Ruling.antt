@@ -1,4 +1,4 @@
-use Rattle.std.specs.Prelude.{ℕ, ℤ, ◌+◌, ◌-◌, ◌%◌, ◌^◌, ◌==◌, nat_le, List, ◌++◌, length, Option, Some, None, if◌then◌else◌}
+use Rattle.std.specs.Prelude.{ℕ, ℤ, ◌+◌, ◌-◌, ◌%◌, ◌^◌, ◌==◌, nat_le, List, ◌++◌, length, Option, Some, None, if◌then◌else◌, ⊤}
 use Rattle.std.specs.Fmt.{decimal}
 use Rattle.memc_table.specs.declared.act.Act.{Act}
 use Rattle.memc_table.specs.declared.act.Act.TheVariants.{Get, Set, Add, Replace, Cas, Delete, Touch, Append, Prepend, Incr, Decr}
@@ -70,3 +70,19 @@ ruling_of t n (Incr _ _) None = Refused NotFound
 ruling_of t n (Incr _ by) (Some h) = raised n h by (number_of h.item.value)
 ruling_of t n (Decr _ _) None = Refused NotFound
 ruling_of t n (Decr _ by) (Some h) = lowered n h by (number_of h.item.value)
+
+-- a ruling that hands out a value or leaves an item
+abbrev pub HoldsItem : Ruling → Type 0
+HoldsItem (Refused (Value item)) = ⊤
+HoldsItem (Refused Miss) = ⊥
+HoldsItem (Refused Stored) = ⊥
+HoldsItem (Refused NotStored) = ⊥
+HoldsItem (Refused Exists) = ⊥
+HoldsItem (Refused NotFound) = ⊥
+HoldsItem (Refused Deleted) = ⊥
+HoldsItem (Refused Touched) = ⊥
+HoldsItem (Refused (Number n)) = ⊥
+HoldsItem (Refused NotNumber) = ⊥
+HoldsItem (Refused TooLarge) = ⊥
+HoldsItem (Accepted reply None) = ⊥
+HoldsItem (Accepted reply (Some holding)) = ⊤

@@ -1,6 +1,6 @@
-ghost use Rattle.std.specs.Prelude.{◌≡◌, ◌≤◌, ◌<◌, ◌+◌, ◌^◌, ◌++◌, IfOk, option_copied};
+ghost use Rattle.std.specs.Prelude.{◌≡◌, ◌≤◌, ◌<◌, ◌+◌, ◌^◌, ◌++◌, IfOk, OnErr, option_copied};
 ghost use Rattle.std.specs.Fmt.{decimal};
-ghost use Rattle.memc_table.specs.Ruling.{ruling_of, anew, touched, changed, joined, counted, raised, lowered};
+ghost use Rattle.memc_table.specs.Ruling.{HoldsItem, ruling_of, anew, touched, changed, joined, counted, raised, lowered};
 ghost use Rattle.memc_table.specs.Numeral.{number_of};
 ghost use Rattle.memc_table.specs.declared.ruling.Ruling.TheVariants.{Accepted};
 ghost use Rattle.memc_table.specs.declared.reply.Reply.TheVariants.{Deleted};
@@ -26,7 +26,8 @@ pub fn rule(
     number: u64,
     live: Option<&Holding>,
 ) -> Result<Ruling, AllocError>
-    ensures { IfOk result (λ ruling. ruling ≡ ruling_of op.now.moment number op.now.act (option_copied live.entry)) }
+    ensures ruling { IfOk result (λ ruling. ruling ≡ ruling_of op.now.moment number op.now.act (option_copied live.entry)) }
+    ensures wanted { OnErr result (HoldsItem (ruling_of op.now.moment number op.now.act (option_copied live.entry))) }
 {
     match live {
         None => rule_absent(op, number),
@@ -35,7 +36,8 @@ pub fn rule(
 }
 
 fn rule_absent(op: &Op, number: u64) -> Result<Ruling, AllocError>
-    ensures { IfOk result (λ ruling. ruling ≡ ruling_of op.now.moment number op.now.act None) }
+    ensures ruling { IfOk result (λ ruling. ruling ≡ ruling_of op.now.moment number op.now.act None) }
+    ensures wanted { OnErr result (HoldsItem (ruling_of op.now.moment number op.now.act None)) }
 {
     match op.act() {
         Act::Get { .. } => Ok(Ruling::Refused(Reply::Miss)),
@@ -63,7 +65,8 @@ fn rule_absent(op: &Op, number: u64) -> Result<Ruling, AllocError>
 }
 
 fn rule_present(alloc: Global, op: &Op, number: u64, held: &Holding) -> Result<Ruling, AllocError>
-    ensures { IfOk result (λ ruling. ruling ≡ ruling_of op.now.moment number op.now.act (Some held.now)) }
+    ensures ruling { IfOk result (λ ruling. ruling ≡ ruling_of op.now.moment number op.now.act (Some held.now)) }
+    ensures wanted { OnErr result (HoldsItem (ruling_of op.now.moment number op.now.act (Some held.now))) }
 {
     let own = held.item.value.bytes();
     match op.act() {
@@ -162,7 +165,8 @@ fn join(
     front: &[u8],
     back: &[u8],
 ) -> Result<Ruling, AllocError>
-    ensures { IfOk result (λ ruling. ruling ≡ joined number held.now (front.now ++ back.now)) }
+    ensures ruling { IfOk result (λ ruling. ruling ≡ joined number held.now (front.now ++ back.now)) }
+    ensures wanted { OnErr result (HoldsItem (joined number held.now (front.now ++ back.now))) }
 {
     if LONGEST_VALUE < front.len() + back.len() {
         return Ok(Ruling::Refused(Reply::TooLarge));
@@ -176,7 +180,8 @@ fn join(
 }
 
 fn raise(alloc: Global, update: u64, held: &Holding, by: u64) -> Result<Ruling, AllocError>
-    ensures { IfOk result (λ ruling. ruling ≡ raised update held.now by (number_of held.now.item.value)) }
+    ensures ruling { IfOk result (λ ruling. ruling ≡ raised update held.now by (number_of held.now.item.value)) }
+    ensures wanted { OnErr result (HoldsItem (raised update held.now by (number_of held.now.item.value))) }
 {
     match number(held.item.value.bytes()) {
         Some(value) => count(alloc, update, held, value.wrapping_add(by)),
@@ -185,7 +190,8 @@ fn raise(alloc: Global, update: u64, held: &Holding, by: u64) -> Result<Ruling, 
 }
 
 fn lower(alloc: Global, update: u64, held: &Holding, by: u64) -> Result<Ruling, AllocError>
-    ensures { IfOk result (λ ruling. ruling ≡ lowered update held.now by (number_of held.now.item.value)) }
+    ensures ruling { IfOk result (λ ruling. ruling ≡ lowered update held.now by (number_of held.now.item.value)) }
+    ensures wanted { OnErr result (HoldsItem (lowered update held.now by (number_of held.now.item.value))) }
 {
     match number(held.item.value.bytes()) {
         Some(value) => count(alloc, update, held, value.saturating_sub(by)),

@@ -1,9 +1,10 @@
-ghost use Rattle.std.specs.Prelude.{ℕ, List, ◌≡◌, ◌≤◌, ◌<◌, ◌^◌, IfOk, OnOk, OnErr, option_copied, vec_len};
+ghost use Rattle.std.specs.Prelude.{ℕ, List, ◌≡◌, ◌≤◌, ◌<◌, ◌^◌, IfOk, OnOk, OnErr, IsSome, option_copied, vec_len};
 ghost use Rattle.std.specs.BTreeMap.{get};
 ghost use Rattle.std.specs.Ordering.{nat_cmp};
 ghost use Rattle.std.specs.Cmp.Lexicographic.{slice_cmp};
 ghost use Rattle.memc_table.specs.Contents.{holding_at};
 ghost use Rattle.memc_table.specs.Expiry.{live_at};
+ghost use Rattle.memc_table.specs.Ruling.{HoldsItem};
 
 use crate::expiry::live;
 use crate::holding::Holding;
@@ -28,7 +29,7 @@ pub struct Table {
 
 impl Table {
     ghost use Rattle.memc_table.specs.Act.{key_of};
-    ghost use Rattle.memc_table.specs.Contents.{empty_table, count_of, reply_in, reply_of, after_ruling, table_after};
+    ghost use Rattle.memc_table.specs.Contents.{empty_table, count_of, reply_in, reply_of, ruling_on, after_ruling, table_after};
     ghost use Rattle.memc_table.specs.Table.{contents};
 
     /// A table of k partitions that holds nothing.
@@ -57,6 +58,7 @@ impl Table {
         ensures reply { IfOk result (λ reply. reply ≡ reply_of (contents self.old) op.now) }
         ensures table { OnOk result (contents self.new ≡ table_after (contents self.old) op.now) }
         ensures want { OnErr result (contents self.new ≡ contents self.old) }
+        ensures wanted { OnErr result (HoldsItem (ruling_on (contents self.old) op.now)) }
     {
         let key = op.act().key();
         let live = find(&self.items, key, op.now());
@@ -70,6 +72,7 @@ impl Table {
         ensures reply { IfOk result (λ reply. reply ≡ reply_in ruling) }
         ensures table { OnOk result (contents self.new ≡ after_ruling (contents self.old) key.now ruling) }
         ensures want { OnErr result (contents self.new ≡ contents self.old) }
+        ensures wanted { OnErr result (HoldsItem ruling) }
     {
         match ruling {
             Ruling::Refused(reply) => Ok(reply),
@@ -97,6 +100,7 @@ fn hold(
 ) -> Result<(), AllocError>
     ensures ok { OnOk result ((other : List ℕ) → get (slice_cmp nat_cmp) items.new other ≡ holding_at key.now leaves (get (slice_cmp nat_cmp) items.old) other) }
     ensures err { OnErr result (items.new.entries ≡ items.old.entries) }
+    ensures wanted { OnErr result (IsSome leaves) }
 {
     match leaves {
         Some(holding) => {

@@ -1,10 +1,11 @@
-ghost use Rattle.std.specs.Prelude.{◌≡◌, ◌<◌, [], length, IfOk};
+ghost use Rattle.std.specs.Prelude.{◌≡◌, ◌<◌, [], length, IfOk, OnErr};
 ghost use Rattle.group_types.specs.declared.process.ProcessId.TheVariants.{ParityNode};
 ghost use Rattle.erasure_code.specs.Spaces.{bytes_at};
 ghost use Rattle.group_run.specs.Leaders.{missing_block, rebuilt_bytes};
 ghost use Rattle.group_run.specs.Asking.{found_unless};
 ghost use Rattle.group_run.specs.Process.{opening_process};
 ghost use Rattle.head_service.specs.Beneath.{IsFound};
+ghost use Rattle.head_service.specs.Wanting.{IsThere};
 ghost use Rattle.page_map.specs.Spaces.{LiesIn};
 
 use block_sessions::Sessions;
@@ -131,6 +132,8 @@ fn rebuilt(sessions: &Sessions, partition: Partition, run: Run) -> Result<Found,
     ensures found { IfOk result (λ found. found ≡ found_unless
         (missing_block sessions.now.shape partition.0 run sessions.now.state) (rebuilt_bytes sessions.now.shape partition.0 run sessions.now.state)) }
     ensures whole { IfOk result (IsFound sessions.now.shape run.len) }
+    ensures wanted { OnErr result (IsThere (found_unless (missing_block sessions.now.shape partition.0 run sessions.now.state)
+        (rebuilt_bytes sessions.now.shape partition.0 run sessions.now.state))) }
 {
     if let Some(block) = sessions.missing(partition, run) {
         return Ok(Found::Missing(block));

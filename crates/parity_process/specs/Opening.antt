@@ -1,9 +1,11 @@
--- A leader that marks lost partitions in its own row.
-use Rattle.std.specs.Prelude.{◌≡◌, ◌<◌, ℕ, true, false, ⊤, List, [], ◌∷◌, All, AllPairs, Option, Some, None, is_some}
+-- A leader that opens a session for a block, and marks lost partitions in its own row.
+use Rattle.std.specs.Prelude.{◌≡◌, ◌<◌, ◌==◌, ℕ, true, false, ⊤, List, [], ◌∷◌, All, AllPairs, Option, Some, None, is_some}
+use Rattle.std.specs.List.{list_any, range_with_len}
 use Rattle.group_types.specs.Dimensions.{Dimensions}
 use Rattle.group_types.specs.Lists.{at}
 use Rattle.group_types.specs.declared.process.ProcessId.TheVariants.{ParityNode}
 use Rattle.membership.specs.Members.{knows_dead}
+use Rattle.group_run.specs.Asking.{oldest_inherited}
 use Rattle.group_run.specs.Process.{Copy, Process}
 use Rattle.group_run.specs.Rows.{copy_in}
 use Rattle.head_service.specs.Serving.{Serving}
@@ -28,3 +30,11 @@ pub record AreMarkable (s : Dimensions) (leader number block : ℕ) (ds : List �
   pub differ : AllPairs (λ d e. d < e) ds
   pub unmarked : AreUnmarked ds (copy_in p.as_row.copies leader number)
   pub own : WaitForOwnRow p
+
+-- a session is opened for a block: nothing inherited is unfinished, and none is open for it
+abbrev pub Opens : Dimensions → ℕ → Process → Type 0
+Opens s block p = (oldest_inherited p (range_with_len 0 s.k) ≡ None) × (list_any (λ g. g.block == block) p.as_leader.sessions ≡ false)
+
+-- so it is for some block
+abbrev pub OpensOne : Dimensions → Process → Type 0
+OpensOne s p = (block : ℕ) × Opens s block p

@@ -10,7 +10,7 @@ ghost use Rattle.group_run.specs.Rows.{accepts_mark, copy_in};
 ghost use Rattle.head_service.specs.Serving.{serving};
 ghost use Rattle.process_service.specs.Steps.{called, stepped};
 ghost use Rattle.parity_process.specs.Marking.{WaitForOwnRow};
-ghost use Rattle.parity_process.specs.Opening.{AreMarkable, HeadsOne};
+ghost use Rattle.parity_process.specs.Opening.{AreMarkable, HeadsOne, Opens};
 ghost use Rattle.parity_process.specs.Standing.{IsOver, IsReadyFor};
 
 use crate::marking::{Mark, finish_own, take};
@@ -42,6 +42,7 @@ pub fn retry(
     ensures step { IfOk result (λ step. retry_block service.old.shape block
         (oldest_inherited (serving service.old bytes.old.process) (range_with_len 0 service.old.shape.k)) (serving service.old bytes.old.process)
         ≡ called (serving service.new bytes.new.process) step) }
+    ensures wanted { OnErr result (Opens service.old.shape block (serving service.old bytes.old.process)) }
     ensures service_err { OnErr result (service.new ≡ service.old) }
     ensures bytes_err { OnErr result (bytes.new.process ≡ bytes.old.process) }
 {

@@ -1,10 +1,9 @@
-ghost use Rattle.std.specs.Prelude.{◌≡◌, ◌+◌, ◌<◌, ◌≤◌, ◌^◌, [], length, map, IsSome, None, true, IfOk, OnErr, ◌-◌, min};
+ghost use Rattle.std.specs.Prelude.{◌≡◌, ◌⊎◌, ◌+◌, ◌<◌, ◌≤◌, ◌^◌, [], length, map, true, IfOk, OnErr, ◌-◌, min};
 ghost use Rattle.std.specs.List.{range_with_len};
 ghost use Rattle.group_types.specs.Dimensions.{space_of};
 ghost use Rattle.group_types.specs.declared.process.ProcessId.TheVariants.{ParityNode};
 ghost use Rattle.erasure_code.specs.Spaces.{bytes_at};
 ghost use Rattle.group_types.specs.Hash.{home_of};
-ghost use Rattle.group_types.specs.Lists.{at};
 ghost use Rattle.memc_table.specs.Act.{key_of};
 ghost use Rattle.group_run.specs.Applying.{head_at, replica_of, sending};
 ghost use Rattle.group_run.specs.Asking.{ask_process, collect_from, fate_of, only};
@@ -19,6 +18,8 @@ ghost use Rattle.process_service.specs.Current.{is_current};
 ghost use Rattle.process_service.specs.Noticing.{waiting};
 ghost use Rattle.process_service.specs.Paging.{CallMisses, MessageMisses};
 ghost use Rattle.process_service.specs.Steps.{called, stepped};
+ghost use Rattle.process_service.specs.Wanting.{AskWants};
+ghost use Rattle.parity_process.specs.Opening.{OpensOne};
 ghost use Rattle.leader_role.specs.Sound.{IsOfGroup};
 
 use crate::opening::retry;
@@ -78,7 +79,7 @@ impl ParityProcess {
         ensures shape { self.new.shape ≡ self.old.shape }
         ensures pages { MakesNoneOf (CallMisses self.old.shape op.now self.old.process) self.old.made self.new.made }
         ensures step { IfOk result (λ step. ask_process self.old.shape (name_of call) op.now self.old.process ≡ called self.new.process step) }
-        ensures wanted { OnErr result (IsSome (at None self.old.process.heads (home_of (key_of op.now.act) self.old.shape.k))) }
+        ensures wanted { OnErr result (AskWants self.old.shape op.now self.old.process ⊎ OpensOne self.old.shape self.old.process) }
         ensures err { OnErr result (self.new.process ≡ self.old.process) }
     {
         match self.service.ask(call, op, &mut self.bytes)? {

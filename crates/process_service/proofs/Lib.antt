@@ -13,3 +13,4 @@ mod Judged
 mod Taken
 mod Lent
 mod Paging
+mod Wanting

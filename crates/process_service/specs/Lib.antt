@@ -4,3 +4,4 @@ pub mod Noticing
 pub mod Paging
 pub mod Standing
 pub mod Steps
+pub mod Wanting

@@ -17,7 +17,7 @@ impl Service {
     pub fn room(&self, partition: Partition, number: u64) -> Result<Vec<Settlement>, AllocError>
         requires { partition.0 < self.now.shape.k }
         ensures empty { IfOk result (λ room. room.items ≡ []) }
-        ensures fits { IfOk result (λ room. length (up_to number (at empty_replica self.now.replicas partition.0)) ≤ vec_capacity room) }
+        ensures fits { IfOk result (λ room. vec_capacity room ≡ length (up_to number (at empty_replica self.now.replicas partition.0))) }
     {
         room(self.alloc, number, &self.replicas[partition.0 as usize])
     }

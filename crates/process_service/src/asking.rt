@@ -1,4 +1,4 @@
-ghost use Rattle.std.specs.Prelude.{◌≡◌, ◌<◌, ◌^◌, IsSome, None, IfOk, OnErr};
+ghost use Rattle.std.specs.Prelude.{◌≡◌, ◌<◌, ◌^◌, IfOk, OnErr};
 ghost use Rattle.group_types.specs.Hash.{home_of};
 ghost use Rattle.group_types.specs.Lists.{at};
 ghost use Rattle.memc_table.specs.Act.{key_of};
@@ -9,6 +9,7 @@ ghost use Rattle.head_service.specs.Serving.{serving};
 ghost use Rattle.process_service.specs.Paging.{CallMisses};
 ghost use Rattle.process_service.specs.Standing.{IsBeneath};
 ghost use Rattle.process_service.specs.Steps.{IsAsked};
+ghost use Rattle.process_service.specs.Wanting.{AskWants};
 
 use crate::service::Service;
 use group_calls::Answer;
@@ -36,7 +37,7 @@ impl Service {
         ensures asked { IfOk result (λ asked. IsAsked self.old.shape (name_of call) op.now (serving self.old (B.process below.old)) asked
             (serving self.new (B.process below.new))) }
         ensures block { IfOk result (NeedsOf self.old.shape) }
-        ensures wanted { OnErr result (IsSome (at None self.old.heads (home_of (key_of op.now.act) self.old.shape.k))) }
+        ensures wanted { OnErr result (AskWants self.old.shape op.now (serving self.old (B.process below.old))) }
         ensures self_err { OnErr result (self.new ≡ self.old) }
         ensures bytes_err { OnErr result (B.process below.new ≡ B.process below.old) }
     {

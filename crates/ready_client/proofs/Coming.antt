@@ -13,12 +13,13 @@ use Rattle.front_end.specs.Calls.{Ways}
 use Rattle.front_end.specs.Connection.{HasServed}
 use Rattle.front_end.specs.Faults.{HasSinkCause}
 use Rattle.front_end.specs.Piece.{IsServed}
+use Rattle.front_end.specs.Going.{GoesOn}
 use Rattle.front_end.specs.Progress.{Progress, HasStepped, BreaksAt, IsClosed}
 use Rattle.front_end.specs.declared.end.ConnectionFault.{ConnectionFault}
 use Rattle.front_end.specs.declared.end.ConnectionFault.TheVariants.{Want}
 use Rattle.front_end.specs.declared.end.End.{End}
 use Rattle.front_end.proofs.Piecing.{served-halted, served-closed}
-use Rattle.front_end.proofs.Serving.{GoesOn, goes_on-more, goes_on-none, served-end, served-fault}
+use Rattle.front_end.proofs.Serving.{goes_on-more, goes_on-none, served-end, served-fault}
 use Rattle.front_end.proofs.Stepping.{AnsweredUpTo, up_to-none, up_to-more, up_to-all, up_to-broken}
 use Rattle.ready_client.specs.Apart.{apart, written}
 use Rattle.ready_client.specs.Coming.{Steps, IsUnderWay, HasComeTo, Comes, GoesOnApart, by_close}

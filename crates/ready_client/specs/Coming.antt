@@ -8,10 +8,10 @@ use Rattle.memc_proto.specs.declared.request.Request.{Request}
 use Rattle.front_end.specs.Answers.{Stand}
 use Rattle.front_end.specs.Calls.{Ways}
 use Rattle.front_end.specs.Connection.{HasServed}
+use Rattle.front_end.specs.Going.{GoesOn}
 use Rattle.front_end.specs.Progress.{Progress, HasStepped}
 use Rattle.front_end.specs.declared.end.ConnectionFault.{ConnectionFault}
 use Rattle.front_end.specs.declared.end.End.{End}
-use Rattle.front_end.proofs.Serving.{GoesOn}
 use Rattle.ready_client.specs.Apart.{apart, written}
 use Rattle.ready_client.specs.declared.step.Step.{Step}
 use Rattle.ready_client.specs.declared.step.Step.TheVariants.{Goes, Waits, Ends}

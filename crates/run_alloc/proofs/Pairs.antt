@@ -76,18 +76,22 @@ module _ (a l : Shelved) (spare : ℕ) (paired : IsPaired a l spare) where
       spread = spread;
       room = omega (arith, paired.room);
       length_room = omega (arith, paired.length_room);
+      most = omega (arith, paired.most);
+      length_most = omega (arith, paired.length_most);
       few = omega (arith, paired.few, length-adds a.runs a'.runs run first);
     }
 
   pub paired_reserved : (a' l' : Shelved) (n : ℕ) → a'.order ≡ a.order → l'.order ≡ l.order → a'.runs ≡ a.runs → l'.runs ≡ l.runs
-      → n ≤ a'.spare → n ≤ l'.spare → length a.runs + n ≤ 2 ^ 33 → IsPaired a' l' n
-  paired_reserved a' l' n same_a same_l runs_a runs_l room_a room_l few = record {
+      → n ≤ a'.spare → n ≤ l'.spare → a'.spare ≤ n + 127 → l'.spare ≤ n + 127 → length a.runs + n ≤ 2 ^ 33 → IsPaired a' l' n
+  paired_reserved a' l' n same_a same_l runs_a runs_l room_a room_l most_a most_l few = record {
     by_address = same_a ∙ paired.by_address;
     by_length = same_l ∙ paired.by_length;
     same = rw (runs_a, runs_l) paired.same;
     spread = rw runs_a paired.spread;
     room = room_a;
     length_room = room_l;
+    most = most_a;
+    length_most = most_l;
     few = rw runs_a few;
   }
 
@@ -101,6 +105,8 @@ module _ (a l : Shelved) (spare : ℕ) (paired : IsPaired a l spare) where
     spread = removed_spread a.runs a'.runs run first (2 ^ 32) paired.spread;
     room = omega (arith, paired.room);
     length_room = omega (arith, paired.length_room);
+    most = omega (arith, paired.most);
+    length_most = omega (arith, paired.length_most);
     few = omega (arith, paired.few, length-adds a'.runs a.runs run first);
   }
 

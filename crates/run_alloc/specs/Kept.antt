@@ -18,4 +18,6 @@ pub record IsPaired (addresses lengths : Shelved) (spare : ℕ) : Type 0 where
   pub spread : IsSpread 0 addresses.runs (2 ^ 32)
   pub room : spare ≤ addresses.spare
   pub length_room : spare ≤ lengths.spare
+  pub most : addresses.spare ≤ spare + 127
+  pub length_most : lengths.spare ≤ spare + 127
   pub few : length addresses.runs + spare ≤ 2 ^ 33

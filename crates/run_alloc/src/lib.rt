@@ -116,7 +116,7 @@ impl FreeRuns {
     /// Takes the run of `len` addresses from `at` on. A run of no addresses changes nothing.
     pub fn take_at(&mut self, at: u32, len: u32)
         requires free { AllFree (is_free self.old) at len }
-        requires room { 0 < self.old.spare }
+        requires room { 0 < len → 0 < self.old.spare }
         ensures taken { (a : ℕ) → is_free self.new a ≡ (is_free self.old a && not (in_run at len a)) }
         ensures size { self.new.size ≡ self.old.size }
         ensures spare { self.old.spare ≤ self.new.spare + 1 }
@@ -134,7 +134,7 @@ impl FreeRuns {
     pub fn give(&mut self, at: u32, len: u32)
         requires inside { at + len ≤ self.old.size }
         requires taken { NoneFree (is_free self.old) at len }
-        requires room { 0 < self.old.spare }
+        requires room { 0 < len → 0 < self.old.spare }
         ensures given { (a : ℕ) → is_free self.new a ≡ (is_free self.old a || in_run at len a) }
         ensures size { self.new.size ≡ self.old.size }
         ensures spare { self.old.spare ≤ self.new.spare + 1 }

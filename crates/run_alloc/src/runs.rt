@@ -50,7 +50,10 @@ impl Runs {
         ensures succeeds { n ≤ self.old.spare → IsOk result }
     {
         self.by_address.reserve(n)?;
-        self.by_length.reserve(n)?;
+        if let Err(fault) = self.by_length.reserve(n) {
+            self.by_address.shrink(self.spare);
+            return Err(fault);
+        }
         self.spare = self.spare.max(n as usize);
         Ok(())
     }

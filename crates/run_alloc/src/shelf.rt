@@ -76,6 +76,18 @@ impl Shelf {
         Ok(())
     }
 
+    /// Gives back the room for more than `spare` runs, but for up to 127.
+    pub fn shrink(&mut self, spare: usize)
+        ensures order { self.new.order ≡ self.old.order }
+        ensures runs { self.new.runs ≡ self.old.runs }
+        ensures kept { spare ≤ self.old.spare → spare ≤ self.new.spare }
+        ensures most { self.new.spare ≤ spare + 127 }
+    {
+        let blanks = self.spare.saturating_sub(spare) / FEW;
+        self.stock.truncate(self.stock.len() - blanks);
+        self.spare -= blanks * FEW;
+    }
+
     /// The first run whose rank isn't below `rank`.
     pub fn first_from(&self, rank: u64) -> Option<Run>
         ensures first { MatchOption result (All (λ run. rank_of self.now.order run < rank) self.now.runs)

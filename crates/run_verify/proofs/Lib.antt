@@ -29,8 +29,10 @@ pub mod LogAhead
 pub mod Looking
 pub mod Marking
 pub mod Placed
+pub mod Parts
 pub mod Passed
 pub mod Rising
+pub mod Shadowing
 pub mod Stamping
 pub mod Taking
 pub mod Vectors

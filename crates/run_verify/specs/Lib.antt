@@ -12,6 +12,7 @@ pub mod Plain
 pub mod Placings
 pub mod Runs
 pub mod Scripts
+pub mod Shadows
 pub mod Sheet
 pub mod Showing
 pub mod Steps

@@ -1,8 +1,10 @@
-ghost use Rattle.std.specs.Prelude.{◌≡◌, length};
+ghost use Rattle.std.specs.Prelude.{◌≡◌, length, map};
+ghost use Rattle.run_verify.specs.Shadows.{AllFollow};
 
 use crate::book::Book;
 use crate::call::Call;
 use crate::change::Change;
+use crate::shadow::Shadow;
 use std::alloc::Global;
 
 /// What the lines so far have told.
@@ -14,5 +16,7 @@ pub(crate) struct Account {
     pub(crate) changes: Vec<Vec<Change>>,
     pub(crate) entries: u64,
     pub(crate) shown: u64,
+    pub(crate) shadows: Vec<Shadow>,
     ghost callers: { length calls.items ≡ 256 },
+    ghost follow: { AllFollow (map (λ v. v.items) changes.items) shadows.items },
 }

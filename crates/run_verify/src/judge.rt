@@ -96,6 +96,7 @@ impl Account {
             changes: nothing(alloc, shape.k())?,
             entries: 0,
             shown: 0,
+            shadows: Vec::new(alloc),
         })
     }
 }

@@ -4,6 +4,7 @@ ghost use Rattle.group_calls.specs.Turns.{accepts};
 ghost use Rattle.run_verify.specs.Accounts.{account_of, lists_of};
 ghost use Rattle.run_verify.specs.Keeping.{HasChanged, HasEffect, IsKept, IsWritten};
 ghost use Rattle.run_verify.specs.Passing.{value_in, with_reply};
+ghost use Rattle.run_verify.specs.Shadows.{AreMore};
 
 use crate::account::Account;
 use crate::call::Call;
@@ -139,6 +140,7 @@ fn add_change(
     requires { partition < length changes.old.items }
     ensures changes { OnOk result (lists_of changes.new.items ≡ put [] (lists_of changes.old.items) partition
         (at [] (lists_of changes.old.items) partition ++ change ∷ [])) }
+    ensures more { AreMore (lists_of changes.old.items) (lists_of changes.new.items) }
     ensures partitions { length changes.new.items ≡ length changes.old.items }
 {
     changes[partition as usize].push(change)?;

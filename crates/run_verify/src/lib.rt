@@ -24,6 +24,7 @@ mod placing;
 mod reading;
 mod script;
 mod setting;
+mod shadow;
 mod sheet;
 mod spaces;
 pub mod status;

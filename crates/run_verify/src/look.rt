@@ -1,4 +1,5 @@
 ghost use Rattle.std.specs.Prelude.{◌≡◌, ◌↔◌, ◌≤◌, ◌<◌, ◌+◌, ◌^◌, All, length, IfOk, IsTrue};
+ghost use Rattle.erasure_code.specs.Spaces.{bytes_at};
 ghost use Rattle.group_types.specs.Dimensions.{space_of};
 ghost use Rattle.group_types.specs.Names.{IsProcess};
 ghost use Rattle.transcript_text.specs.Texts.{FitsNumber};
@@ -10,7 +11,7 @@ ghost use Rattle.run_verify.specs.Showing.{AreBelow, IsFitChange, IsLooked, IsSt
 use crate::account::Account;
 use crate::change::Change;
 use crate::keep::changes_of;
-use crate::spaces::{coded_behind, space_at};
+use crate::spaces::{coded_part, held_part};
 use group_types::{ProcessId, Run, Shape};
 use std::alloc::AllocError;
 use transcript_text::shown::shown;
@@ -44,7 +45,7 @@ impl Account {
 
     /// Whether a line shows the bytes that the changes have left, at a stamp that can be.
     fn tells_bytes(
-        &self,
+        &mut self,
         shape: Shape,
         at: ProcessId,
         run: Run,
@@ -52,9 +53,10 @@ impl Account {
     ) -> Result<bool, AllocError>
         requires process { IsProcess shape at }
         requires run { run.at + run.len ≤ space_of shape }
-        requires partitions { length self.now.changes.items ≡ shape.k }
-        requires fit { All (All (IsFitChange shape)) (lists_of self.now.changes.items) }
-        ensures { IfOk result (λ yes. IsTrue yes ↔ TellsBytes shape (account_of self.now) at run line.now) }
+        requires partitions { length self.old.changes.items ≡ shape.k }
+        requires fit { All (All (IsFitChange shape)) (lists_of self.old.changes.items) }
+        ensures told { IfOk result (λ yes. IsTrue yes ↔ TellsBytes shape (account_of self.old) at run line.now) }
+        ensures same { account_of self.new ≡ account_of self.old }
     {
         let mut stamp = vec![in self.alloc; 0; stamp_len(shape, at) as usize]?;
         self.tells_in(shape, at, run, line, &mut stamp)
@@ -62,7 +64,7 @@ impl Account {
 
     /// The same, where the stamp is read into this room.
     fn tells_in(
-        &self,
+        &mut self,
         shape: Shape,
         at: ProcessId,
         run: Run,
@@ -71,10 +73,11 @@ impl Account {
     ) -> Result<bool, AllocError>
         requires process { IsProcess shape at }
         requires run { run.at + run.len ≤ space_of shape }
-        requires partitions { length self.now.changes.items ≡ shape.k }
-        requires fit { All (All (IsFitChange shape)) (lists_of self.now.changes.items) }
+        requires partitions { length self.old.changes.items ≡ shape.k }
+        requires fit { All (All (IsFitChange shape)) (lists_of self.old.changes.items) }
         requires stamp { length stamp.old ≡ stamp_len shape at }
-        ensures { IfOk result (λ yes. IsTrue yes ↔ TellsBytes shape (account_of self.now) at run line.now) }
+        ensures told { IfOk result (λ yes. IsTrue yes ↔ TellsBytes shape (account_of self.old) at run line.now) }
+        ensures same { account_of self.new ≡ account_of self.old }
     {
         match shown(line, stamp) {
             None => Ok(false),
@@ -87,7 +90,7 @@ impl Account {
 
     /// Whether a stamp can be, and a word is the text of the bytes there.
     fn is_shown(
-        &self,
+        &mut self,
         shape: Shape,
         at: ProcessId,
         run: Run,
@@ -96,17 +99,17 @@ impl Account {
     ) -> Result<bool, AllocError>
         requires process { IsProcess shape at }
         requires run { run.at + run.len ≤ space_of shape }
-        requires partitions { length self.now.changes.items ≡ shape.k }
-        requires fit { All (All (IsFitChange shape)) (lists_of self.now.changes.items) }
+        requires partitions { length self.old.changes.items ≡ shape.k }
+        requires fit { All (All (IsFitChange shape)) (lists_of self.old.changes.items) }
         requires stamp { length stamp.now ≡ stamp_len shape at }
-        ensures { IfOk result (λ yes. IsTrue yes ↔ IsTold shape (lists_of self.now.changes.items) at run stamp.now word.now) }
+        ensures told { IfOk result (λ yes. IsTrue yes ↔ IsTold shape (lists_of self.old.changes.items) at run stamp.now word.now) }
+        ensures same { account_of self.new ≡ account_of self.old }
     {
         if !self.is_stamped(shape, at, stamp) {
             return Ok(false);
         }
-        let space = self.space_at(shape, at, stamp)?;
-        let from = run.at as usize;
-        Ok(is_value_of(word, &space[from..from + run.len as usize]))
+        let bytes = self.part(shape, at, run, stamp)?;
+        Ok(is_value_of(word, &bytes))
     }
 
     /// Whether no number of a stamp is above what was logged.
@@ -123,19 +126,32 @@ impl Account {
         }
     }
 
-    /// The space of a process at a stamp.
-    fn space_at(&self, shape: Shape, at: ProcessId, stamp: &[u64]) -> Result<Vec<u8>, AllocError>
+    /// The bytes of a run of a process at a stamp.
+    fn part(
+        &mut self,
+        shape: Shape,
+        at: ProcessId,
+        run: Run,
+        stamp: &[u64],
+    ) -> Result<Vec<u8>, AllocError>
         requires process { IsProcess shape at }
-        requires partitions { length self.now.changes.items ≡ shape.k }
-        requires fit { All (All (IsFitChange shape)) (lists_of self.now.changes.items) }
+        requires run { run.at + run.len ≤ space_of shape }
+        requires partitions { length self.old.changes.items ≡ shape.k }
+        requires fit { All (All (IsFitChange shape)) (lists_of self.old.changes.items) }
         requires stamp { length stamp.now ≡ stamp_len shape at }
-        requires below { IsStamped (lists_of self.now.changes.items) at stamp.now }
-        ensures space { IfOk result (λ space. space.items ≡ space_seen shape (lists_of self.now.changes.items) at stamp.now) }
-        ensures long { IfOk result (λ space. length space.items ≡ space_of shape) }
+        requires below { IsStamped (lists_of self.old.changes.items) at stamp.now }
+        ensures bytes { IfOk result (λ bytes. bytes.items ≡ bytes_at run.at run.len (space_seen shape (lists_of self.old.changes.items) at stamp.now)) }
+        ensures same { account_of self.new ≡ account_of self.old }
     {
+        let shadows = &mut self.shadows;
+        let changes = &self.changes;
         match at {
-            ProcessId::DataNode(d) => space_at(self.alloc, shape, &self.changes, d, stamp[0]),
-            ProcessId::ParityNode(i) => coded_behind(self.alloc, shape, i, &self.changes, stamp),
+            ProcessId::DataNode(d) => {
+                held_part(self.alloc, shape, shadows, changes, d, run, stamp[0])
+            }
+            ProcessId::ParityNode(i) => {
+                coded_part(self.alloc, shape, shadows, changes, i, run, stamp)
+            }
         }
     }
 }

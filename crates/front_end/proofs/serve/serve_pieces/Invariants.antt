@@ -1,7 +1,7 @@
 use Rattle.std.proofs.Common.{◌≡◌, ◌-◌, ◌≤◌, []}
 use Rattle.front_end.specs.Answers.{stand}
 use Rattle.front_end.specs.Calls.{ways_of}
-use Rattle.front_end.proofs.Serving.{GoesOn}
+use Rattle.front_end.specs.Going.{GoesOn}
 use Rattle.front_end.proofs.serve.serve_pieces.Given as goal
 
 abbrev pub invariant-pieces : goal.invariant-pieces

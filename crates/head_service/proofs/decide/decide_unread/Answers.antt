@@ -10,5 +10,5 @@ returns-clause-decision g c =
     let read = found_in (g.B.Beneath.shape c.args.below.now) c.args.partition.0 (g.B.Beneath.process c.args.below.now) in
     subst (λ d. IfOk c.decide_ruled.result (λ x. x ≡ d))
     (unread-decided (space_of c.args.replica.now.shape) c.args.replica.now.replica c.args.op.now read c.args.slot c.in_ok-ruling.ruling c.requires.needed
-    (c.in_ok-ruling.ensures ∙ ap (ruling_with c.args.replica.now.replica c.args.op.now c.args.slot) (c.in_ok-value.ensures ∙ c.new.ensures.items)))
+    (c.in_ok-ruling.ensures.ruling ∙ ap (ruling_with c.args.replica.now.replica c.args.op.now c.args.slot) c.empty.ensures))
     c.decide_ruled.ensures.decision

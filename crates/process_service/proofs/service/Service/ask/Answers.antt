@@ -18,15 +18,18 @@ use Rattle.head_service.specs.Laws.{Heads}
 use Rattle.head_service.specs.Paging.{DecisionMisses, MakesNoneOf}
 use Rattle.head_service.proofs.Paging.{makes-none}
 use Rattle.head_service.specs.Serving.{Serving, serving}
+use Rattle.head_service.specs.Wanting.{MayWant}
 use Rattle.head_service.specs.declared.peers.Peers.{Peers}
 use Rattle.process_service.specs.Paging.{CallMisses}
 use Rattle.process_service.specs.Standing.{IsBeneath}
 use Rattle.process_service.specs.Steps.{IsAsked}
+use Rattle.process_service.specs.Wanting.{AskWants}
 use Rattle.process_service.proofs.Asked.{asked-at, moved}
-use Rattle.process_service.proofs.Lent.{HasPlace, IsLent, head-at, heads-as, lends, narrow, put-back, put-same, ready-of, same-shape, stands, written}
+use Rattle.process_service.proofs.Lent.{HasPlace, IsLent, head-at, here, heads-as, lends, narrow, put-back, put-same, ready-of, same-shape, stands, written}
 use Rattle.process_service.proofs.Paging.{pages-at}
 use Rattle.process_service.proofs.Lists.{long-set, part-at, part-put}
 use Rattle.process_service.proofs.Results.{on-err, on-err-any, on-ok}
+use Rattle.process_service.proofs.Wanting.{wants-at}
 use Rattle.process_service.proofs.Standing.{AreKept, made-kept, peers-are}
 use Rattle.process_service.proofs.service.Service.ask.Given as given
 use Rattle.process_service.proofs.service.Service.ask.Goals as goal
@@ -186,10 +189,17 @@ returns-in-Some-clause-self_err g c = on-err c.ask.result (λ replica same.
     ∙ ap (put [] v.held (d g f)) (same ∙ sym (held-is g f)) ∙ put-at [] [] v.held (d g f) (heads-are g f).has_held)) c.ask.ensures.replica_err c.ask.ensures.held_err
 
 pub returns-in-Some-clause-wanted : goal.returns-in-Some-clause-wanted
-returns-in-Some-clause-wanted g c =
+returns-in-Some-clause-wanted g c = on-err c.ask.result (λ wants _.
     let f : goal.After-ask-arg-1 g = c.before.before.before in
-    let wide : c.self.inside.shape.k ≡ c.args.self.now.shape.k = ap (λ (w : Serving). w.shape.k) c.self.view_is in
-    let home : d g f ≡ home_of (key_of c.args.op.now.act) c.args.self.now.shape.k
-    = c.home-partition.ensures.value ∙ home-same c.key.result.now c.act.result.now c.args.op.now.act c.k.result c.args.self.now.shape.k c.key.ensures c.act.ensures (c.k.ensures.value ∙ wide) in
-    let head : at None c.args.self.now.heads (d g f) ≡ Some c.in-Some.head = head-at (lent g f).place c.index.result.now c.index.ensures ∙ c.in-Some.is in
-    on-err-any c.ask.result (ap is_some (ap (at None c.args.self.now.heads) (sym home) ∙ head))
+    let s : Dimensions = g.B.Beneath.shape c.args.below.now in
+    let b : Process = g.B.Beneath.process c.args.below.now in
+    let r : Replica = c.index_mut.result.now.replica in
+    let h : Head = c.in-Some.head in
+    let same : c.index_mut.result.now.shape ≡ s = same-shape (lent g f) ∙ ap (λ (x : Serving). x.shape) c.self.view_is ∙ sym c.requires.beneath.shape in
+    let home : d g f ≡ home_of (key_of c.args.op.now.act) s.k
+    = c.home-partition.ensures.value ∙ home-same c.key.result.now c.act.result.now c.args.op.now.act c.k.result s.k c.key.ensures c.act.ensures
+    (c.k.ensures.value ∙ ap (λ (x : Serving). x.shape.k) c.self.view_is ∙ sym (ap (λ (x : Dimensions). x.k) c.requires.beneath.shape)) in
+    subst (λ (x : Dimensions). AskWants x c.args.op.now (serving c.args.self.now b)) c.requires.beneath.shape
+    (wants-at s c.args.self.now b h r c.args.op.now (d g f) home
+    (head-at (lent g f).place c.index.result.now c.index.ensures ∙ c.in-Some.is) (here (lent g f))
+    (subst (λ (x : Dimensions). MayWant (space_of x) h.inherited r c.args.op.now (found_in s (d g f) b)) same wants))) c.ask.ensures.wanted c.ask.ensures.replica_err
