@@ -52,6 +52,13 @@ impl Table {
         self.counts[home(key, self.partitions).0 as usize]
     }
 
+    /// What a key holds, expired or not.
+    pub fn item(&self, key: &Key) -> Option<&Holding>
+        ensures { option_copied result ≡ (contents self.now).items key.now }
+    {
+        self.items.get(key)
+    }
+
     /// Treats one op: the reply and the next table are those of memcached's protocol.
     pub fn apply(&mut self, op: &Op) -> Result<Reply, AllocError>
         requires { count_of (contents self.old) (key_of op.now.act) < 2 ^ 62 }

@@ -5,7 +5,9 @@ use Rattle.group_types.specs.Dimensions.{Dimensions}
 use Rattle.group_types.specs.Lists.{at}
 use Rattle.group_types.specs.declared.process.ProcessId.TheVariants.{ParityNode}
 use Rattle.membership.specs.Members.{knows_dead}
-use Rattle.group_run.specs.Asking.{oldest_inherited}
+use Rattle.memc_table.specs.Asked.{Asked}
+use Rattle.group_calls.specs.Turns.{CallName}
+use Rattle.group_run.specs.Asking.{ask_process, oldest_inherited, retry_block}
 use Rattle.group_run.specs.Process.{Copy, Process}
 use Rattle.group_run.specs.Rows.{copy_in}
 use Rattle.head_service.specs.Serving.{Serving}
@@ -35,6 +37,6 @@ pub record AreMarkable (s : Dimensions) (leader number block : ℕ) (ds : List �
 abbrev pub Opens : Dimensions → ℕ → Process → Type 0
 Opens s block p = (oldest_inherited p (range_with_len 0 s.k) ≡ None) × (list_any (λ g. g.block == block) p.as_leader.sessions ≡ false)
 
--- so it is for some block
-abbrev pub OpensOne : Dimensions → Process → Type 0
-OpensOne s p = (block : ℕ) × Opens s block p
+-- a call opens one: what the machine makes of it is that a block has to be rebuilt first, for which a session is opened
+abbrev pub CallOpens : Dimensions → CallName → Asked → Process → Type 0
+CallOpens s name op p = (block : ℕ) × (ask_process s name op p ≡ retry_block s block (oldest_inherited p (range_with_len 0 s.k)) p) × Opens s block p

@@ -19,7 +19,7 @@ ghost use Rattle.process_service.specs.Noticing.{waiting};
 ghost use Rattle.process_service.specs.Paging.{CallMisses, MessageMisses};
 ghost use Rattle.process_service.specs.Steps.{called, stepped};
 ghost use Rattle.process_service.specs.Wanting.{AskWants};
-ghost use Rattle.parity_process.specs.Opening.{OpensOne};
+ghost use Rattle.parity_process.specs.Opening.{CallOpens};
 ghost use Rattle.leader_role.specs.Sound.{IsOfGroup};
 
 use crate::opening::retry;
@@ -79,7 +79,7 @@ impl ParityProcess {
         ensures shape { self.new.shape ≡ self.old.shape }
         ensures pages { MakesNoneOf (CallMisses self.old.shape op.now self.old.process) self.old.made self.new.made }
         ensures step { IfOk result (λ step. ask_process self.old.shape (name_of call) op.now self.old.process ≡ called self.new.process step) }
-        ensures wanted { OnErr result (AskWants self.old.shape op.now self.old.process ⊎ OpensOne self.old.shape self.old.process) }
+        ensures wanted { OnErr result (AskWants self.old.shape op.now self.old.process ⊎ CallOpens self.old.shape (name_of call) op.now self.old.process) }
         ensures err { OnErr result (self.new.process ≡ self.old.process) }
     {
         match self.service.ask(call, op, &mut self.bytes)? {

@@ -1,6 +1,6 @@
 -- What an account stands for.
 use Rattle.std.specs.Prelude.{List, map, Vec}
-use Rattle.run_verify.specs.Books.{contents}
+use Rattle.memc_table.specs.Table.{contents}
 use Rattle.run_verify.specs.Passing as passing
 use Rattle.run_verify.specs.declared.account.Account.{Account}
 

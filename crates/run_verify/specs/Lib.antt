@@ -1,5 +1,4 @@
 pub mod Accounts
-pub mod Books
 pub mod Changes
 pub mod Checked
 pub mod Courses

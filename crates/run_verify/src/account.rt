@@ -1,10 +1,10 @@
 ghost use Rattle.std.specs.Prelude.{◌≡◌, length, map};
 ghost use Rattle.run_verify.specs.Shadows.{AllFollow};
 
-use crate::book::Book;
 use crate::call::Call;
 use crate::change::Change;
 use crate::shadow::Shadow;
+use memc_table::Table;
 use std::alloc::Global;
 
 /// What the lines so far have told.
@@ -12,7 +12,7 @@ use std::alloc::Global;
 pub(crate) struct Account {
     pub(crate) alloc: Global,
     pub(crate) calls: Vec<Vec<Call>>,
-    pub(crate) table: Book,
+    pub(crate) table: Table,
     pub(crate) changes: Vec<Vec<Change>>,
     pub(crate) entries: u64,
     pub(crate) shown: u64,

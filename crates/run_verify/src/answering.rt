@@ -2,7 +2,7 @@ ghost use Rattle.std.specs.Prelude.{◌≡◌, ◌≤◌, length, All, IfOk, IfE
 ghost use Rattle.scenario_run.specs.Lines.{lines_of};
 ghost use Rattle.transcript_text.specs.Forms.{kind_of};
 ghost use Rattle.run_verify.specs.Accounts.{account_of};
-ghost use Rattle.run_verify.specs.Books.{contents};
+ghost use Rattle.memc_table.specs.Table.{contents};
 ghost use Rattle.run_verify.specs.Judging.{IsAnswered, Judges, TellsReplyTo};
 ghost use Rattle.run_verify.specs.Passing.{after_event};
 ghost use Rattle.run_verify.specs.Plain.{FitsEvent};

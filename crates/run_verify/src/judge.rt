@@ -8,7 +8,6 @@ ghost use Rattle.run_verify.specs.Plain.{EndsPlacing};
 ghost use Rattle.run_verify.specs.Runs.{ArePlacesOf};
 
 use crate::account::Account;
-use crate::book::Book;
 use crate::cut::cut_line;
 use crate::pass::Found;
 use crate::places::Places;
@@ -92,7 +91,7 @@ impl Account {
         Ok(Account {
             alloc,
             calls: nothing(alloc, CALLERS)?,
-            table: Book::new(alloc, shape.k())?,
+            table: Table::new(alloc, shape.k())?,
             changes: nothing(alloc, shape.k())?,
             entries: 0,
             shown: 0,

@@ -8,7 +8,6 @@
 mod account;
 mod ahead;
 mod answering;
-mod book;
 pub mod call;
 mod calls;
 pub mod change;

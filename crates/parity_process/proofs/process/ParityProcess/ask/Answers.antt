@@ -1,9 +1,14 @@
-use Rattle.std.proofs.Common.{ap, subst}
+use Rattle.std.proofs.Common.{◌⊎◌, inr, Result, Ok, Err, OnErr, ap, subst}
+use Rattle.group_types.specs.Dimensions.{Dimensions}
 use Rattle.group_run.specs.Asking.{CallStep}
+use Rattle.group_run.specs.Process.{Process}
 use Rattle.head_service.specs.Acting.{name_of}
 use Rattle.head_service.specs.Serving.{serving}
 use Rattle.head_service.specs.declared.ask.Asked.{Asked}
 use Rattle.process_service.specs.Steps.{IsAsked}
+use Rattle.process_service.specs.Standing.{Standing}
+use Rattle.process_service.specs.Wanting.{AskWants}
+use Rattle.parity_process.specs.Opening.{CallOpens, Opens}
 use Rattle.parity_process.proofs.Standing.{asked-ready, retried-ready}
 use Rattle.parity_process.proofs.process.ParityProcess.ask.Goals as goal
 
@@ -21,3 +26,21 @@ invariant_of-self-in-Need c =
     (subst (λ (asked : Asked). IsAsked c.self.inside.service.shape (name_of c.args.call) c.args.op.now (serving c.self.inside.service c.self.inside.bytes.process) asked
     (serving c.ask.new.self c.ask.new.below.process)) c.in-Need.is c.in_ok-step.ensures.asked)
     c.retry.ensures.shape c.retry.ensures.over c.retry.ensures.step c.retry.ensures.service_err c.retry.ensures.bytes_err
+
+-- what holds at an error leads to what holds there
+map-err : {T E : Type 0} {P Q : Type 0} (r : Result T E) → (P → Q) → OnErr r P → OnErr r Q
+map-err (Ok x) from is = cc
+map-err (Err e) from is = from is
+
+pub returns-in-Need-clause-wanted : goal.returns-in-Need-clause-wanted
+returns-in-Need-clause-wanted c =
+    let s : Dimensions = c.self.inside.service.shape in
+    let p : Process = serving c.self.inside.service c.self.inside.bytes.process in
+    let asked = subst (λ (asked : Asked). IsAsked s (name_of c.args.call) c.args.op.now p asked (serving c.ask.new.self c.ask.new.below.process)) c.in-Need.is c.in_ok-step.ensures.asked in
+    map-err c.retry.result (λ opens. subst (λ (x : Standing). AskWants x.shape c.args.op.now x.process ⊎ CallOpens x.shape (name_of c.args.call) c.args.op.now x.process) c.self.view_is
+    (inr (
+      c.in-Need.block,
+      asked.0,
+      subst (λ (x : Dimensions). Opens x c.in-Need.block p) c.ask.ensures.shape
+          (subst (λ (x : Process). Opens c.ask.new.self.shape c.in-Need.block x) asked.1 opens),
+    ))) c.retry.ensures.wanted
