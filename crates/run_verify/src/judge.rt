@@ -16,6 +16,7 @@ use crate::script::LONGEST_SHEET;
 use crate::step::Step;
 use crate::verdict::Verdict;
 use group_types::{CALLERS, Shape};
+use memc_table::Table;
 use std::alloc::{AllocError, Global};
 
 /// Judges the lines of a transcript, one after the other.
