@@ -1,0 +1,58 @@
+-- What the course of a script tells for each of its steps.
+use Rattle.std.specs.Prelude.{ℕ, List, [], ◌∷◌, ◌++◌, length, map, Option, Some, None, Result, Ok, Err, if◌then◌else◌}
+use Rattle.std.specs.List.{range_with_len}
+use Rattle.group_types.specs.Lists.{at}
+use Rattle.group_types.specs.declared.process.ProcessId.{ProcessId}
+use Rattle.group_types.specs.declared.run.Run.{Run}
+use Rattle.group_calls.specs.Turns.{Turn}
+use Rattle.group_calls.specs.declared.event.Event.{Event}
+use Rattle.group_calls.specs.declared.event.Event.TheVariants as happens
+use Rattle.group_run.specs.Meaning.{is_dead}
+use Rattle.group_run.specs.Shown.{held, is_down, stamp_of}
+use Rattle.group_run.specs.World.{World, step, turns_from}
+use Rattle.scenario_text.specs.Meaning.{line_of}
+use Rattle.scenario_text.specs.declared.line.Line.{Line}
+use Rattle.scenario_text.specs.declared.line.Line.TheVariants.{Skipped, Group, Ask, Collect, Deliver, Fail, Flush, Trace, Drain, Show, Places, Time, Stop}
+use Rattle.scenario_text.specs.declared.line.LineFault.{LineFault}
+use Rattle.scenario_run.specs.Course.{Goes, Ends, Refused}
+use Rattle.scenario_run.specs.Playing.{Play, draining, next_of, shape_in}
+use Rattle.run_verify.specs.Told.{Told, Made, Drained, Shown, Lost, Down, Placed}
+
+-- what is told for an event
+abbrev pub made : Play → Event → List Told
+made p e = Made (step p.world e).turn ∷ []
+
+-- for a drain
+abbrev pub drained : World → List Event → List Told
+drained w es = Drained (turns_from w es) (length (turns_from w es)) ∷ []
+
+-- for a look at a process
+abbrev pub looked : World → ProcessId → Run → Told
+looked w p run = if is_down w then Down else (if is_dead w p then Lost else Shown (stamp_of w p) (held w p run))
+
+-- the runs of all partitions' updates, by number
+abbrev pub places_of : World → List (List (Option Run))
+places_of w = map (λ d. at [] w.places d) (range_with_len 0 w.shape.k)
+
+-- for a line of this meaning behind the group line
+abbrev pub told_by : Play → Line → List Told
+told_by p (Ask caller from act) = made p (happens.Ask caller (record { moment = p.moment; act = act }) from)
+told_by p (Collect caller call from) = made p (happens.Collect caller call from)
+told_by p (Deliver from to) = made p (happens.Deliver from to)
+told_by p (Fail from keep) = made p (happens.Fail from keep)
+told_by p (Flush from) = made p (happens.Flush from)
+told_by p (Trace caller call partition from) = made p (happens.Trace caller call partition from)
+told_by p Drain = drained p.world (draining p.world)
+told_by p (Show from run) = looked p.world from run ∷ []
+told_by p Places = Placed (places_of p.world) ∷ []
+told_by p _ = []
+
+-- for a line that is read so
+abbrev pub told_on : Option Play → Result Line LineFault → List Told
+told_on (Some p) (Ok line) = told_by p line
+told_on _ _ = []
+
+-- for lines, up to the end
+abbrev pub told_along : Option Play → List (List ℕ) → List Told
+told_along play [] = []
+told_along play (line ∷ lines) = elim (next_of play line) [ Goes next turns text ↦ told_on play (line_of (shape_in play) line) ++ told_along next lines | Ends ↦ [] | Refused cause ↦ [] ]
