@@ -1,4 +1,4 @@
--- What the course of a script tells for each of its steps.
+-- What the course of a script asks of its transcript, step by step, and what it tells for each.
 use Rattle.std.specs.Prelude.{ℕ, List, [], ◌∷◌, ◌++◌, length, map, Option, Some, None, Result, Ok, Err, if◌then◌else◌}
 use Rattle.std.specs.List.{range_with_len}
 use Rattle.group_types.specs.Lists.{at}
@@ -16,6 +16,8 @@ use Rattle.scenario_text.specs.declared.line.Line.TheVariants.{Skipped, Group, A
 use Rattle.scenario_text.specs.declared.line.LineFault.{LineFault}
 use Rattle.scenario_run.specs.Course.{Goes, Ends, Refused}
 use Rattle.scenario_run.specs.Playing.{Play, draining, next_of, shape_in}
+use Rattle.run_verify.specs.declared.step.Step.{Step}
+use Rattle.run_verify.specs.declared.step.Step.TheVariants.{Make, Deliveries, Look, Placing}
 use Rattle.run_verify.specs.Told.{Told, Made, Drained, Shown, Lost, Down, Placed}
 
 -- what is told for an event
@@ -56,3 +58,26 @@ told_on _ _ = []
 abbrev pub told_along : Option Play → List (List ℕ) → List Told
 told_along play [] = []
 told_along play (line ∷ lines) = elim (next_of play line) [ Goes next turns text ↦ told_on play (line_of (shape_in play) line) ++ told_along next lines | Ends ↦ [] | Refused cause ↦ [] ]
+
+-- the steps of a line of this meaning behind the group line
+abbrev pub steps_by : Play → Line → List Step
+steps_by p (Ask caller from act) = Make (happens.Ask caller (record { moment = p.moment; act = act }) from) ∷ []
+steps_by p (Collect caller call from) = Make (happens.Collect caller call from) ∷ []
+steps_by p (Deliver from to) = Make (happens.Deliver from to) ∷ []
+steps_by p (Fail from keep) = Make (happens.Fail from keep) ∷ []
+steps_by p (Flush from) = Make (happens.Flush from) ∷ []
+steps_by p (Trace caller call partition from) = Make (happens.Trace caller call partition from) ∷ []
+steps_by p Drain = Deliveries ∷ []
+steps_by p (Show from run) = Look from run ∷ []
+steps_by p Places = Placing ∷ []
+steps_by p _ = []
+
+-- of a line that is read so
+abbrev pub steps_on : Option Play → Result Line LineFault → List Step
+steps_on (Some p) (Ok line) = steps_by p line
+steps_on _ _ = []
+
+-- of lines, up to the end
+abbrev pub steps_along : Option Play → List (List ℕ) → List Step
+steps_along play [] = []
+steps_along play (line ∷ lines) = elim (next_of play line) [ Goes next turns text ↦ steps_on play (line_of (shape_in play) line) ++ steps_along next lines | Ends ↦ [] | Refused cause ↦ [] ]
