@@ -2,6 +2,7 @@
 ghost use Rattle.std.specs.Prelude.{◌≡◌, ◌+◌, ◌-◌, ◌<◌, ◌≤◌, ◌||◌, ℕ, Bool, List, [], ◌∷◌, drop, length, vec_capacity, All, IfOk, OnOk};
 ghost use Rattle.group_types.specs.Dimensions.{space_of};
 ghost use Rattle.group_message.specs.declared.update.Update.{Update};
+ghost use Rattle.group_run.specs.Deciding.{window};
 ghost use Rattle.group_run.specs.Fitting.{Writes};
 ghost use Rattle.group_run.specs.Replica.{up_to};
 ghost use Rattle.partition_replica.specs.State.{HasRoom, IsTidyBut, is_touched};
@@ -65,6 +66,7 @@ pub fn for_list<B: Beneath>(
     requires partition { partition.0 < (B.shape below.old).k }
     requires writes { All (λ u. Writes (space_of (B.shape below.old)) u.body) (drop (replica.old.replica.applied - base) list.now) }
     requires reaches { replica.old.replica.applied ≤ base + length list.now }
+    requires few { length list.now ≤ window }
     ensures shape { replica.new.shape ≡ replica.old.shape }
     ensures replica { replica.new.replica ≡ replica.old.replica }
     ensures owed { (owed : List ℕ → Bool) → IsTidyBut replica.old owed → IsTidyBut replica.new (λ q. owed q || is_touched list.now q) }

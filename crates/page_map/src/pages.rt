@@ -15,7 +15,7 @@ pub struct Pages {
     blocks: u32,
     block: u32,
     pages: Vec<Page>,
-    room: u32,
+    room: usize,
 }
 
 impl Model for Pages {
@@ -86,13 +86,13 @@ impl Pages {
     }
 
     /// Makes room for at least `count` further pages.
-    pub fn make_room(&mut self, count: u32) -> Result<(), AllocError>
+    pub fn make_room(&mut self, count: usize) -> Result<(), AllocError>
         ensures ok { OnOk result (self.new ≡ record self.old { room = max self.old.room count }) }
         ensures err { OnErr result (self.new ≡ self.old) }
         ensures succeeds { count ≤ self.old.room → IsOk result }
     {
         let room = self.room.max(count);
-        self.pages.reserve(room as usize)?;
+        self.pages.reserve(room)?;
         self.room = room;
         Ok(())
     }

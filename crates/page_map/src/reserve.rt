@@ -39,7 +39,7 @@ impl Pages {
         ensures err { OnErr result (self.new ≡ self.old) }
     {
         let fresh = self.missing(at, len)?;
-        self.make_room(fresh.made())?;
+        self.make_room(fresh.made() as usize)?;
         self.add_all(fresh);
         self.numbers_rise();
         Ok(())

@@ -30,7 +30,7 @@ pub struct Replica {
     runs: FreeRuns,
     log: Log<Updates>,
     kept: Vec<Option<Kept>>,
-    spare: u32,
+    spare: usize,
 }
 
 impl Model for Replica {

@@ -3,7 +3,7 @@
 //! memory. What an update does is left to the caller.
 #![tactic(auto)]
 
-ghost use Rattle.std.specs.Prelude.{◌≡◌, ℕ, ◌+◌, ◌-◌, ◌<◌, ◌≤◌, ◌==◌, max, [], ◌∷◌, ◌++◌, length, drop, find, IfSome, IfNone, IsOk, OnOk, OnErr, option_copied};
+ghost use Rattle.std.specs.Prelude.{◌≡◌, ℕ, ◌+◌, ◌-◌, ◌<◌, ◌≤◌, ◌^◌, ◌==◌, max, [], ◌∷◌, ◌++◌, length, drop, find, IfSome, IfNone, IsOk, OnOk, OnErr, option_copied};
 ghost use Rattle.std.specs.Option.{option_map};
 ghost use Rattle.std.specs.VecDeque.Iter.{deque_iter_rest, deque_iter_steps};
 ghost use Rattle.std.specs.Iterator.Runs.{YieldsRefsInOrder};
@@ -54,15 +54,15 @@ impl<N: Numbering> Log<N> {
     }
 
     /// Makes room for `n` updates.
-    pub fn reserve(&mut self, n: u32) -> Result<(), AllocError>
+    pub fn reserve(&mut self, n: usize) -> Result<(), AllocError>
         ensures applied { self.new.applied ≡ self.old.applied }
         ensures updates { self.new.updates ≡ self.old.updates }
         ensures ok { OnOk result (self.new.spare ≡ max self.old.spare n) }
         ensures err { OnErr result (self.new.spare ≡ self.old.spare) }
         ensures succeeds { n ≤ self.old.spare → IsOk result }
     {
-        self.updates.reserve(n as usize)?;
-        self.spare = self.spare.max(n as usize);
+        self.updates.reserve(n)?;
+        self.spare = self.spare.max(n);
         Ok(())
     }
 
@@ -98,6 +98,14 @@ impl<N: Numbering> Log<N> {
             Some(update) => N::number(update),
             None => self.applied,
         }
+    }
+
+    /// How many updates there are above the applied number.
+    pub fn len(&self) -> usize
+        ensures len { result ≡ length self.now.updates }
+        ensures few { result < 2 ^ 63 }
+    {
+        self.updates.len()
     }
 
     /// Hands out the first update, which is then applied.

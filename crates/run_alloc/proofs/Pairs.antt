@@ -82,7 +82,7 @@ module _ (a l : Shelved) (spare : ℕ) (paired : IsPaired a l spare) where
     }
 
   pub paired_reserved : (a' l' : Shelved) (n : ℕ) → a'.order ≡ a.order → l'.order ≡ l.order → a'.runs ≡ a.runs → l'.runs ≡ l.runs
-      → n ≤ a'.spare → n ≤ l'.spare → a'.spare ≤ n + 127 → l'.spare ≤ n + 127 → length a.runs + n ≤ 2 ^ 33 → IsPaired a' l' n
+      → n ≤ a'.spare → n ≤ l'.spare → a'.spare ≤ n + 127 → l'.spare ≤ n + 127 → length a.runs + n + 127 < 2 ^ 64 → IsPaired a' l' n
   paired_reserved a' l' n same_a same_l runs_a runs_l room_a room_l most_a most_l few = record {
     by_address = same_a ∙ paired.by_address;
     by_length = same_l ∙ paired.by_length;

@@ -1,5 +1,5 @@
 -- What the runs in both orders are seen as, and what ties the orders together.
-use Rattle.std.specs.Prelude.{◌≡◌, ℕ, ◌+◌, ◌≤◌, ◌^◌, List, length}
+use Rattle.std.specs.Prelude.{◌≡◌, ℕ, ◌+◌, ◌<◌, ◌≤◌, ◌^◌, List, length}
 use Rattle.run_alloc.specs.declared.order.Run.{Run}
 use Rattle.run_alloc.specs.declared.order.Order.TheVariants.{Address, Length}
 use Rattle.run_alloc.specs.Runs.{IsSpread, IsSame}
@@ -20,4 +20,4 @@ pub record IsPaired (addresses lengths : Shelved) (spare : ℕ) : Type 0 where
   pub length_room : spare ≤ lengths.spare
   pub most : addresses.spare ≤ spare + 127
   pub length_most : lengths.spare ≤ spare + 127
-  pub few : length addresses.runs + spare ≤ 2 ^ 33
+  pub few : length addresses.runs + spare + 127 < 2 ^ 64

@@ -1,5 +1,5 @@
 -- What a shelf of runs is seen as, and what it keeps.
-use Rattle.std.specs.Prelude.{◌≡◌, ℕ, ◌+◌, ◌*◌, ◌≤◌, ◌^◌, List, length, Vec, vec_capacity}
+use Rattle.std.specs.Prelude.{◌≡◌, ℕ, ◌+◌, ◌*◌, ◌<◌, ◌≤◌, ◌^◌, List, length, Vec, vec_capacity}
 use Rattle.std.specs.List.{All}
 use Rattle.std.specs.declared.alloc.Global.{Global}
 use Rattle.run_alloc.specs.declared.order.Run.{Run}
@@ -21,6 +21,6 @@ pub record IsShelf (order : Order) (chunks : Vec Chunk Global) (stock : Vec (Vec
   pub even : IsEven chunks.items
   pub blank : All IsBlank stock.items
   pub room : (length chunks.items + length stock.items) * 128 ≡ length (runs_in chunks.items) + spare + 256
-  pub few : length (runs_in chunks.items) + spare ≤ 2 ^ 34
+  pub few : length (runs_in chunks.items) + spare < 2 ^ 64
   pub chunks_fit : length chunks.items + length stock.items ≤ vec_capacity chunks
   pub stock_fits : length chunks.items + length stock.items ≤ vec_capacity stock

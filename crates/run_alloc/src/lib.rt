@@ -3,7 +3,7 @@
 //! kept. What the addresses hold is left to the caller.
 #![tactic(auto)]
 
-ghost use Rattle.std.specs.Prelude.{◌≡◌, ℕ, ◌+◌, ◌<◌, ◌≤◌, ◌||◌, ◌&&◌, Some, codes, max, nat_lt, not, IfOk, IsOk, OnOk, OnErr, MatchOption, MatchResult};
+ghost use Rattle.std.specs.Prelude.{◌≡◌, ℕ, ◌+◌, ◌<◌, ◌≤◌, ◌^◌, ◌||◌, ◌&&◌, Some, codes, max, nat_lt, not, IfOk, IsOk, OnOk, OnErr, MatchOption, MatchResult};
 ghost use Rattle.run_alloc.specs.Free.{is_free, in_run, AllFree, NoneFree, IsPlace, NoPlace};
 
 use cuts::carve;
@@ -72,7 +72,8 @@ impl FreeRuns {
     }
 
     /// Makes room for `n` calls of `give` or `take_at`.
-    pub fn reserve(&mut self, n: u32) -> Result<(), AllocError>
+    pub fn reserve(&mut self, n: usize) -> Result<(), AllocError>
+        requires few { n + 2 ^ 33 ≤ 2 ^ 64 }
         ensures size { self.new.size ≡ self.old.size }
         ensures free { self.new.free ≡ self.old.free }
         ensures spare { self.old.spare ≤ self.new.spare }

@@ -43,7 +43,8 @@ impl Runs {
     }
 
     /// Makes room for `n` more runs.
-    pub fn reserve(&mut self, n: u32) -> Result<(), AllocError>
+    pub fn reserve(&mut self, n: usize) -> Result<(), AllocError>
+        requires few { n + 2 ^ 33 ≤ 2 ^ 64 }
         ensures runs { self.new.runs ≡ self.old.runs }
         ensures ok { OnOk result (self.new.spare ≡ max self.old.spare n) }
         ensures err { OnErr result (self.new.spare ≡ self.old.spare) }
@@ -54,7 +55,7 @@ impl Runs {
             self.by_address.shrink(self.spare);
             return Err(fault);
         }
-        self.spare = self.spare.max(n as usize);
+        self.spare = self.spare.max(n);
         Ok(())
     }
 

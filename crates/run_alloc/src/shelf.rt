@@ -51,8 +51,8 @@ impl Shelf {
     }
 
     /// Makes room for `n` more runs, or up to 127 above that.
-    pub fn reserve(&mut self, n: u32) -> Result<(), AllocError>
-        requires few { length self.old.runs ≤ 2 ^ 32 }
+    pub fn reserve(&mut self, n: usize) -> Result<(), AllocError>
+        requires few { length self.old.runs + n + 127 < 2 ^ 64 }
         ensures order { self.new.order ≡ self.old.order }
         ensures runs { self.new.runs ≡ self.old.runs }
         ensures ok { OnOk result (max self.old.spare n ≤ self.new.spare) }
@@ -60,7 +60,6 @@ impl Shelf {
         ensures err { OnErr result (self.new.spare ≡ self.old.spare) }
         ensures succeeds { n ≤ self.old.spare → IsOk result }
     {
-        let n = n as usize;
         if n <= self.spare {
             return Ok(());
         }

@@ -24,23 +24,15 @@ impl Sessions {
         let number = self.last + 1;
         let alloc = *self.rebuilt.allocator();
         let session = OpenSession::new(alloc, self.shape, number, block, lost, &rows)?;
-        let count = one_more(&self.sessions)?;
-        make_room(&mut self.rebuilt, count)?;
+        make_room(&mut self.rebuilt, self.sessions.len() + 1)?;
         self.sessions.push(session)?;
         self.last = number;
         Ok(number)
     }
 }
 
-// How many sessions there are with one more.
-fn one_more(sessions: &[OpenSession]) -> Result<u32, AllocError>
-    ensures { IfOk result (λ count. count ≡ length sessions.now + 1) }
-{
-    u32::try_from(sessions.len() + 1).map_err(|_| AllocError)
-}
-
 // Makes room for this many further pages of each partition.
-fn make_room(rebuilt: &mut [Pages], count: u32) -> Result<(), AllocError>
+fn make_room(rebuilt: &mut [Pages], count: usize) -> Result<(), AllocError>
     ensures blocks { map rebuilt_in rebuilt.new ≡ map rebuilt_in rebuilt.old }
     ensures kept { (s : Dimensions) (most : ℕ) → AreRebuilt s most rebuilt.old → AreRebuilt s most rebuilt.new }
     ensures room { OnOk result ((s : Dimensions) (most : ℕ) → most ≤ count → AreRebuilt s 0 rebuilt.old → AreRebuilt s most rebuilt.new) }

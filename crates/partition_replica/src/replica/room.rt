@@ -1,4 +1,4 @@
-ghost use Rattle.std.specs.Prelude.{◌≡◌, ℕ, ◌+◌, ◌*◌, ◌≤◌, ◌||◌, ◌&&◌, not, [], ◌∷◌, length, Bool, List, IfOk, IsOk, OnOk, OnErr};
+ghost use Rattle.std.specs.Prelude.{◌≡◌, ℕ, ◌+◌, ◌*◌, ◌<◌, ◌≤◌, ◌^◌, ◌||◌, ◌&&◌, not, [], ◌∷◌, length, Bool, List, IsOk, OnOk, OnErr};
 ghost use Rattle.group_types.specs.Lists.{same_key};
 ghost use Rattle.partition_replica.specs.State.{GrowsFor, HasRoom, IsTidyBut, is_among, is_needed, is_touched};
 
@@ -29,6 +29,7 @@ impl Replica {
 
     /// Makes room for all updates of a list. The caller owes a `tidy` of each key.
     pub fn reserve_list(&mut self, list: &UpdateList) -> Result<(), AllocError>
+        requires few { length list.now < 2 ^ 32 }
         ensures shape { self.new.shape ≡ self.old.shape }
         ensures replica { self.new.replica ≡ self.old.replica }
         ensures ok { OnOk result (HasRoom self.new.room list.now) }
@@ -42,6 +43,7 @@ impl Replica {
     }
 
     fn reserve_all(&mut self, updates: &[Update]) -> Result<(), AllocError>
+        requires few { length updates.now < 2 ^ 32 }
         ensures shape { self.new.shape ≡ self.old.shape }
         ensures replica { self.new.replica ≡ self.old.replica }
         ensures ok { OnOk result (HasRoom self.new.room updates.now) }
@@ -51,16 +53,16 @@ impl Replica {
         ensures succeeds { HasRoom self.old.room updates.now → IsOk result }
     {
         items::prepare(&mut self.index, updates)?;
-        if updates.len() <= self.spare as usize {
+        if updates.len() <= self.spare {
             return Ok(());
         }
-        let count = u32::try_from(updates.len()).map_err(|_| AllocError)?;
-        self.grow(count)
+        self.grow(updates.len())
     }
 
     // Room for `spare` updates, which is more than there is, in the log and among the free runs.
-    fn grow(&mut self, spare: u32) -> Result<(), AllocError>
-        requires { self.old.room.spare ≤ spare }
+    fn grow(&mut self, spare: usize) -> Result<(), AllocError>
+        requires more { self.old.room.spare ≤ spare }
+        requires few { spare < 2 ^ 32 }
         ensures shape { self.new.shape ≡ self.old.shape }
         ensures replica { self.new.replica ≡ self.old.replica }
         ensures ready { self.new.room.ready ≡ self.old.room.ready }
@@ -69,7 +71,7 @@ impl Replica {
         ensures err { OnErr result (self.new.room.spare ≡ self.old.room.spare) }
     {
         self.log.reserve(spare)?;
-        self.runs.reserve(runs_needed(&self.log, spare)?)?;
+        self.runs.reserve(runs_needed(&self.log, spare))?;
         self.spare = spare;
         Ok(())
     }
@@ -90,10 +92,10 @@ impl Replica {
 
 // How many runs have to fit for the updates of the log, of which each needs one to be settled or
 // dropped, and for `spare` further ones, which need another to be received.
-fn runs_needed(log: &Log<Updates>, spare: u32) -> Result<u32, AllocError>
-    ensures { IfOk result (λ n. n ≡ length log.now.updates + 2 * spare) }
+fn runs_needed(log: &Log<Updates>, spare: usize) -> usize
+    requires { spare < 2 ^ 32 }
+    ensures needed { result ≡ length log.now.updates + 2 * spare }
+    ensures few { result < 2 ^ 63 + 2 ^ 33 }
 {
-    let waiting = log.last() - log.applied();
-    let needed = waiting.saturating_add(2 * u64::from(spare));
-    u32::try_from(needed).map_err(|_| AllocError)
+    log.len() + 2 * spare
 }
