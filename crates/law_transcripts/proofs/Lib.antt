@@ -1,1 +1,9 @@
+pub mod PlacedGrow
+pub mod PlacedRuns
+pub mod ShownAlong
+pub mod ShownLines
+pub mod ShownLook
+pub mod ShownTrue
+pub mod ShownWhole
 pub mod Telling
+pub mod Turns
