@@ -38,14 +38,16 @@ use Rattle.law_transcripts.proofs.Telling.{places_of}
 
 -- ---- as many runs as updates
 
-runs-shown : (s : Dimensions) (d : ℕ) (store : Store) (us : List Update) (ls : List Logged) → AreShown s d store us ls → map (λ l. l.run) ls ≡ map (λ u. run_of u.body) us
+runs-shown : (s : Dimensions) (d : ℕ) (store : Store) (us : List Update) (ls : List Logged) → AreShown s d store us ls
+    → map (λ l. l.run) ls ≡ map (λ u. run_of u.body) us
 runs-shown s d store [] [] shown = refl
 runs-shown s d store [] (l ∷ ls) shown = absurd shown
 runs-shown s d store (u ∷ us) [] shown = absurd shown
 runs-shown s d store (u ∷ us) (l ∷ ls) shown =
     ap₂ (λ (r : Option Run) (rs : List (Option Run)). r ∷ rs) (sym shown.0.logged.run) (runs-shown s d (stored s d u store) us ls shown.1)
 
-numbers-after : (s : Dimensions) (es : List Event) → IsRun s es → (d : ℕ) → d < s.k → map (λ l. l.run) (updates_of (after s es) d) ≡ at [] (after s es).places d
+numbers-after : (s : Dimensions) (es : List Event) → IsRun s es → (d : ℕ) → d < s.k
+    → map (λ l. l.run) (updates_of (after s es) d) ≡ at [] (after s es).places d
 numbers-after s es run d low =
     let always : StandsAlways s = stands-always s (whole-always s) in
     runs-shown s d (no_store s) (at [] (book_of s es).history.settled d) (updates_of (after s es) d) (log_shows_settled s always es run d low).updates
@@ -53,18 +55,23 @@ numbers-after s es run d low =
 
 -- the runs of a partition's updates, by number, are its places
 pub numbers-are : (s : Dimensions) (w : World) (d : ℕ) → IsLedTo s w → d < s.k → map (λ l. l.run) (updates_of w d) ≡ at [] w.places d
-numbers-are s w d led low = subst (λ (v : World). map (λ l. l.run) (updates_of v d) ≡ at [] v.places d) (sym led.is) (numbers-after s led.events led.run d low)
+numbers-are s w d led low = subst (λ (v : World). map (λ l. l.run) (updates_of v d) ≡ at [] v.places d) (sym led.is)
+    (numbers-after s led.events led.run d low)
 
 counts-are : (k d : ℕ) (t : Contents) (runs : List (Option Run)) (es : List Entry) → count_in k d es ≡ length (updates_from k d t runs es)
 counts-are k d t runs [] = refl
-counts-are k d t runs (e ∷ es) = by (is_update_of k d e) (record { entry = e; run = next_run runs; item = (table_after t e.op).items (key_of e.op.act) }) (λ r. counts-are k d (table_after t e.op) r es) where
+counts-are k d t runs (e ∷ es) = by (is_update_of k d e) u (λ r. counts-are k d (table_after t e.op) r es) where
+  u : Logged
+  u = record { entry = e; run = next_run runs; item = (table_after t e.op).items (key_of e.op.act) }
+
   by : (b : Bool) (u : Logged) → ((r : List (Option Run)) → count_in k d es ≡ length (updates_from k d (table_after t e.op) r es))
       → one_if b (count_in k d es) ≡ length (front_if b u (updates_from k d (table_after t e.op) (runs_left b runs) es))
   by true u same = ap suc (same (runs_left true runs))
   by false u same = same (runs_left false runs)
 
 -- places that begin with those of a group leave its updates as they are
-pub updates-stay : (s : Dimensions) (w : World) (d : ℕ) (runs : List (Option Run)) → IsLedTo s w → d < s.k → Begins (at [] w.places d) runs → updates_from s.k d (empty_table s.k) runs w.log ≡ updates_of w d
+pub updates-stay : (s : Dimensions) (w : World) (d : ℕ) (runs : List (Option Run)) → IsLedTo s w → d < s.k → Begins (at [] w.places d) runs
+    → updates_from s.k d (empty_table s.k) runs w.log ≡ updates_of w d
 updates-stay s w d runs led low begins =
     ap (λ (r : List (Option Run)). updates_from s.k d (empty_table s.k) r w.log) begins.is
     ∙ updates-runs s.k d (empty_table s.k) (at [] w.places d) begins.rest w.log (omega (arith, many, counted))
@@ -89,7 +96,8 @@ at-places s w d led low =
 
 -- the updates by the runs that are told are those of the group
 updates-are : (s : Dimensions) (w : World) (d : ℕ) → IsLedTo s w → d < s.k → updates_by s (places_of w) w.log d ≡ updates_of w d
-updates-are s w d led low = ap (λ (r : List (Option Run)). updates_from s.k d (empty_table s.k) r w.log) (at-places s w d led low) ∙ updates-stay s w d (at [] w.places d) led low (begins-alike (at [] w.places d))
+updates-are s w d led low = ap (λ (r : List (Option Run)). updates_from s.k d (empty_table s.k) r w.log) (at-places s w d led low)
+    ∙ updates-stay s w d (at [] w.places d) led low (begins-alike (at [] w.places d))
 
 -- ---- each update stands right
 
@@ -120,12 +128,15 @@ stands-right w d n u values runs low there = by (brings_value u.entry.op.act) u.
   by false (Some run) is none = absurd (cc (is, none))
 
 -- so do all of them
-stand-right : (s : Dimensions) (before us : List Logged) → ((n : ℕ) (u : Logged) → slice_get us n ≡ Some u → StandsRight s (before ++ take n us) u (brings_value u.entry.op.act)) → StandRight s before us
+stand-right : (s : Dimensions) (before us : List Logged)
+    → ((n : ℕ) (u : Logged) → slice_get us n ≡ Some u → StandsRight s (before ++ take n us) u (brings_value u.entry.op.act))
+    → StandRight s before us
 stand-right s before [] each = tt
 stand-right s before (u ∷ us) each = (
   subst (λ (b : List Logged). StandsRight s b u (brings_value u.entry.op.act)) (append-nil before) (each 0 u refl),
   stand-right s (before ++ u ∷ []) us
-      (λ n v there. subst (λ (b : List Logged). StandsRight s b v (brings_value v.entry.op.act)) (sym (append_assoc before (u ∷ []) (take n us))) (each (suc n) v there)),
+      (λ n v there. subst (λ (b : List Logged). StandsRight s b v (brings_value v.entry.op.act))
+      (sym (append_assoc before (u ∷ []) (take n us))) (each (suc n) v there)),
 )
 
 right-by : (s : Dimensions) (w : World) (d : ℕ) → IsLedTo s w → d < s.k → StandRight s [] (updates_of w d)

@@ -21,7 +21,7 @@ use Rattle.scenario_run.proofs.Leading.{IsLedTo, Leads, leads-log, leads-then, l
 use Rattle.scenario_run.proofs.Running.{GoesOn, line-leads, parts}
 use Rattle.run_verify.specs.Checked.{AreWellShown, IsWellShown}
 use Rattle.run_verify.specs.Plain.{EndsPlacing}
-use Rattle.run_verify.specs.Told.{Told, runs_told, turns_in, turns_told}
+use Rattle.run_verify.specs.Told.{Told, runs_told, turns_told}
 use Rattle.run_verify.specs.declared.step.Step.{Step}
 use Rattle.run_verify.specs.declared.step.Step.TheVariants.{Look}
 use Rattle.law_transcripts.proofs.PlacedGrow.{Begins, leads-grow}
@@ -38,11 +38,16 @@ pub record Course (s : Dimensions) (w : World) (turns : List Turn) (steps : List
   pub runs : runs_told told ≡ places_of last
   pub shown : AreWellShown s (places_of last) w.log steps told
 
--- a line behind which nothing more is asked asks for the places
-last-line : (s : Dimensions) (p : Play) (l : Result Line LineFault) (next : Option Play) (turns : List Turn) (text : List ℕ) (lines : List (List ℕ)) → l ≡ Ok Places → next_by (Some p) l ≡ Goes next turns text
-    → EndsPlacing (steps_on (Some p) l ++ steps_along next lines)
-    → Course s p.world (turns ++ course.turns_in next_of next lines) (steps_on (Some p) l ++ steps_along next lines) (told_on (Some p) l ++ told_along next lines)
-last-line s p l next turns text lines is goes ends = subst (λ (x : Result Line LineFault). Course s p.world (turns ++ course.turns_in next_of next lines) (steps_on (Some p) x ++ steps_along next lines) (told_on (Some p) x ++ told_along next lines)) (sym is) (record {
+-- for a line that is read so, and for those behind it
+abbrev FromLine : Dimensions → Play → List Turn → Option Play → List (List ℕ) → Result Line LineFault → Type 0
+FromLine s p turns next lines l = Course s p.world (turns ++ course.turns_in next_of next lines) (steps_on (Some p) l ++ steps_along next lines)
+    (told_on (Some p) l ++ told_along next lines)
+
+-- a line that asks for the places is the last that asks something
+last-line : (s : Dimensions) (p : Play) (l : Result Line LineFault) (next : Option Play) (turns : List Turn) (text : List ℕ) (lines : List (List ℕ))
+    → l ≡ Ok Places → next_by (Some p) l ≡ Goes next turns text → EndsPlacing (steps_on (Some p) l ++ steps_along next lines)
+    → FromLine s p turns next lines l
+last-line s p l next turns text lines is goes ends = subst (FromLine s p turns next lines) (sym is) (record {
   last = p.world;
   leads = record { events = []; run = tt; turns_are = sym all; to = refl };
   runs = ap (λ (xs : List Told). places_of p.world ++ runs_told xs) silent ∙ append-nil (places_of p.world);
@@ -56,21 +61,25 @@ last-line s p l next turns text lines is goes ends = subst (λ (x : Result Line 
     silent = none-told next lines none
 
     quiet : turns ≡ []
-    quiet = let both = parts (Some p) next [] turns (placed_text [] p.world) text (subst (λ (x : Result Line LineFault). next_by (Some p) x ≡ Goes next turns text) is goes) in both.1
+    quiet = let both = parts (Some p) next [] turns (placed_text [] p.world) text
+        (subst (λ (x : Result Line LineFault). next_by (Some p) x ≡ Goes next turns text) is goes) in both.1
 
     all : turns ++ course.turns_in next_of next lines ≡ []
     all = ap (λ (ts : List Turn). ts ++ course.turns_in next_of next lines) quiet ∙ sym (turns-along next lines) ∙ ap turns_told silent
 
 -- a look on the way to a group is well shown with the runs of that group
-look-on : (s : Dimensions) (p : Play) (l : Result Line LineFault) (v : World) (turns : List Turn) → IsLedTo s p.world → Leads p.world v turns → ((l' : Line) → l ≡ Ok l' → IsLineOf (Some p.world.shape) l')
+look-on : (s : Dimensions) (p : Play) (l : Result Line LineFault) (v : World) (turns : List Turn) → IsLedTo s p.world
+    → Leads p.world v turns → ((l' : Line) → l ≡ Ok l' → IsLineOf (Some p.world.shape) l')
     → (from : ProcessId) (run : Run) → l ≡ Ok (Show from run) → IsWellShown s (places_of v) p.world.log (Look from run) (looked p.world from run)
 look-on s p l v turns led leads within from run is = look-shown s p.world (places_of v) from run led begins (within (Show from run) is).0 where
   begins : (d : ℕ) → d < s.k → Begins (at [] p.world.places d) (at [] (places_of v) d)
   begins d low = subst (Begins (at [] p.world.places d)) (sym (at-places s v d (led-on s p.world v turns led leads) low)) (leads-grow p.world v turns leads d)
 
 -- another line, and what is told behind it
-other-line : (s : Dimensions) (p : Play) (l : Result Line LineFault) (v : World) (turns more : List Turn) (steps : List Step) (told : List Told) → IsLedTo s p.world → Leads p.world v turns
-    → ((l' : Line) → l ≡ Ok l' → IsLineOf (Some p.world.shape) l') → turns_told (told_on (Some p) l) ≡ turns → IsOther p l → Course s v more steps told
+other-line : (s : Dimensions) (p : Play) (l : Result Line LineFault) (v : World) (turns more : List Turn) (steps : List Step)
+    (told : List Told) → IsLedTo s p.world → Leads p.world v turns
+    → ((l' : Line) → l ≡ Ok l' → IsLineOf (Some p.world.shape) l') → turns_told (told_on (Some p) l) ≡ turns → IsOther p l
+    → Course s v more steps told
     → Course s p.world (turns ++ more) (steps_on (Some p) l ++ steps) (told_on (Some p) l ++ told)
 other-line s p l v turns more steps told led leads within told_is other rest = record {
   last = rest.last;
@@ -95,7 +104,8 @@ module _ (s : Dimensions) where
     within l reads = line_of-within (Some p.world.shape) line l reads
 
     by : (next : PlayNext) → next_of (Some p) line ≡ next → EndsPlacing (steps_after (Some p) line next lines)
-        → ((q : Play) → IsLedTo s q.world → EndsPlacing (steps_along (Some q) lines) → Course s q.world (course.turns_in next_of (Some q) lines) (steps_along (Some q) lines) (told_along (Some q) lines))
+        → ((q : Play) → IsLedTo s q.world → EndsPlacing (steps_along (Some q) lines)
+        → Course s q.world (course.turns_in next_of (Some q) lines) (steps_along (Some q) lines) (told_along (Some q) lines))
         → Course s p.world (turns_after next_of next lines) (steps_after (Some p) line next lines) (told_after (Some p) line next lines)
     by Ends is ends later = absurd ends
     by (Refused cause) is ends later = absurd ends
@@ -103,9 +113,12 @@ module _ (s : Dimensions) where
       on : GoesOn p.world next turns
       on = line-leads s p line next turns text led is
 
-      either : (line_of (Some p.world.shape) line ≡ Ok Places) ⊎ IsOther p (line_of (Some p.world.shape) line) → Course s p.world (turns ++ course.turns_in next_of next lines) (steps_on (Some p) (line_of (Some p.world.shape) line) ++ steps_along next lines) (told_on (Some p) (line_of (Some p.world.shape) line) ++ told_along next lines)
+      either : (line_of (Some p.world.shape) line ≡ Ok Places) ⊎ IsOther p (line_of (Some p.world.shape) line)
+          → FromLine s p turns next lines (line_of (Some p.world.shape) line)
       either (inl places) = last-line s p (line_of (Some p.world.shape) line) next turns text lines places is ends
       either (inr other) =
-          let rest = later on.play (led-on s p.world on.play.world turns led on.leads) (subst (λ (q : Option Play). EndsPlacing (steps_along q lines)) on.is (other.ends (steps_along next lines) ends)) in
-          other-line s p (line_of (Some p.world.shape) line) on.play.world turns (course.turns_in next_of next lines) (steps_along next lines) (told_along next lines) led on.leads within (turns-line-told (Some p) line next turns text is) other
+          let rest = later on.play (led-on s p.world on.play.world turns led on.leads)
+          (subst (λ (q : Option Play). EndsPlacing (steps_along q lines)) on.is (other.ends (steps_along next lines) ends)) in
+          other-line s p (line_of (Some p.world.shape) line) on.play.world turns (course.turns_in next_of next lines)
+          (steps_along next lines) (told_along next lines) led on.leads within (turns-line-told (Some p) line next turns text is) other
           (subst (λ (q : Option Play). Course s on.play.world (course.turns_in next_of q lines) (steps_along q lines) (told_along q lines)) (sym on.is) rest)

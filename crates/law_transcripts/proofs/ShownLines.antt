@@ -50,12 +50,14 @@ lengths-on (Some p) (Ok l) = lengths-by p l
 
 -- the steps of a line that does this, and of those behind it
 abbrev pub steps_after : Option Play → List ℕ → PlayNext → List (List ℕ) → List Step
-steps_after play line next lines = elim next [ Goes state turns text ↦ steps_on play (line_of (shape_in play) line) ++ steps_along state lines | Ends ↦ [] | Refused cause ↦ [] ]
+steps_after play line next lines = elim next
+    [ Goes state turns text ↦ steps_on play (line_of (shape_in play) line) ++ steps_along state lines | Ends ↦ [] | Refused cause ↦ [] ]
 
 as-many : (play : Option Play) (lines : List (List ℕ)) → length (steps_along play lines) ≡ length (told_along play lines)
 as-many play [] = refl
 as-many play (line ∷ lines) = by (next_of play line) (λ q. as-many q lines) where
-  by : (next : PlayNext) → ((q : Option Play) → length (steps_along q lines) ≡ length (told_along q lines)) → length (steps_after play line next lines) ≡ length (told_after play line next lines)
+  by : (next : PlayNext) → ((q : Option Play) → length (steps_along q lines) ≡ length (told_along q lines))
+      → length (steps_after play line next lines) ≡ length (told_after play line next lines)
   by Ends later = refl
   by (Refused cause) later = refl
   by (Goes next turns text) later =
@@ -96,14 +98,16 @@ places-or-other p (Ok (Fail from keep)) = inr (record { runs = refl; ends = λ s
 places-or-other p (Ok (Flush from)) = inr (record { runs = refl; ends = λ steps ends. ends })
 places-or-other p (Ok (Trace caller call d from)) = inr (record { runs = refl; ends = λ steps ends. ends })
 places-or-other p (Ok Drain) = inr (record { runs = refl; ends = λ steps ends. ends })
-places-or-other p (Ok (Show from run)) = inr (record { runs = append-nil (runs_in (looked p.world from run)) ∙ runs-looked p from run; ends = λ steps ends. ends })
+places-or-other p (Ok (Show from run)) = inr
+    (record { runs = append-nil (runs_in (looked p.world from run)) ∙ runs-looked p from run; ends = λ steps ends. ends })
 places-or-other p (Ok Places) = inl refl
 places-or-other p (Ok (Time moment)) = inr (record { runs = refl; ends = λ steps ends. ends })
 places-or-other p (Ok Stop) = inr (record { runs = refl; ends = λ steps ends. ends })
 
 pub runs-append : (xs ys : List Told) → runs_told (xs ++ ys) ≡ runs_told xs ++ runs_told ys
 runs-append [] ys = refl
-runs-append (x ∷ xs) ys = ap (λ (rs : List (List (Option Run))). runs_in x ++ rs) (runs-append xs ys) ∙ sym (append_assoc (runs_in x) (runs_told xs) (runs_told ys))
+runs-append (x ∷ xs) ys = ap (λ (rs : List (List (Option Run))). runs_in x ++ rs) (runs-append xs ys)
+    ∙ sym (append_assoc (runs_in x) (runs_told xs) (runs_told ys))
 
 -- ---- bytes
 
@@ -111,22 +115,27 @@ module _ (s : Dimensions) (runs : List (List (Option Run))) (log : List Entry) (
   none-shown : AreWellShown s runs (log ++ []) steps more → AreWellShown s runs log steps more
   none-shown rest = subst (λ (es : List Entry). AreWellShown s runs es steps more) (append-nil log) rest
 
-  one-shown : (step : Step) (told : Told) → IsWellShown s runs log step told → AreWellShown s runs (log ++ log_of (turns_told (told ∷ []))) steps more → AreWellShown s runs log (step ∷ steps) (told ∷ more)
+  one-shown : (step : Step) (told : Told) → IsWellShown s runs log step told
+      → AreWellShown s runs (log ++ log_of (turns_told (told ∷ []))) steps more → AreWellShown s runs log (step ∷ steps) (told ∷ more)
   one-shown step told is rest = (is, subst (λ (ts : List Turn). AreWellShown s runs (log ++ log_of ts) steps more) (append-nil (turns_in told)) rest)
 
   -- what is told for a line is well shown, where a look is, and so is what is told behind it
-  pub line-shown : (p : Play) (l : Result Line LineFault) → ((from : ProcessId) (run : Run) → l ≡ Ok (Show from run) → IsWellShown s runs log (Look from run) (looked p.world from run))
-      → AreWellShown s runs (log ++ log_of (turns_told (told_on (Some p) l))) steps more → AreWellShown s runs log (steps_on (Some p) l ++ steps) (told_on (Some p) l ++ more)
+  pub line-shown : (p : Play) (l : Result Line LineFault)
+      → ((from : ProcessId) (run : Run) → l ≡ Ok (Show from run) → IsWellShown s runs log (Look from run) (looked p.world from run))
+      → AreWellShown s runs (log ++ log_of (turns_told (told_on (Some p) l))) steps more
+      → AreWellShown s runs log (steps_on (Some p) l ++ steps) (told_on (Some p) l ++ more)
   line-shown p (Err fault) look rest = none-shown rest
   line-shown p (Ok Skipped) look rest = none-shown rest
   line-shown p (Ok (Group shape)) look rest = none-shown rest
   line-shown p (Ok (Ask caller from act)) look rest =
       let e : Event = happens.Ask caller (record { moment = p.moment; act = act }) from in one-shown (Make e) (Made (step p.world e).turn) tt rest
-  line-shown p (Ok (Collect caller call from)) look rest = let e : Event = happens.Collect caller call from in one-shown (Make e) (Made (step p.world e).turn) tt rest
+  line-shown p (Ok (Collect caller call from)) look rest = let e : Event = happens.Collect caller call from in
+      one-shown (Make e) (Made (step p.world e).turn) tt rest
   line-shown p (Ok (Deliver from to)) look rest = let e : Event = happens.Deliver from to in one-shown (Make e) (Made (step p.world e).turn) tt rest
   line-shown p (Ok (Fail from keep)) look rest = let e : Event = happens.Fail from keep in one-shown (Make e) (Made (step p.world e).turn) tt rest
   line-shown p (Ok (Flush from)) look rest = let e : Event = happens.Flush from in one-shown (Make e) (Made (step p.world e).turn) tt rest
-  line-shown p (Ok (Trace caller call d from)) look rest = let e : Event = happens.Trace caller call d from in one-shown (Make e) (Made (step p.world e).turn) tt rest
+  line-shown p (Ok (Trace caller call d from)) look rest = let e : Event = happens.Trace caller call d from in
+      one-shown (Make e) (Made (step p.world e).turn) tt rest
   line-shown p (Ok Drain) look rest = let ts : List Turn = turns_from p.world (draining p.world) in one-shown Deliveries (Drained ts (length ts)) tt rest
   line-shown p (Ok (Show from run)) look rest = one-shown (Look from run) (looked p.world from run) (look from run refl) rest
   line-shown p (Ok Places) look rest = one-shown Placing (Placed (places_of p.world)) tt rest

@@ -41,16 +41,20 @@ module _ (w : World) (runs : List (List (Option Run))) (same : (d : ℕ) → d <
   reached : (d n : ℕ) → d < w.shape.k → n ≤ length (updates_of w d) → n ≤ counts d
   reached d n low within = let long = ap length (same d low) in omega (arith, within, long)
 
-  applied-at : (p : ProcessId) (d : ℕ) → d < w.shape.k → at 0 (map (λ (e : ℕ). (replica_of (process_of w p) e).applied) (range_with_len 0 w.shape.k)) d ≡ (replica_of (process_of w p) d).applied
+  applied-at : (p : ProcessId) (d : ℕ) → d < w.shape.k
+      → at 0 (map (λ (e : ℕ). (replica_of (process_of w p) e).applied) (range_with_len 0 w.shape.k)) d ≡ (replica_of (process_of w p) d).applied
   applied-at p d low =
       let here : 0 + d ≡ d = omega arith in
-      at-map-range 0 (λ (e : ℕ). (replica_of (process_of w p) e).applied) w.shape.k 0 d low ∙ ap (λ (e : ℕ). (replica_of (process_of w p) e).applied) here
+      at-map-range 0 (λ (e : ℕ). (replica_of (process_of w p) e).applied) w.shape.k 0 d low
+      ∙ ap (λ (e : ℕ). (replica_of (process_of w p) e).applied) here
 
   is-stamp : (p : ProcessId) → Lives w p → NotUndone w → IsStampOf w.shape counts p (stamp_of w p)
-  is-stamp (DataNode d) lives kept = ((replica_of (process_of w (DataNode d)) d).applied, refl, reached d (replica_of (process_of w (DataNode d)) d).applied lives.0 (kept.at_data d lives).applied)
+  is-stamp (DataNode d) lives kept =
+      let n : ℕ = (replica_of (process_of w (DataNode d)) d).applied in (n, refl, reached d n lives.0 (kept.at_data d lives).applied)
   is-stamp (ParityNode i) lives kept = (
     length-map-range_with_len (λ (e : ℕ). (replica_of (process_of w (ParityNode i)) e).applied) 0 w.shape.k,
-    λ d low. subst (λ (n : ℕ). n ≤ counts d) (sym (applied-at (ParityNode i) d low)) (reached d (replica_of (process_of w (ParityNode i)) d).applied low (kept.at_parity i d low lives).applied),
+    λ d low. subst (λ (n : ℕ). n ≤ counts d) (sym (applied-at (ParityNode i) d low))
+        (reached d (replica_of (process_of w (ParityNode i)) d).applied low (kept.at_parity i d low lives).applied),
   )
 
   -- ---- the bytes
@@ -73,7 +77,8 @@ module _ (w : World) (runs : List (List (Option Run))) (same : (d : ℕ) → d <
 
   -- ---- both
 
-  pub well-looked : (p : ProcessId) (run : Run) → IsProcess w.shape p → HoldsTruth w → (¬ (IsDown w) → NotUndone w) → IsWellShown w.shape runs w.log (Look p run) (looked w p run)
+  pub well-looked : (p : ProcessId) (run : Run) → IsProcess w.shape p → HoldsTruth w → (¬ (IsDown w) → NotUndone w)
+      → IsWellShown w.shape runs w.log (Look p run) (looked w p run)
   well-looked p run pin truth kept = by (is_down w) (is_dead w p) refl refl where
     by : (down dead : Bool) → is_down w ≡ down → is_dead w p ≡ dead
         → IsWellShown w.shape runs w.log (Look p run) (if down then Down else (if dead then Lost else Shown (stamp_of w p) (held w p run)))
@@ -85,18 +90,21 @@ module _ (w : World) (runs : List (List (Option Run))) (same : (d : ℕ) → d <
     )
 
 -- so it is after every run, with runs that begin with those of the group
-pub look-shown : (s : Dimensions) (w : World) (runs : List (List (Option Run))) (p : ProcessId) (run : Run) → IsLedTo s w → ((d : ℕ) → d < s.k → Begins (at [] w.places d) (at [] runs d))
+pub look-shown : (s : Dimensions) (w : World) (runs : List (List (Option Run))) (p : ProcessId) (run : Run) → IsLedTo s w
+    → ((d : ℕ) → d < s.k → Begins (at [] w.places d) (at [] runs d))
     → IsProcess w.shape p → IsWellShown s runs w.log (Look p run) (looked w p run)
-look-shown s w runs p run led begins pin = subst (λ (t : Dimensions). IsWellShown t runs w.log (Look p run) (looked w p run)) shape (well-looked w runs same p run pin truth kept) where
-  shape : w.shape ≡ s
-  shape = led-shape s w led
+look-shown s w runs p run led begins pin = subst (λ (t : Dimensions). IsWellShown t runs w.log (Look p run) (looked w p run)) shape
+    (well-looked w runs same p run pin truth kept)
+  where
+    shape : w.shape ≡ s
+    shape = led-shape s w led
 
-  same : (d : ℕ) → d < w.shape.k → updates_by w.shape runs w.log d ≡ updates_of w d
-  same d low = ap (λ (t : Dimensions). updates_by t runs w.log d) shape
-      ∙ (let small : d < s.k = subst (λ (t : Dimensions). d < t.k) shape low in updates-stay s w d (at [] runs d) led small (begins d small))
+    same : (d : ℕ) → d < w.shape.k → updates_by w.shape runs w.log d ≡ updates_of w d
+    same d low = ap (λ (t : Dimensions). updates_by t runs w.log d) shape
+        ∙ (let small : d < s.k = subst (λ (t : Dimensions). d < t.k) shape low in updates-stay s w d (at [] runs d) led small (begins d small))
 
-  truth : HoldsTruth w
-  truth = subst HoldsTruth (sym led.is) (truth_always s led.events led.run)
+    truth : HoldsTruth w
+    truth = subst HoldsTruth (sym led.is) (truth_always s led.events led.run)
 
-  kept : ¬ (IsDown w) → NotUndone w
-  kept = subst (λ (v : World). ¬ (IsDown v) → NotUndone v) (sym led.is) (headline_always s led.events led.run).not_undone
+    kept : ¬ (IsDown w) → NotUndone w
+    kept = subst (λ (v : World). ¬ (IsDown v) → NotUndone v) (sym led.is) (headline_always s led.events led.run).not_undone

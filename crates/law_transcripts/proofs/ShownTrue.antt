@@ -1,4 +1,4 @@
--- What a script tells none of whose lines is refused, and that ends with its places: a legal log, replies within their
+-- What a script tells whose group keeps its promises, and that ends with its places: a legal log, replies within their
 -- time, runs that are apart, and bytes as they were written.
 use Rattle.std.proofs.Common.{ℕ, ◌≡◌, List, [], Some, None, sym, subst, ◌∙◌}
 use Rattle.group_types.specs.Dimensions.{Dimensions}
@@ -9,8 +9,7 @@ use Rattle.scenario_run.specs.Lines.{lines_of}
 use Rattle.scenario_run.specs.Playing.{next_of}
 use Rattle.scenario_run.specs.Course.{named_in}
 use Rattle.scenario_run.specs.Promises.{KeepsPromises}
-use Rattle.scenario_run.specs.Script.{first_fault, shape_of}
-use Rattle.scenario_run.proofs.Promises.{scripts_keep_promises}
+use Rattle.scenario_run.specs.Script.{shape_of}
 use Rattle.run_verify.specs.Checked.{ArePlaced, AreWellShown, RepliesWithin}
 use Rattle.run_verify.specs.Plain.{EndsPlacing}
 use Rattle.run_verify.specs.Told.{Told, runs_told, turns_told}
@@ -26,18 +25,15 @@ pub record IsTold (s : Dimensions) (steps : List Step) (told : List Told) : Type
   pub placed : ArePlaced s (log_of (turns_told told)) (runs_told told)
   pub shown : AreWellShown s (runs_told told) [] steps told
 
-pub told-true : (text : List ℕ) (s : Dimensions) → first_fault text ≡ None → shape_of text ≡ Some s → EndsPlacing (steps_along None (lines_of text))
+pub told-true : (text : List ℕ) (s : Dimensions) → KeepsPromises text → shape_of text ≡ Some s → EndsPlacing (steps_along None (lines_of text))
     → IsTold s (steps_along None (lines_of text)) (told_along None (lines_of text))
-told-true text s fine named ends = record {
+told-true text s keeps named ends = record {
   legal = subst (λ (t : Dimensions). IsLegal t.k (log_of (turns_told told))) (some-same keeps.shape s (sym keeps.named ∙ named)) (legal-told text keeps);
   within = within-told text keeps;
   placed = subst (λ (t : Dimensions). ArePlaced t (log_of (turns_told told)) (runs_told told)) same all.placed;
   shown = subst (λ (t : Dimensions). AreWellShown t (runs_told told) [] (steps_along None (lines_of text)) told) same all.shown;
 }
   where
-    keeps : KeepsPromises text
-    keeps = scripts_keep_promises text fine
-
     told : List Told
     told = told_along None (lines_of text)
 

@@ -32,11 +32,13 @@ pub record IsWhole (named : Option Play) (steps : List Step) (told : List Told) 
 -- behind the group line
 opened-whole : (s : Dimensions) (lines : List (List ℕ)) → IsShape s
     → EndsPlacing (steps_along (Some (record { world = opening s; moment = 0 })) lines)
-    → IsWhole (Some (record { world = opening s; moment = 0 })) (steps_along (Some (record { world = opening s; moment = 0 })) lines) (told_along (Some (record { world = opening s; moment = 0 })) lines)
+    → IsWhole (Some (record { world = opening s; moment = 0 })) (steps_along (Some (record { world = opening s; moment = 0 })) lines)
+    (told_along (Some (record { world = opening s; moment = 0 })) lines)
 opened-whole s lines limits ends = record {
   shape = s;
   is_named = refl;
-  placed = subst (λ (rs : List (List (Option Run))). ArePlaced s (log_of (turns_told told)) rs) (sym on.runs) (subst (λ (es : List Entry). ArePlaced s es (places_of on.last)) log_is (are-placed s on.last led));
+  placed = subst (λ (rs : List (List (Option Run))). ArePlaced s (log_of (turns_told told)) rs) (sym on.runs)
+      (subst (λ (es : List Entry). ArePlaced s es (places_of on.last)) log_is (are-placed s on.last led));
   shown = subst (λ (rs : List (List (Option Run))). AreWellShown s rs [] (steps_along (Some p) lines) told) (sym on.runs) on.shown;
 }
   where
@@ -56,7 +58,8 @@ opened-whole s lines limits ends = record {
     log_is = leads-log (opening s) on.last (course.turns_in next_of (Some p) lines) on.leads ∙ ap log_of (sym (turns-along (Some p) lines))
 
 -- before it
-pub whole : (lines : List (List ℕ)) → EndsPlacing (steps_along None lines) → IsWhole (named_in next_of None lines) (steps_along None lines) (told_along None lines)
+pub whole : (lines : List (List ℕ)) → EndsPlacing (steps_along None lines)
+    → IsWhole (named_in next_of None lines) (steps_along None lines) (told_along None lines)
 whole [] ends = absurd ends
 whole (line ∷ lines) ends = by (next_of None line) refl ends (whole lines) where
   by : (next : PlayNext) → next_of None line ≡ next → EndsPlacing (steps_after None line next lines)

@@ -35,12 +35,15 @@ turns-append : (xs ys : List Told) → turns_told (xs ++ ys) ≡ turns_told xs +
 turns-append [] ys = refl
 turns-append (x ∷ xs) ys = ap (λ (ts : List Turn). turns_in x ++ ts) (turns-append xs ys) ∙ sym (append_assoc (turns_in x) (turns_told xs) (turns_told ys))
 
-by-event : (p : Play) (e : Event) (next : Option Play) (turns : List Turn) (text : List ℕ) → by_event p e ≡ Goes next turns text → (step p.world e).turn ∷ [] ≡ turns
+by-event : (p : Play) (e : Event) (next : Option Play) (turns : List Turn) (text : List ℕ) → by_event p e ≡ Goes next turns text
+    → (step p.world e).turn ∷ [] ≡ turns
 by-event p e next turns text is =
-    let both = parts (Some (record { world = (step p.world e).world; moment = p.moment })) next ((step p.world e).turn ∷ []) turns (turn_text (step p.world e).turn) text is in
+    let both = parts (Some (record { world = (step p.world e).world; moment = p.moment })) next ((step p.world e).turn ∷ []) turns
+    (turn_text (step p.world e).turn) text is in
     sym both.1
 
-by-trace : (p : Play) (caller call : ℕ) (e : Event) (next : Option Play) (turns : List Turn) (text : List ℕ) → by_trace p caller call e ≡ Goes next turns text → (step p.world e).turn ∷ [] ≡ turns
+by-trace : (p : Play) (caller call : ℕ) (e : Event) (next : Option Play) (turns : List Turn) (text : List ℕ)
+    → by_trace p caller call e ≡ Goes next turns text → (step p.world e).turn ∷ [] ≡ turns
 by-trace p caller call e next turns text is = by (nat_lt call (at 0 p.world.asked caller)) is where
   by : (b : Bool) → (if b then by_event p e else Refused BadLine) ≡ Goes next turns text → (step p.world e).turn ∷ [] ≡ turns
   by true goes = by-event p e next turns text goes
@@ -50,7 +53,8 @@ by-trace p caller call e next turns text is = by (nat_lt call (at 0 p.world.aske
 abbrev silently : Option Play → List ℕ → PlayNext
 silently next text = Goes next [] text
 
-quiet : (q : Option Play) (written : List ℕ) (next : Option Play) (turns : List Turn) (text : List ℕ) → silently q written ≡ Goes next turns text → [] ≡ turns
+quiet : (q : Option Play) (written : List ℕ) (next : Option Play) (turns : List Turn) (text : List ℕ)
+    → silently q written ≡ Goes next turns text → [] ≡ turns
 quiet q written next turns text is = let both = parts q next [] turns written text is in sym both.1
 
 -- a look tells no turn and no runs
@@ -61,7 +65,8 @@ quiet-look p from run = by (is_down p.world) (is_dead p.world from) where
   by false true = refl
   by false false = refl
 
-turns-by : (p : Play) (l : Line) (next : Option Play) (turns : List Turn) (text : List ℕ) → then_by p l ≡ Goes next turns text → turns_told (told_by p l) ≡ turns
+turns-by : (p : Play) (l : Line) (next : Option Play) (turns : List Turn) (text : List ℕ) → then_by p l ≡ Goes next turns text
+    → turns_told (told_by p l) ≡ turns
 turns-by p Skipped next turns text is = quiet (Some p) [] next turns text is
 turns-by p (Group shape) next turns text is = absurd (cc is)
 turns-by p (Ask caller from act) next turns text is = by-event p (happens.Ask caller (record { moment = p.moment; act = act }) from) next turns text is
@@ -74,16 +79,19 @@ turns-by p Drain next turns text is =
     let ts : List Turn = turns_from p.world (draining p.world) in
     let both = parts (Some (record { world = world_after p.world (draining p.world); moment = p.moment })) next ts turns (drained_text ts) text is in
     append-nil ts ∙ sym both.1
-turns-by p (Show from run) next turns text is = append-nil (turns_in (looked p.world from run)) ∙ quiet-look p from run ∙ quiet (Some p) (look p.world from (held p.world from run) ++ 10 ∷ []) next turns text is
+turns-by p (Show from run) next turns text is = append-nil (turns_in (looked p.world from run)) ∙ quiet-look p from run
+    ∙ quiet (Some p) (look p.world from (held p.world from run) ++ 10 ∷ []) next turns text is
 turns-by p Places next turns text is = quiet (Some p) (placed_text [] p.world) next turns text is
 turns-by p (Time moment) next turns text is = quiet (Some (record { world = p.world; moment = moment })) [] next turns text is
 turns-by p Stop next turns text is = absurd (cc is)
 
-turns-on : (p : Play) (l : Result Line LineFault) (next : Option Play) (turns : List Turn) (text : List ℕ) → next_by (Some p) l ≡ Goes next turns text → turns_told (told_on (Some p) l) ≡ turns
+turns-on : (p : Play) (l : Result Line LineFault) (next : Option Play) (turns : List Turn) (text : List ℕ)
+    → next_by (Some p) l ≡ Goes next turns text → turns_told (told_on (Some p) l) ≡ turns
 turns-on p (Err fault) next turns text is = absurd (cc is)
 turns-on p (Ok l) next turns text is = turns-by p l next turns text is
 
-pub turns-line-told : (play : Option Play) (line : List ℕ) (next : Option Play) (turns : List Turn) (text : List ℕ) → next_of play line ≡ Goes next turns text
+pub turns-line-told : (play : Option Play) (line : List ℕ) (next : Option Play) (turns : List Turn) (text : List ℕ)
+    → next_of play line ≡ Goes next turns text
     → turns_told (told_on play (line_of (shape_in play) line)) ≡ turns
 turns-line-told None line next turns text is = sym (line-opens line next turns text is).quiet
 turns-line-told (Some p) line next turns text is = turns-on p (line_of (Some p.world.shape) line) next turns text is
@@ -92,7 +100,8 @@ turns-line-told (Some p) line next turns text is = turns-on p (line_of (Some p.w
 
 -- what is told for a line that does this, and behind it
 abbrev pub told_after : Option Play → List ℕ → PlayNext → List (List ℕ) → List Told
-told_after play line next lines = elim next [ Goes state turns text ↦ told_on play (line_of (shape_in play) line) ++ told_along state lines | Ends ↦ [] | Refused cause ↦ [] ]
+told_after play line next lines = elim next
+    [ Goes state turns text ↦ told_on play (line_of (shape_in play) line) ++ told_along state lines | Ends ↦ [] | Refused cause ↦ [] ]
 
 pub turns-along : (play : Option Play) (lines : List (List ℕ)) → turns_told (told_along play lines) ≡ course.turns_in next_of play lines
 turns-along play [] = refl
