@@ -191,7 +191,7 @@ does-first (Ok Stop) = tt
 places-first : next_of None (codes "places") ≡ Refused BadLine
 places-first = refl
 
-abbrev GoalFirst : List (List ℕ) → Type 0
+abbrev pub GoalFirst : List (List ℕ) → Type 0
 GoalFirst lines = (n : ℕ) (script : Script) → script_in n None lines ≡ Ok script → EndsPlacing script.steps
 
 first-line : (n : ℕ) (line : List ℕ) (lines : List (List ℕ)) (script : Script) → GoalFirst lines → (next : StepNext) → next_of None line ≡ next → DoesFirst next → (well : Bool) → stands_well line lines ≡ well
@@ -213,7 +213,7 @@ first-line n line lines script onward (Goes (Some s) steps text) is does true we
         let ends : EndsPlacing rest.0.steps = subst (λ (b : Bool). EndsBy b rest.0.steps) over (ends-script lines (n + 1) s rest.0 rest.1) in
         subst EndsPlacing rest.2 (subst (λ (st : List Step). EndsPlacing (st ++ rest.0.steps)) (sym does) ends)
 
-ends-first : (lines : List (List ℕ)) → GoalFirst lines
+pub ends-first : (lines : List (List ℕ)) → GoalFirst lines
 ends-first [] n script is = cc is
 ends-first (line ∷ lines) n script is = by (is_skipped line) refl (ends-first lines)
   where
