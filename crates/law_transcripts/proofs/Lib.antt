@@ -1,1 +1,13 @@
+pub mod Answers
+pub mod Asks
+pub mod Beside
+pub mod Blocks
+pub mod Deliveries
+pub mod Joining
+pub mod Lines
+pub mod Logs
+pub mod Numbers
+pub mod Plain
+pub mod Replies
+pub mod Steps
 pub mod Telling
