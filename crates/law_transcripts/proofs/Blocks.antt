@@ -18,7 +18,7 @@ use Rattle.group_run.specs.Applying.{replica_of}
 use Rattle.group_run.specs.Causes.{IsReady, IsUp, NeedsBlock, NeedsItem, NeedsPlace, home_in, replica_for}
 use Rattle.group_run.specs.Deciding.{reads_bytes, run_needed}
 use Rattle.group_run.specs.Headline.{HasClearRun, IsItem, IsRun, KeepsAll, ValuesWritten}
-use Rattle.group_run.specs.Leaders.{LeaderState, blocks_met, missing_block, rebuilt_block}
+use Rattle.group_run.specs.Leaders.{blocks_met, missing_block, rebuilt_block}
 use Rattle.group_run.specs.Meaning.{IsDown, Lives, Logged, process_of, run_after, run_on, run_unless, table_at, updates_of}
 use Rattle.group_run.specs.Replica.{Replica, run_in, slot_in}
 use Rattle.group_run.specs.World.{World, after}

@@ -133,7 +133,7 @@ module _ (s : Dimensions) (es : List Event) (ran : IsRun s es) (few : (after s e
       (λ u there. last-has (λ v. v.entry.call ≤ (after s es).events) caller (take r.applied (updates_of (after s es) d)) None (λ v none. absurd (cc none))
       (All-take (λ v. v.entry.call ≤ (after s es).events) r.applied (updates_of (after s es) d) all) u there)
 
-  Replies : Answer → Type 0
+  abbrev pub Replies : Answer → Type 0
   Replies a = (r : Reply) → a ≡ says.Reply r → FitsReply r
 
   -- an ask's answer
@@ -175,9 +175,9 @@ module _ (s : Dimensions) (es : List Event) (ran : IsRun s es) (few : (after s e
     traced-fits : (a : Answer) → TraceCause (after s es) p caller call d.0 a → Replies a → FitsAnswer a
     traced-fits (says.Reply r) why replies = replies r refl
     traced-fits (says.Stale n) (up, ready, why) replies =
-        let kept : Kept = why.1 in
-        let low = kept-low p d.0 caller kept ready may.2 (may.3, up.process) may.0 why.2 in
-        let same : kept.call ≡ n = why.3 in
+        let kept : Kept = why.1.0 in
+        let low = kept-low p d.0 caller kept ready may.2 (may.3, up.process) may.0 why.1.1 in
+        let same : kept.call ≡ n = why.1.2 in
         omega (arith, low, same, few)
     traced-fits (says.Ticket n) why replies = absurd why.2
     traced-fits (says.Retry c) why replies = absurd why.2

@@ -79,23 +79,23 @@ module _ (s : Dimensions) where
       (deliveries-told w (draining w) (draining-delivers w), omega (arith, few, light, many, long))
 
   then-tells : (p : Play) (l : Line) → IsLedTo s p.world → burden p.world < 2 ^ 62 → IsLineOf (Some p.world.shape) l → TellsNext (then_by p l) (steps_by p l) (told_by p l)
-  then-tells p Skipped led few within fits = tt
+  then-tells p Skipped led few within = λ fits. tt
   then-tells p (Group shape) led few within = tt
-  then-tells p (Ask caller from act) led few within fits = made-tells p.world (happens.Ask caller (record { moment = p.moment; act = act }) from) led within (omega (arith, few)) fits
-  then-tells p (Collect caller call from) led few within fits = made-tells p.world (happens.Collect caller call from) led within (omega (arith, few)) fits
-  then-tells p (Deliver from to) led few within fits = made-tells p.world (happens.Deliver from to) led within (omega (arith, few)) fits
-  then-tells p (Fail from keep) led few within fits = made-tells p.world (happens.Fail from keep) led within (omega (arith, few)) fits
-  then-tells p (Flush from) led few within fits = made-tells p.world (happens.Flush from) led within (omega (arith, few)) fits
+  then-tells p (Ask caller from act) led few within = λ fits. made-tells p.world (happens.Ask caller (record { moment = p.moment; act = act }) from) led within (omega (arith, few)) fits
+  then-tells p (Collect caller call from) led few within = λ fits. made-tells p.world (happens.Collect caller call from) led within (omega (arith, few)) fits
+  then-tells p (Deliver from to) led few within = λ fits. made-tells p.world (happens.Deliver from to) led within (omega (arith, few)) fits
+  then-tells p (Fail from keep) led few within = λ fits. made-tells p.world (happens.Fail from keep) led within (omega (arith, few)) fits
+  then-tells p (Flush from) led few within = λ fits. made-tells p.world (happens.Flush from) led within (omega (arith, few)) fits
   then-tells p (Trace caller call d from) led few within = by (nat_lt call (at 0 p.world.asked caller)) refl
     where
       by : (b : Bool) → nat_lt call (at 0 p.world.asked caller) ≡ b
           → TellsNext (if b then by_event p (happens.Trace caller call d from) else Refused BadLine) (Make (happens.Trace caller call d from) ∷ []) (Made (step p.world (happens.Trace caller call d from)).turn ∷ [])
-      by true less fits = made-tells p.world (happens.Trace caller call d from) led (within.0, grind (arith, nat_tests, less), within.1, within.2) (omega (arith, few)) fits
+      by true less = λ fits. made-tells p.world (happens.Trace caller call d from) led (within.0, grind (arith, nat_tests, less), within.1, within.2) (omega (arith, few)) fits
       by false less = tt
-  then-tells p Drain led few within fits = (drained-tells p.world led few, tt)
-  then-tells p (Show from run) led few within fits = (looked-tells p.world from run, tt)
-  then-tells p Places led few within fits = (tt, tt)
-  then-tells p (Time moment) led few within fits = tt
+  then-tells p Drain led few within = λ fits. (drained-tells p.world led few, tt)
+  then-tells p (Show from run) led few within = λ fits. (looked-tells p.world from run, tt)
+  then-tells p Places led few within = λ fits. (tt, tt)
+  then-tells p (Time moment) led few within = λ fits. tt
   then-tells p Stop led few within = tt
 
   line-tells : (p : Play) (line : List ℕ) → IsLedTo s p.world → burden p.world < 2 ^ 62 → TellsNext (next_of (Some p) line) (steps_on (Some p) (line_of (Some p.world.shape) line)) (told_on (Some p) (line_of (Some p.world.shape) line))
@@ -125,7 +125,7 @@ Goal s lines = (q : Play) → IsLedTo s q.world → burden q.world + length line
 
 named-tells : (s : Dimensions) (lines : List (List ℕ)) → Goal s lines
 named-tells s [] p led few fits = tt
-named-tells s (line ∷ lines) p led few = by (next_of (Some p) line) refl (line-tells s p line led (omega (arith, few))) (named-tells s lines)
+named-tells s (line ∷ lines) p led few fits = by (next_of (Some p) line) refl (line-tells s p line led (omega (arith, few))) (named-tells s lines) fits
   where
     by : (next : PlayNext) → next_of (Some p) line ≡ next → TellsNext next (steps_on (Some p) (line_of (Some p.world.shape) line)) (told_on (Some p) (line_of (Some p.world.shape) line)) → Goal s lines
         → All FitsIfReply (turns_after lines next) → TellAll (steps_from (Some p) line lines next) (told_from (Some p) line lines next)
@@ -141,7 +141,7 @@ named-tells s (line ∷ lines) p led few = by (next_of (Some p) line) refl (line
 
 pub script-tells : (lines : List (List ℕ)) → length lines * line_burden < 2 ^ 62 → TellsAlong None lines
 script-tells [] few fits = tt
-script-tells (line ∷ lines) few = by (next_of None line) refl (script-tells lines (omega (arith, few)))
+script-tells (line ∷ lines) few fits = by (next_of None line) refl (script-tells lines (omega (arith, few))) fits
   where
     named : (s : Dimensions) → IsShape s → TellsAlong (Some (record { world = opening s; moment = 0 })) lines
     named s limits = named-tells s lines (record { world = opening s; moment = 0 }) (opened s limits) (let none = load-opening s in omega (arith, none, few))
