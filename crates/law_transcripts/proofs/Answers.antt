@@ -112,10 +112,12 @@ traced w p caller call d (says.Stale x) cause = refl
 
 pub may-answer : (s : Dimensions) (es : List Event) (e : Event) → IsRun s es → MayCome (after s es) e → MayAnswer (kind_of e) (step (after s es) e).turn.answer
 may-answer s es (Ask caller op p) run may =
-    asked (after s es) (step (after s es) (Ask caller op p)).world p op (step (after s es) (Ask caller op p)).turn.answer (answers_always s es run (Ask caller op p) may)
+    asked (after s es) (step (after s es) (Ask caller op p)).world p op (step (after s es) (Ask caller op p)).turn.answer
+    (answers_always s es run (Ask caller op p) may)
 may-answer s es (Collect caller call p) run may =
     collected (after s es) p caller call (step (after s es) (Collect caller call p)).turn.answer (answers_always s es run (Collect caller call p) may)
-may-answer s es (Deliver from to) run may = delivered (after s es) from to (step (after s es) (Deliver from to)).turn.answer (answers_always s es run (Deliver from to) may)
+may-answer s es (Deliver from to) run may = delivered (after s es) from to (step (after s es) (Deliver from to)).turn.answer
+    (answers_always s es run (Deliver from to) may)
 may-answer s es (Fail p keep) run may = failed (after s es) p (step (after s es) (Fail p keep)).turn.answer (answers_always s es run (Fail p keep) may)
 may-answer s es (Flush p) run may = flushed (after s es) p (step (after s es) (Flush p)).turn.answer (answers_always s es run (Flush p) may)
 may-answer s es (Trace caller call d p) run may =

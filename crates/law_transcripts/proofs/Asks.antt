@@ -46,7 +46,8 @@ delivery-fine (happens.Trace caller call d p) is = absurd is
 deliveries-fine : (w : World) (es : List Event) → All IsDelivery es → All FineTurn (turns_from w es)
 deliveries-fine w [] all = All-nil FineTurn
 deliveries-fine w (e ∷ es) all =
-    All-cons FineTurn (step w e).turn (turns_from (step w e).world es) (delivery-fine e (All-head IsDelivery e es all)) (deliveries-fine (step w e).world es (All-tail IsDelivery e es all))
+    All-cons FineTurn (step w e).turn (turns_from (step w e).world es) (delivery-fine e (All-head IsDelivery e es all))
+    (deliveries-fine (step w e).world es (All-tail IsDelivery e es all))
 
 -- what a line makes is fine
 abbrev MakesFine : PlayNext → Type 0

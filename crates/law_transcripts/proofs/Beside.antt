@@ -82,8 +82,14 @@ same-place : (s : Setting) (p : Play) (caller : ℕ) → SameSetting s p → sli
 same-place s p caller same = ap (λ (xs : List ℕ). slice_index xs caller) same.asked ∙ index-at p.world.asked caller
 
 -- behind an event that isn't an ask
-still : (s : Setting) (p : Play) (w : World) → SameSetting s p → w.shape ≡ p.world.shape → w.asked ≡ p.world.asked → SameSetting s (record { world = w; moment = p.moment })
-still s p w same shape asked = record { shape = same.shape ∙ sym shape; moment = same.moment; asked = same.asked ∙ sym asked; many = ap length asked ∙ same.many }
+still : (s : Setting) (p : Play) (w : World) → SameSetting s p → w.shape ≡ p.world.shape → w.asked ≡ p.world.asked
+    → SameSetting s (record { world = w; moment = p.moment })
+still s p w same shape asked = record {
+  shape = same.shape ∙ sym shape;
+  moment = same.moment;
+  asked = same.asked ∙ sym asked;
+  many = ap length asked ∙ same.many;
+}
 
 traced : (s : Setting) (p : Play) (e : Event) (b c : Bool) → b ≡ c → SameSetting s (record { world = (step p.world e).world; moment = p.moment })
     → SameNext (Some p) (if b then verify.asks_for s (Make e) else Refused BadLine) (if c then by_event p e else Refused BadLine) (Make e ∷ [])
@@ -93,14 +99,16 @@ traced s p e true false is same = cc is
 traced s p e false true is same = cc is
 
 -- a line behind the group line
-then-beside : (s : Setting) (p : Play) (l : Line) → IsLineOf (Some p.world.shape) l → SameSetting s p → SameNext (Some p) (verify.then_by s l) (then_by p l) (steps_by p l)
+then-beside : (s : Setting) (p : Play) (l : Line) → IsLineOf (Some p.world.shape) l → SameSetting s p
+    → SameNext (Some p) (verify.then_by s l) (then_by p l) (steps_by p l)
 then-beside s p Skipped within same = (same, refl, refl)
 then-beside s p (Group shape) within same = tt
 then-beside s p (Ask caller from act) within same = (
   record {
     shape = same.shape;
     moment = same.moment;
-    asked = (λ i. slice_set (same.asked i) caller (slice_index (same.asked i) caller + 1)) ∙ set-put p.world.asked caller (slice_index p.world.asked caller + 1) inside
+    asked = (λ i. slice_set (same.asked i) caller (slice_index (same.asked i) caller + 1))
+        ∙ set-put p.world.asked caller (slice_index p.world.asked caller + 1) inside
         ∙ ap (put 0 p.world.asked caller) (let is = index-at p.world.asked caller in omega (arith, is));
     many = length-put 0 p.world.asked caller (suc (at 0 p.world.asked caller)) inside ∙ same.many;
   },
@@ -115,7 +123,8 @@ then-beside s p (Deliver from to) within same = (still s p (step p.world (happen
 then-beside s p (Fail from keep) within same = (still s p (step p.world (happens.Fail from keep)).world same refl refl, refl, refl)
 then-beside s p (Flush from) within same = (still s p (step p.world (happens.Flush from)).world same refl refl, refl, refl)
 then-beside s p (Trace caller call partition from) within same =
-    traced s p (happens.Trace caller call partition from) (nat_lt call (slice_index s.asked caller)) (nat_lt call (at 0 p.world.asked caller)) (ap (nat_lt call) (same-place s p caller same))
+    traced s p (happens.Trace caller call partition from) (nat_lt call (slice_index s.asked caller)) (nat_lt call (at 0 p.world.asked caller))
+    (ap (nat_lt call) (same-place s p caller same))
     (still s p (step p.world (happens.Trace caller call partition from)).world same refl refl)
 then-beside s p Drain within same =
     let after : World = world_after p.world (draining p.world) in
@@ -143,14 +152,17 @@ first-beside (Ok Places) = tt
 first-beside (Ok (Time moment)) = tt
 first-beside (Ok Stop) = tt
 
-pub line-beside : (s : Option Setting) (p : Option Play) (line : List ℕ) → Beside s p → SameNext p (verify.next_of s line) (next_of p line) (steps_on p (line_of (shape_in p) line))
+pub line-beside : (s : Option Setting) (p : Option Play) (line : List ℕ) → Beside s p
+    → SameNext p (verify.next_of s line) (next_of p line) (steps_on p (line_of (shape_in p) line))
 line-beside None None line same = first-beside (line_of None line)
 line-beside None (Some p) line same = absurd same
 line-beside (Some s) None line same = absurd same
 line-beside (Some s) (Some p) line same =
-    subst (λ (d : Dimensions). SameNext (Some p) (verify.next_by (Some s) (line_of (Some d) line)) (next_of (Some p) line) (steps_on (Some p) (line_of (Some p.world.shape) line))) (sym same.shape)
+    subst (λ (d : Dimensions). SameNext (Some p) (verify.next_by (Some s) (line_of (Some d) line)) (next_of (Some p) line)
+    (steps_on (Some p) (line_of (Some p.world.shape) line))) (sym same.shape)
     (by (line_of (Some p.world.shape) line) refl)
   where
-    by : (r : Result Line LineFault) → line_of (Some p.world.shape) line ≡ r → SameNext (Some p) (verify.next_by (Some s) r) (next_by (Some p) r) (steps_on (Some p) r)
+    by : (r : Result Line LineFault) → line_of (Some p.world.shape) line ≡ r
+        → SameNext (Some p) (verify.next_by (Some s) r) (next_by (Some p) r) (steps_on (Some p) r)
     by (Err fault) is = tt
     by (Ok l) is = then-beside s p l (line_of-within (Some p.world.shape) line l is) same

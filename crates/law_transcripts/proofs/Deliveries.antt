@@ -21,7 +21,8 @@ among-delivers : (w : World) (xs : List ℕ) (e : Event) → next_among w xs ≡
 among-delivers w [] e is = cc is
 among-delivers w (x ∷ xs) e is = by (next_from w x (next_target w x (range_with_len 0 (w.shape.k + w.shape.m)))) refl is (among-delivers w xs e)
   where
-    by : (o : Option Event) → next_from w x (next_target w x (range_with_len 0 (w.shape.k + w.shape.m))) ≡ o → event_or o (next_among w xs) ≡ Some e → (next_among w xs ≡ Some e → IsDelivery e) → IsDelivery e
+    by : (o : Option Event) → next_from w x (next_target w x (range_with_len 0 (w.shape.k + w.shape.m))) ≡ o → event_or o (next_among w xs) ≡ Some e
+        → (next_among w xs ≡ Some e → IsDelivery e) → IsDelivery e
     by None none there later = later there
     by (Some f) some here later = from-delivers w x (next_target w x (range_with_len 0 (w.shape.k + w.shape.m))) e (some ∙ here)
 
@@ -35,7 +36,8 @@ drain-delivers (suc n) w = by (next_delivery w) refl (λ v. drain-delivers n v)
   where
     by : (o : Option Event) → next_delivery w ≡ o → ((v : World) → All IsDelivery (drain_events n v)) → All IsDelivery (drained_from n w o)
     by None none later = All-nil IsDelivery
-    by (Some e) some later = All-cons IsDelivery e (drain_events n (step w e).world) (among-delivers w (range_with_len 0 (w.shape.k + w.shape.m)) e some) (later (step w e).world)
+    by (Some e) some later = All-cons IsDelivery e (drain_events n (step w e).world) (among-delivers w (range_with_len 0 (w.shape.k + w.shape.m)) e some)
+        (later (step w e).world)
 
 pub draining-delivers : (w : World) → All IsDelivery (draining w)
 draining-delivers w = by (is_down w)

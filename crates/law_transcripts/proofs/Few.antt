@@ -28,7 +28,8 @@ named-few : (s : Dimensions) (lines : List (List ℕ)) → Goal s lines
 named-few s [] p led = omega arith
 named-few s (line ∷ lines) p led = by (next_of (Some p) line) refl (named-few s lines)
   where
-    by : (next : PlayNext) → next_of (Some p) line ≡ next → Goal s lines → p.world.events + length (turns_after lines next) ≤ burden p.world + suc (length lines) * line_burden
+    by : (next : PlayNext) → next_of (Some p) line ≡ next → Goal s lines
+        → p.world.events + length (turns_after lines next) ≤ burden p.world + suc (length lines) * line_burden
     by Ends is later = omega arith
     by (Refused cause) is later = omega arith
     by (Goes next turns text) is later =
@@ -45,14 +46,18 @@ turns-few [] = omega arith
 turns-few (line ∷ lines) = by (next_of None line) refl (turns-few lines)
   where
     named : (s : Dimensions) → IsShape s → length (turns_in next_of (Some (record { world = opening s; moment = 0 })) lines) ≤ length lines * line_burden
-    named s limits = let all = named-few s lines (record { world = opening s; moment = 0 }) (opened s limits) in let none = load-opening s in omega (arith, all, none)
+    named s limits = let all = named-few s lines (record { world = opening s; moment = 0 }) (opened s limits) in let none = load-opening s in omega
+        (arith, all, none)
 
-    either : (next : Option Play) → (next ≡ None) ⊎ ((s : Dimensions) × IsShape s × (next ≡ Some (record { world = opening s; moment = 0 }))) → length (turns_in next_of None lines) ≤ length lines * line_burden
+    either : (next : Option Play) → (next ≡ None) ⊎ ((s : Dimensions) × IsShape s × (next ≡ Some (record { world = opening s; moment = 0 })))
+        → length (turns_in next_of None lines) ≤ length lines * line_burden
         → length (turns_in next_of next lines) ≤ length lines * line_burden
     either next (inl none) later = subst (λ (q : Option Play). length (turns_in next_of q lines) ≤ length lines * line_burden) (sym none) later
-    either next (inr (s, limits, some)) later = subst (λ (q : Option Play). length (turns_in next_of q lines) ≤ length lines * line_burden) (sym some) (named s limits)
+    either next (inr (s, limits, some)) later = subst (λ (q : Option Play). length (turns_in next_of q lines) ≤ length lines * line_burden) (sym some)
+        (named s limits)
 
-    by : (next : PlayNext) → next_of None line ≡ next → length (turns_in next_of None lines) ≤ length lines * line_burden → length (turns_after lines next) ≤ suc (length lines) * line_burden
+    by : (next : PlayNext) → next_of None line ≡ next → length (turns_in next_of None lines) ≤ length lines * line_burden
+        → length (turns_after lines next) ≤ suc (length lines) * line_burden
     by Ends is later = omega arith
     by (Refused cause) is later = omega arith
     by (Goes next turns text) is later =

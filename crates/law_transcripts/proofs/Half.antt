@@ -29,12 +29,14 @@ pub record IsToldBy (text : List ℕ) (script : Script) : Type 0 where
   pub lines : lines_of (transcript text) ≡ lines_told (told_along None (lines_of text))
   pub tells : TellAll script.steps (told_along None (lines_of text))
 
-pub told-by : (text : List ℕ) (script : Script) → length text ≤ longest_script → first_fault text ≡ None → script_in 1 None (lines_of text) ≡ Ok script → IsToldBy text script
+pub told-by : (text : List ℕ) (script : Script) → length text ≤ longest_script → first_fault text ≡ None → script_in 1 None (lines_of text) ≡ Ok script
+    → IsToldBy text script
 told-by text script short whole ok = record {
   steps = (script-is text script ok).0;
   shape = (script-is text script ok).1;
   lines = lines-told None (lines_of text) (All-weaker FineEntry PlainKey (λ e fine. fine.1) (log_of (turns_of text)) ops);
-  tells = subst (λ (steps : List Step). TellAll steps (told_along None (lines_of text))) (sym (script-is text script ok).0) (script-tells (lines_of text) (omega (arith, few, short)) fits);
+  tells = subst (λ (steps : List Step). TellAll steps (told_along None (lines_of text))) (sym (script-is text script ok).0)
+      (script-tells (lines_of text) (omega (arith, few, short)) fits);
 } where
   promises : KeepsPromises text
   promises = scripts_keep_promises text whole

@@ -31,4 +31,5 @@ lines-joined (line ∷ lines) plain =
     let pieces : slice_split is_end (joined (line ∷ lines)) ≡ line ∷ slice_split is_end (joined lines)
     = slice_split_at is_end line 10 (joined lines) (All-weaker (λ b. b ≢ 10) (λ b. (b == 10) ≡ false) not-end line (All-head Plain line lines plain)) refl in
     let some : 0 < length (slice_split is_end (joined lines)) = omega (arith, length-slice_split is_end (joined lines)) in
-    ap without_empty_last pieces ∙ without_empty_last-cons line (slice_split is_end (joined lines)) some ∙ ap (λ (ls : List (List ℕ)). line ∷ ls) (lines-joined lines (All-tail Plain line lines plain))
+    ap without_empty_last pieces ∙ without_empty_last-cons line (slice_split is_end (joined lines)) some
+    ∙ ap (λ (ls : List (List ℕ)). line ∷ ls) (lines-joined lines (All-tail Plain line lines plain))

@@ -41,18 +41,21 @@ PlainKey e = Plain (key_of e.op.act)
 
 entries-plain : (es : List Entry) → All PlainKey es → All Plain (map entry_text es)
 entries-plain [] keys = All-nil Plain
-entries-plain (e ∷ es) keys = All-cons Plain (entry_text e) (map entry_text es) (plain.entry e (All-head PlainKey e es keys)) (entries-plain es (All-tail PlainKey e es keys))
+entries-plain (e ∷ es) keys = All-cons Plain (entry_text e) (map entry_text es) (plain.entry e (All-head PlainKey e es keys))
+    (entries-plain es (All-tail PlainKey e es keys))
 
 made-plain : (t : Turn) → All PlainKey (log_of (t ∷ [])) → All Plain (lines_told (Made t ∷ []))
 made-plain t keys = subst (All Plain) (sym (append-nil (told_lines (Made t))))
-    (All-cons Plain (answer_text t.answer) (map entry_text t.logged) (plain.answer t.answer) (entries-plain t.logged (subst (All PlainKey) (append-nil t.logged) keys)))
+    (All-cons Plain (answer_text t.answer) (map entry_text t.logged) (plain.answer t.answer)
+    (entries-plain t.logged (subst (All PlainKey) (append-nil t.logged) keys)))
 
 counted-plain : (front : List ℕ) (n : ℕ) → Plain front → All Plain ((front ++ decimal n) ∷ [])
 counted-plain front n first = All-cons Plain (front ++ decimal n) [] (plain.append front (decimal n) first (plain.number n)) (All-nil Plain)
 
 drained-plain : (ts : List Turn) → All PlainKey (log_of ts) → All Plain (lines_told (Drained ts (length ts) ∷ []))
 drained-plain ts keys = subst (All Plain) (sym (append-nil (told_lines (Drained ts (length ts)))))
-    (All-append Plain (map entry_text (log_of ts)) (drained_line (length ts) ∷ []) (entries-plain (log_of ts) keys) (counted-plain (codes "drained ") (length ts) plain.drained))
+    (All-append Plain (map entry_text (log_of ts)) (drained_line (length ts) ∷ []) (entries-plain (log_of ts) keys)
+    (counted-plain (codes "drained ") (length ts) plain.drained))
 
 looked-plain : (w : World) (p : ProcessId) (run : Run) → All Plain (lines_told (looked w p run ∷ []))
 looked-plain w p run = by (is_down w) (is_dead w p)
@@ -73,7 +76,8 @@ places-plain d (runs ∷ others) = All-append Plain (run_lines d 0 runs) (place_
 
 placed-plain : (runs : List (List (Option Run))) → All Plain (lines_told (Placed runs ∷ []))
 placed-plain runs = subst (All Plain) (sym (append-nil (told_lines (Placed runs))))
-    (All-append Plain (place_lines 0 runs) (placed_line (count_placed runs) ∷ []) (places-plain 0 runs) (counted-plain (codes "placed ") (count_placed runs) plain.placed))
+    (All-append Plain (place_lines 0 runs) (placed_line (count_placed runs) ∷ []) (places-plain 0 runs)
+    (counted-plain (codes "placed ") (count_placed runs) plain.placed))
 
 -- what a line tells has lines without a line end, where the keys of what it logs have none
 abbrev TellsPlainly : PlayNext → List Told → Type 0
@@ -118,7 +122,8 @@ pub told-plain : (p : Option Play) (lines : List (List ℕ)) → All PlainKey (l
 told-plain p [] keys = All-nil Plain
 told-plain p (line ∷ lines) keys = by (next_of p line) (line-plain p (line_of (shape_in p) line)) (λ q. told-plain q lines) keys
   where
-    by : (next : PlayNext) → TellsPlainly next (told_on p (line_of (shape_in p) line)) → ((q : Option Play) → All PlainKey (log_of (turns_in next_of q lines)) → All Plain (lines_told (told_along q lines)))
+    by : (next : PlayNext) → TellsPlainly next (told_on p (line_of (shape_in p) line))
+        → ((q : Option Play) → All PlainKey (log_of (turns_in next_of q lines)) → All Plain (lines_told (told_along q lines)))
         → All PlainKey (log_of (turns_after lines next)) → All Plain (lines_told (told_from p line lines next))
     by Ends own later keys = All-nil Plain
     by (Refused cause) own later keys = All-nil Plain
@@ -130,5 +135,6 @@ told-plain p (line ∷ lines) keys = by (next_of p line) (line-plain p (line_of 
         (later q (back-all PlainKey (log_of turns) (log_of (turns_in next_of q lines)) both)))
 
 -- the transcript is cut into the lines that are told
-pub lines-told : (p : Option Play) (lines : List (List ℕ)) → All PlainKey (log_of (turns_in next_of p lines)) → lines_of (text_in next_of p lines) ≡ lines_told (told_along p lines)
+pub lines-told : (p : Option Play) (lines : List (List ℕ)) → All PlainKey (log_of (turns_in next_of p lines))
+    → lines_of (text_in next_of p lines) ≡ lines_told (told_along p lines)
 lines-told p lines keys = ap lines_of (text-joined p lines) ∙ lines-joined (lines_told (told_along p lines)) (told-plain p lines keys)

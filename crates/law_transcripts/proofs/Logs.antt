@@ -30,13 +30,16 @@ pub all-each : {X : Type 0} (P : X → Type 0) (xs : List X) → ((i : ℕ) (x :
 all-each P [] each = All-nil P
 all-each P (x ∷ xs) each = All-cons P x xs (each 0 x refl) (all-each P xs (λ i y is. each (suc i) y is))
 
-logged-all : (P : Entry → Type 0) (ts : List Turn) → ((i : ℕ) (t : Turn) → slice_get ts i ≡ Some t → (e : Entry) → Contains t.logged e → P e) → All P (log_of ts)
+logged-all : (P : Entry → Type 0) (ts : List Turn) → ((i : ℕ) (t : Turn) → slice_get ts i ≡ Some t → (e : Entry) → Contains t.logged e → P e)
+    → All P (log_of ts)
 logged-all P [] each = All-nil P
-logged-all P (t ∷ ts) each = All-append P t.logged (log_of ts) (All-weaker (Contains t.logged) P (each 0 t refl) t.logged (All-contains_itself t.logged)) (logged-all P ts (λ i u is. each (suc i) u is))
+logged-all P (t ∷ ts) each = All-append P t.logged (log_of ts) (All-weaker (Contains t.logged) P (each 0 t refl) t.logged (All-contains_itself t.logged))
+    (logged-all P ts (λ i u is. each (suc i) u is))
 
 pub logged-there : (ts : List Turn) (i : ℕ) (t : Turn) (e : Entry) → slice_get ts i ≡ Some t → Contains t.logged e → Contains (log_of ts) e
 logged-there [] i t e is there = absurd (cc is)
-logged-there (u ∷ ts) zero t e is there = let same : t ≡ u = cc is in Contains-append_left u.logged (log_of ts) e (subst (λ (v : Turn). Contains v.logged e) same there)
+logged-there (u ∷ ts) zero t e is there = let same : t ≡ u = cc is in Contains-append_left u.logged (log_of ts) e
+    (subst (λ (v : Turn). Contains v.logged e) same there)
 logged-there (u ∷ ts) (suc i) t e is there = Contains-append_right u.logged (log_of ts) e (logged-there ts i t e is there)
 
 -- ---- ops and replies
@@ -58,7 +61,8 @@ replies-from m t [] fits short legal fine = All-nil FitsLogged
 replies-from m t (e ∷ es) fits short legal fine =
     let one = (All-head FineEntry e es fine).0 in
     All-cons FitsLogged e es (subst FitsReply (sym legal.0) (reply-fits m t e.op fits (omega (arith, short)) one))
-    (replies-from (m + 1) (table_after t e.op) es (table-fits m t e.op fits (omega (arith, short)) one) (omega (arith, short)) legal.1 (All-tail FineEntry e es fine))
+    (replies-from (m + 1) (table_after t e.op) es (table-fits m t e.op fits (omega (arith, short)) one) (omega (arith, short)) legal.1
+    (All-tail FineEntry e es fine))
 
 pub replies-fit : (k : ℕ) (es : List Entry) → length es + 1 < 2 ^ 64 → IsLegal k es → All FineEntry es → All FitsLogged es
 replies-fit k es short legal fine = replies-from 0 (empty_table k) es (empty-fits k) (omega (arith, short)) legal fine
@@ -95,7 +99,8 @@ module _ (k : ℕ) (ts : List Turn) (within : AnswersWithin k ts) where
   numbers-low (e ∷ es) (ask, asks) = All-cons (λ j. j < length ts) ask.0 (numbers es asks) (there-low ts ask.0 ask.1 ask.2.there) (numbers-low es asks)
 
   -- the entry at a place, and its ask
-  placed : (es : List Entry) (asks : Each AskOf es) (i d : ℕ) → i < length es → (e : Entry) × (slice_get es i ≡ Some e) × ((ask : Turn) × IsAsk ts (slice_index_or (numbers es asks) i d) ask (name_of e) e.op)
+  placed : (es : List Entry) (asks : Each AskOf es) (i d : ℕ) → i < length es
+      → (e : Entry) × (slice_get es i ≡ Some e) × ((ask : Turn) × IsAsk ts (slice_index_or (numbers es asks) i d) ask (name_of e) e.op)
   placed [] asks i d low = absurd (omega (arith, low))
   placed (e ∷ es) (ask, asks) zero d low = (e, refl, (ask.1, ask.2))
   placed (e ∷ es) (ask, asks) (suc i) d low = placed es asks i d (omega (arith, low))
@@ -114,12 +119,12 @@ module _ (k : ℕ) (ts : List Turn) (within : AnswersWithin k ts) where
       let asks : Each AskOf (log_of ts) = each-from (log_of ts) asks-all in
       let long = numbers-long (log_of ts) asks in
       let most = differ-below (length ts) (numbers (log_of ts) asks) (numbers-low (log_of ts) asks) (λ i j d before below same.
-          let high : j < length (log_of ts) = omega (arith, below, long) in
-          let first = placed (log_of ts) asks i d (omega (arith, before, high)) in
-          let last = placed (log_of ts) asks j d high in
-          within.once i j first.0 last.0 before first.1 last.1
-          (one-name (slice_index_or (numbers (log_of ts) asks) j d) first.2.0 last.2.0 (name_of first.0) (name_of last.0) first.0.op last.0.op
-          (subst (λ (n : ℕ). IsAsk ts n first.2.0 (name_of first.0) first.0.op) same first.2.1) last.2.1)) in
+      let high : j < length (log_of ts) = omega (arith, below, long) in
+      let first = placed (log_of ts) asks i d (omega (arith, before, high)) in
+      let last = placed (log_of ts) asks j d high in
+      within.once i j first.0 last.0 before first.1 last.1
+      (one-name (slice_index_or (numbers (log_of ts) asks) j d) first.2.0 last.2.0 (name_of first.0) (name_of last.0) first.0.op last.0.op
+      (subst (λ (n : ℕ). IsAsk ts n first.2.0 (name_of first.0) first.0.op) same first.2.1) last.2.1)) in
       omega (arith, long, most)
 
 -- ---- calls

@@ -44,9 +44,11 @@ use Rattle.law_transcripts.proofs.Logs.{calls-few}
 
 -- ---- the last update of a caller
 
-updates-all : (P : Entry → Type 0) (k d : ℕ) (t : Contents) (runs : List (Option Run)) (es : List Entry) → All P es → All (λ u. P u.entry) (updates_from k d t runs es)
+updates-all : (P : Entry → Type 0) (k d : ℕ) (t : Contents) (runs : List (Option Run)) (es : List Entry) → All P es
+    → All (λ u. P u.entry) (updates_from k d t runs es)
 updates-all P k d t runs [] all = All-nil (λ (u : Logged). P u.entry)
-updates-all P k d t runs (e ∷ es) all = by (is_update_of k d e) (updates-all P k d (table_after t e.op) (runs_left (is_update_of k d e) runs) es (All-tail P e es all))
+updates-all P k d t runs (e ∷ es) all = by (is_update_of k d e)
+    (updates-all P k d (table_after t e.op) (runs_left (is_update_of k d e) runs) es (All-tail P e es all))
   where
     u : Logged
     u = record { entry = e; run = next_run runs; item = (table_after t e.op).items (key_of e.op.act) }
@@ -56,7 +58,8 @@ updates-all P k d t runs (e ∷ es) all = by (is_update_of k d e) (updates-all P
     by true rest = All-cons (λ v. P v.entry) u (updates_from k d (table_after t e.op) (runs_left (is_update_of k d e) runs) es) (All-head P e es all) rest
     by false rest = rest
 
-last-has : (P : Logged → Type 0) (caller : ℕ) (us : List Logged) (old : Option Logged) → ((u : Logged) → old ≡ Some u → P u) → All P us → (u : Logged) → last_by caller old us ≡ Some u → P u
+last-has : (P : Logged → Type 0) (caller : ℕ) (us : List Logged) (old : Option Logged) → ((u : Logged) → old ≡ Some u → P u) → All P us → (u : Logged)
+    → last_by caller old us ≡ Some u → P u
 last-has P caller [] old has all u is = has u is
 last-has P caller (v ∷ us) old has all u is =
     last-has P caller us (if v.entry.caller == caller then Some v else old) (by (v.entry.caller == caller)) (All-tail P v us all) u is
@@ -114,21 +117,25 @@ module _ (s : Dimensions) (es : List Event) (ran : IsRun s es) (few : (after s e
   calls-low =
       let one_log = (headline_always s es ran).one_log in
       let many : length (turns_of s es) ≡ (after s es).events = turns-long (opening s) es ∙ (let n = events-long (opening s) es in omega (arith, n)) in
-      subst (All (λ e. e.call ≤ (after s es).events)) (sym one_log.kept) (subst (λ (n : ℕ). All (λ e. e.call ≤ n) (log_of (turns_of s es))) many (calls-few s.k (turns_of s es) one_log.within))
+      subst (All (λ e. e.call ≤ (after s es).events)) (sym one_log.kept)
+      (subst (λ (n : ℕ). All (λ e. e.call ≤ n) (log_of (turns_of s es))) many (calls-few s.k (turns_of s es) one_log.within))
 
-  keeps-last : (d r : ℕ) → d < (after s es).shape.k → Lives (after s es) (of_rank d r) → KeepsLast (after s es) d (replica_of (process_of (after s es) (of_rank d r)) d)
+  keeps-last : (d r : ℕ) → d < (after s es).shape.k → Lives (after s es) (of_rank d r)
+      → KeepsLast (after s es) d (replica_of (process_of (after s es) (of_rank d r)) d)
   keeps-last d zero low lives = (calls_always s es ran).0.at_data d lives
   keeps-last d (suc i) low lives = (calls_always s es ran).0.at_parity i d low lives
 
   -- nor has a call that is kept
-  kept-low : (p : ProcessId) (d caller : ℕ) (k : Kept) → IsReady (after s es) p d → d < (after s es).shape.k → Lives (after s es) p → caller < callers → kept_at (after s es) p d caller ≡ Some k
+  kept-low : (p : ProcessId) (d caller : ℕ) (k : Kept) → IsReady (after s es) p d → d < (after s es).shape.k → Lives (after s es) p → caller < callers
+      → kept_at (after s es) p d caller ≡ Some k
       → k.call ≤ (after s es).events
   kept-low p d caller k ready low lives known is =
       let r : Replica = replica_of (process_of (after s es) p) d in
       let keeps : KeepsLast (after s es) d r = subst (λ (q : ProcessId). KeepsLast (after s es) d (replica_of (process_of (after s es) q) d)) (sym ready.name)
       (keeps-last d ready.rank low (subst (Lives (after s es)) ready.name lives)) in
       let all : All (λ u. u.entry.call ≤ (after s es).events) (updates_of (after s es) d)
-      = updates-all (λ e. e.call ≤ (after s es).events) (after s es).shape.k d (empty_table (after s es).shape.k) (at [] (after s es).places d) (after s es).log calls-low in
+      = updates-all (λ e. e.call ≤ (after s es).events) (after s es).shape.k d (empty_table (after s es).shape.k) (at [] (after s es).places d)
+      (after s es).log calls-low in
       kept-call (last_by caller None (take r.applied (updates_of (after s es) d))) (at None r.kept caller) k (after s es).events (keeps caller known) is
       (λ u there. last-has (λ v. v.entry.call ≤ (after s es).events) caller (take r.applied (updates_of (after s es) d)) None (λ v none. absurd (cc none))
       (All-take (λ v. v.entry.call ≤ (after s es).events) r.applied (updates_of (after s es) d) all) u there)
@@ -141,14 +148,17 @@ module _ (s : Dimensions) (es : List Event) (ran : IsRun s es) (few : (after s e
     home-low : home_in (after s es) op < (after s es).shape.k
     home-low = home-in (key_of op.act) (after s es).shape.k k-some
 
-    partition-low : (d n : ℕ) → WaitsForKey (after s es) p op d n ⊎ FindsWindowFull (after s es) p op d n ⊎ WaitsForInherited (after s es) p op d n → d < (after s es).shape.k
+    partition-low : (d n : ℕ) → WaitsForKey (after s es) p op d n ⊎ FindsWindowFull (after s es) p op d n ⊎ WaitsForInherited (after s es) p op d n
+        → d < (after s es).shape.k
     partition-low d n (inl waits) = let home = waits.home in let low = home-low in omega (arith, home, low)
     partition-low d n (inr (inl full)) = let home = full.home in let low = home-low in omega (arith, home, low)
     partition-low d n (inr (inr waits)) = waits.partition
 
-    asked-fits : (a : Answer) → a ≡ (step (after s es) (Ask caller op p)).turn.answer → AskCause (after s es) (step (after s es) (Ask caller op p)).world p op a → Replies a → FitsAnswer a
+    asked-fits : (a : Answer) → a ≡ (step (after s es) (Ask caller op p)).turn.answer
+        → AskCause (after s es) (step (after s es) (Ask caller op p)).world p op a → Replies a → FitsAnswer a
     asked-fits (says.Reply r) is why replies = replies r refl
-    asked-fits (says.Ticket n) is (up, ready, why) replies = let last = low-at p (home_in (after s es) op) (may.1, up.process) in let next = why.next in omega (arith, last, next, few)
+    asked-fits (says.Ticket n) is (up, ready, why) replies = let last = low-at p (home_in (after s es) op) (may.1, up.process) in let next = why.next in omega
+        (arith, last, next, few)
     asked-fits (says.Retry (cause.Pending d n)) is (up, ready, why) replies =
         let waits : AskWaits (after s es) p op d.0 n = (waits_always s es ran).asks caller op p d n may (sym is) in
         let last = low-at p d.0 (may.1, up.process) in
@@ -193,7 +203,8 @@ module _ (s : Dimensions) (es : List Event) (ran : IsRun s es) (few : (after s e
     traced-fits says.Gone why replies = tt
 
   -- a kind of event whose answers have no number but a reply's
-  plain-fits : (k : Kind) → can_have k form.Ticket ≡ false → can_have k form.Retry ≡ false → can_have k form.Stale ≡ false → (a : Answer) → MayAnswer k a → Replies a → FitsAnswer a
+  plain-fits : (k : Kind) → can_have k form.Ticket ≡ false → can_have k form.Retry ≡ false → can_have k form.Stale ≡ false → (a : Answer) → MayAnswer k a
+      → Replies a → FitsAnswer a
   plain-fits k ticket retry stale (says.Reply r) may replies = replies r refl
   plain-fits k ticket retry stale (says.Ticket n) may replies = absurd (cc (sym ticket ∙ may))
   plain-fits k ticket retry stale (says.Retry c) may replies = absurd (cc (sym retry ∙ may))
@@ -210,9 +221,14 @@ module _ (s : Dimensions) (es : List Event) (ran : IsRun s es) (few : (after s e
   plain-fits k ticket retry stale says.Gone may replies = tt
 
   pub answer-fits : (e : Event) → MayCome (after s es) e → Replies (step (after s es) e).turn.answer → FitsAnswer (step (after s es) e).turn.answer
-  answer-fits (Ask caller op p) may replies = asked-fits caller op p may (step (after s es) (Ask caller op p)).turn.answer refl (answers_always s es ran (Ask caller op p) may) replies
-  answer-fits (Trace caller call d p) may replies = traced-fits caller call d p may (step (after s es) (Trace caller call d p)).turn.answer (answers_always s es ran (Trace caller call d p) may) replies
-  answer-fits (Collect caller call p) may replies = plain-fits kind.Collect refl refl refl (step (after s es) (Collect caller call p)).turn.answer (may-answer s es (Collect caller call p) ran may) replies
-  answer-fits (Deliver from to) may replies = plain-fits kind.Deliver refl refl refl (step (after s es) (Deliver from to)).turn.answer (may-answer s es (Deliver from to) ran may) replies
-  answer-fits (Fail p keep) may replies = plain-fits kind.Fail refl refl refl (step (after s es) (Fail p keep)).turn.answer (may-answer s es (Fail p keep) ran may) replies
+  answer-fits (Ask caller op p) may replies = asked-fits caller op p may (step (after s es) (Ask caller op p)).turn.answer refl
+      (answers_always s es ran (Ask caller op p) may) replies
+  answer-fits (Trace caller call d p) may replies = traced-fits caller call d p may (step (after s es) (Trace caller call d p)).turn.answer
+      (answers_always s es ran (Trace caller call d p) may) replies
+  answer-fits (Collect caller call p) may replies = plain-fits kind.Collect refl refl refl (step (after s es) (Collect caller call p)).turn.answer
+      (may-answer s es (Collect caller call p) ran may) replies
+  answer-fits (Deliver from to) may replies = plain-fits kind.Deliver refl refl refl (step (after s es) (Deliver from to)).turn.answer
+      (may-answer s es (Deliver from to) ran may) replies
+  answer-fits (Fail p keep) may replies = plain-fits kind.Fail refl refl refl (step (after s es) (Fail p keep)).turn.answer
+      (may-answer s es (Fail p keep) ran may) replies
   answer-fits (Flush p) may replies = plain-fits kind.Flush refl refl refl (step (after s es) (Flush p)).turn.answer (may-answer s es (Flush p) ran may) replies

@@ -109,7 +109,8 @@ pub reply : (r : Reply) → Plain (reply_text r)
 reply (replied.Value item) =
     append (codes "value" ++ next_number item.flags ++ next_number item.cas ++ codes " ") (value_text item.value)
     (append (codes "value" ++ next_number item.flags ++ next_number item.cas) (codes " ")
-    (append (codes "value" ++ next_number item.flags) (next_number item.cas) (append (codes "value") (next_number item.flags) (word (codes "value") refl) (behind-space item.flags)) (behind-space item.cas))
+    (append (codes "value" ++ next_number item.flags) (next_number item.cas)
+    (append (codes "value") (next_number item.flags) (word (codes "value") refl) (behind-space item.flags)) (behind-space item.cas))
     (word (codes " ") refl)) (value item.value)
 reply (replied.Number n) = append (codes "number ") (decimal n) (word (codes "number ") refl) (number n)
 reply replied.Miss = word (codes "miss") refl
@@ -124,7 +125,8 @@ reply replied.TooLarge = word (codes "too_large") refl
 
 cause : (c : Cause) → Plain (cause_text c)
 cause (Pending partition n) =
-    append (codes "retry pending" ++ next_number partition.0) (next_number n) (append (codes "retry pending") (next_number partition.0) (word (codes "retry pending") refl) (behind-space partition.0)) (behind-space n)
+    append (codes "retry pending" ++ next_number partition.0) (next_number n)
+    (append (codes "retry pending") (next_number partition.0) (word (codes "retry pending") refl) (behind-space partition.0)) (behind-space n)
 cause (Block block) = append (codes "retry block ") (decimal block) (word (codes "retry block ") refl) (number block)
 
 pub answer : (a : Answer) → Plain (answer_text a)
@@ -155,7 +157,8 @@ expiry (pos e) = by (e == 0)
 
 stored : (front : List ℕ) (z : ℤ) (bytes : List ℕ) → Plain front → Plain (stored_text front z bytes)
 stored front z bytes plain =
-    append (front ++ codes " " ++ value_text bytes) (expiry_text z) (append (front ++ codes " ") (value_text bytes) (append front (codes " ") plain (word (codes " ") refl)) (value bytes)) (expiry z)
+    append (front ++ codes " " ++ value_text bytes) (expiry_text z)
+    (append (front ++ codes " ") (value_text bytes) (append front (codes " ") plain (word (codes " ") refl)) (value bytes)) (expiry z)
 
 flagged : (name key : List ℕ) (flags : ℕ) → Plain name → Plain key → Plain (flagged_text name key flags)
 flagged name key flags first plain = append (name ++ key) (next_number flags) (append name key first plain) (behind-space flags)
@@ -165,12 +168,15 @@ act : (a : Act) → Plain (key_of a) → Plain (act_text a)
 act (Get key) plain = append (codes "get ") key (word (codes "get ") refl) plain
 act (Set key flags z bytes) plain = stored (flagged_text (codes "set ") key flags) z bytes (flagged (codes "set ") key flags (word (codes "set ") refl) plain)
 act (Add key flags z bytes) plain = stored (flagged_text (codes "add ") key flags) z bytes (flagged (codes "add ") key flags (word (codes "add ") refl) plain)
-act (Replace key flags z bytes) plain = stored (flagged_text (codes "replace ") key flags) z bytes (flagged (codes "replace ") key flags (word (codes "replace ") refl) plain)
+act (Replace key flags z bytes) plain = stored (flagged_text (codes "replace ") key flags) z bytes
+    (flagged (codes "replace ") key flags (word (codes "replace ") refl) plain)
 act (Cas key flags z cas bytes) plain =
-    stored (flagged_text (codes "cas ") key flags ++ next_number cas) z bytes (append (flagged_text (codes "cas ") key flags) (next_number cas) (flagged (codes "cas ") key flags (word (codes "cas ") refl) plain) (behind-space cas))
+    stored (flagged_text (codes "cas ") key flags ++ next_number cas) z bytes
+    (append (flagged_text (codes "cas ") key flags) (next_number cas) (flagged (codes "cas ") key flags (word (codes "cas ") refl) plain) (behind-space cas))
 act (Delete key) plain = append (codes "delete ") key (word (codes "delete ") refl) plain
 act (Touch key z) plain =
-    append (codes "touch " ++ key) (codes " " ++ signed_decimal z) (append (codes "touch ") key (word (codes "touch ") refl) plain) (append (codes " ") (signed_decimal z) (word (codes " ") refl) (signed z))
+    append (codes "touch " ++ key) (codes " " ++ signed_decimal z) (append (codes "touch ") key (word (codes "touch ") refl) plain)
+    (append (codes " ") (signed_decimal z) (word (codes " ") refl) (signed z))
 act (Append key bytes) plain = stored (codes "append " ++ key) (pos 0) bytes (append (codes "append ") key (word (codes "append ") refl) plain)
 act (Prepend key bytes) plain = stored (codes "prepend " ++ key) (pos 0) bytes (append (codes "prepend ") key (word (codes "prepend ") refl) plain)
 act (Incr key by) plain = append (codes "incr " ++ key) (next_number by) (append (codes "incr ") key (word (codes "incr ") refl) plain) (behind-space by)
@@ -194,7 +200,8 @@ pub entry : (e : Entry) → Plain (key_of e.op.act) → Plain (entry_text e)
 entry e plain =
     append (name_text e.caller e.call e.op.moment ++ act_text e.op.act ++ codes " ") (reply_text e.reply)
     (append (name_text e.caller e.call e.op.moment ++ act_text e.op.act) (codes " ")
-    (append (name_text e.caller e.call e.op.moment) (act_text e.op.act) (name e.caller e.call e.op.moment) (act e.op.act plain)) (word (codes " ") refl)) (reply e.reply)
+    (append (name_text e.caller e.call e.op.moment) (act_text e.op.act) (name e.caller e.call e.op.moment) (act e.op.act plain)) (word (codes " ") refl))
+    (reply e.reply)
 
 -- ---- places and looks
 
@@ -202,7 +209,8 @@ pub place : (d n : ℕ) (run : Run) → Plain (place_text d n run)
 place d n run =
     append (codes "place" ++ next_number d ++ next_number n ++ next_number run.at) (next_number run.len)
     (append (codes "place" ++ next_number d ++ next_number n) (next_number run.at)
-    (append (codes "place" ++ next_number d) (next_number n) (append (codes "place") (next_number d) (word (codes "place") refl) (behind-space d)) (behind-space n)) (behind-space run.at)) (behind-space run.len)
+    (append (codes "place" ++ next_number d) (next_number n) (append (codes "place") (next_number d) (word (codes "place") refl) (behind-space d))
+    (behind-space n)) (behind-space run.at)) (behind-space run.len)
 
 commas : (ns : List ℕ) → Plain (behind_commas ns)
 commas [] = none
@@ -215,7 +223,8 @@ stamp (n ∷ ns) = append (decimal n) (behind_commas ns) (number n) (commas ns)
 pub shown : (ns bytes : List ℕ) → Plain (shown_text ns bytes)
 shown ns bytes =
     append (codes "shown " ++ stamp_text ns ++ codes " ") (value_text bytes)
-    (append (codes "shown " ++ stamp_text ns) (codes " ") (append (codes "shown ") (stamp_text ns) (word (codes "shown ") refl) (stamp ns)) (word (codes " ") refl)) (value bytes)
+    (append (codes "shown " ++ stamp_text ns) (codes " ") (append (codes "shown ") (stamp_text ns) (word (codes "shown ") refl) (stamp ns))
+    (word (codes " ") refl)) (value bytes)
 
 -- the words of other lines
 pub drained : Plain (codes "drained ")

@@ -23,12 +23,15 @@ FitsIfReply t = (r : Reply) → t.answer ≡ answered.Reply r → MayAnswer (kin
 module _ (k : ℕ) (ts : List Turn) (within : AnswersWithin k ts) (logged : All FitsLogged (log_of ts)) where
   of-since : (i : ℕ) (name : CallName) (r : Reply) → IsLoggedSince ts i name r → FitsReply r
   of-since i name r since =
-      let whole : log_of ts ≡ log_of (take (i + 1) ts) ++ log_of (drop (i + 1) ts) = ap log_of (sym (take-append-drop (i + 1) ts)) ∙ log-append (take (i + 1) ts) (drop (i + 1) ts) in
+      let whole : log_of ts ≡ log_of (take (i + 1) ts) ++ log_of (drop (i + 1) ts) = ap log_of (sym (take-append-drop (i + 1) ts))
+      ∙ log-append (take (i + 1) ts) (drop (i + 1) ts) in
       let there : slice_get (log_of ts) since.place ≡ Some (entry_of name since.op r)
-      = ap (λ (es : List Entry). slice_get es since.place) whole ∙ get-front (log_of (take (i + 1) ts)) (log_of (drop (i + 1) ts)) since.place (entry_of name since.op r) since.entry in
+      = ap (λ (es : List Entry). slice_get es since.place) whole
+      ∙ get-front (log_of (take (i + 1) ts)) (log_of (drop (i + 1) ts)) since.place (entry_of name since.op r) since.entry in
       all-get FitsLogged (log_of ts) since.place (entry_of name since.op r) logged there
 
-  by-event : (i : ℕ) (t : Turn) (e : Event) (r : Reply) → slice_get ts i ≡ Some t → t.event ≡ e → t.answer ≡ answered.Reply r → MayAnswer (kind_of e) (answered.Reply r) → FitsReply r
+  by-event : (i : ℕ) (t : Turn) (e : Event) (r : Reply) → slice_get ts i ≡ Some t → t.event ≡ e → t.answer ≡ answered.Reply r
+      → MayAnswer (kind_of e) (answered.Reply r) → FitsReply r
   by-event i t (happens.Ask caller op p) r is event answer may =
       let name : CallName = record { caller = caller; call = asks_of caller (take i ts) } in
       let entry : Contains t.logged (entry_of name op r) = within.at_once i t name op r (record { there = is; at = p; event = event; place = refl }) answer in

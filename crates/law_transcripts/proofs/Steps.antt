@@ -29,7 +29,8 @@ steps_from p line lines next = elim next [ Goes q turns text ↦ steps_on p (lin
 abbrev Goal : List (List ℕ) → Type 0
 Goal lines = (n : ℕ) (s : Option Setting) (p : Option Play) (script : Script) → Beside s p → script_in n s lines ≡ Ok script → IsScript p lines script
 
-behind-ok : (steps : List Step) (r : Outcome) (script : Script) → behind steps r ≡ Ok script → (rest : Script) × (r ≡ Ok rest) × (record { shape = rest.shape; steps = steps ++ rest.steps } ≡ script)
+behind-ok : (steps : List Step) (r : Outcome) (script : Script) → behind steps r ≡ Ok script
+    → (rest : Script) × (r ≡ Ok rest) × (record { shape = rest.shape; steps = steps ++ rest.steps } ≡ script)
 behind-ok steps (Ok rest) script is = (rest, refl, cc is)
 behind-ok steps (Err fault) script is = cc is
 
@@ -41,15 +42,18 @@ named-stays (Some p) None line lines turns text is stays = absurd stays
 named-stays (Some p) (Some q) line lines turns text is stays = ap (λ (d : Dimensions). Some d) (sym stays)
 
 -- a script that ends here
-ends : (n : ℕ) (s : Option Setting) (p : Option Play) (lines : List (List ℕ)) (script : Script) → Beside s p → ended n s ≡ Ok script → (script.steps ≡ []) × (shape_in (named_in next_of p lines) ≡ Some script.shape)
+ends : (n : ℕ) (s : Option Setting) (p : Option Play) (lines : List (List ℕ)) (script : Script) → Beside s p → ended n s ≡ Ok script
+    → (script.steps ≡ []) × (shape_in (named_in next_of p lines) ≡ Some script.shape)
 ends n None p lines script same is = cc is
 ends n (Some s) None lines script same is = absurd same
 ends n (Some s) (Some p) lines script same is =
     let both : record { shape = s.shape; steps = [] } ≡ script = cc is in
     (sym (ap (λ (x : Script). x.steps) both), ap (λ (d : Dimensions). Some d) (sym same.shape ∙ ap (λ (x : Script). x.shape) both))
 
-from-next : (line : List ℕ) (lines : List (List ℕ)) → Goal lines → (n : ℕ) (s : Option Setting) (p : Option Play) (script : Script) → Beside s p → (a : StepNext) (b : PlayNext) → next_of p line ≡ b
-    → SameNext p a b (steps_on p (line_of (shape_in p) line)) → (skipped well : Bool) → (skipped ≡ true → a ≡ Goes s [] []) → from_line skipped well n s a (λ next. script_in (n + 1) next lines) ≡ Ok script
+from-next : (line : List ℕ) (lines : List (List ℕ)) → Goal lines → (n : ℕ) (s : Option Setting) (p : Option Play) (script : Script) → Beside s p
+    → (a : StepNext) (b : PlayNext) → next_of p line ≡ b
+    → SameNext p a b (steps_on p (line_of (shape_in p) line)) → (skipped well : Bool) → (skipped ≡ true → a ≡ Goes s [] [])
+    → from_line skipped well n s a (λ next. script_in (n + 1) next lines) ≡ Ok script
     → (script.steps ≡ steps_from p line lines b) × (shape_in (named_in next_of p (line ∷ lines)) ≡ Some script.shape)
 from-next line lines onward n s p script same (Goes t steps text) (Goes q turns written) is (beside, own, stays) true well skips_it ok =
     let rest = onward (n + 1) t q script beside ok in
@@ -58,8 +62,11 @@ from-next line lines onward n s p script same (Goes t steps text) (Goes q turns 
 from-next line lines onward n s p script same (Goes t steps text) (Goes q turns written) is (beside, own, stays) false false skips_it ok = cc ok
 from-next line lines onward n s p script same (Goes t steps text) (Goes q turns written) is (beside, own, stays) false true skips_it ok =
     let read = behind-ok steps (script_in (n + 1) t lines) script ok in
-    let rest = onward (n + 1) t q read.0 beside read.1 in
-    (sym (ap (λ (x : Script). x.steps) read.2) ∙ (λ i. own i ++ rest.0 i), named-stays p q line lines turns written is stays ∙ rest.1 ∙ ap (λ (x : Script). Some x.shape) read.2)
+    let rest = onward (n + 1) t q read.0 beside read.1 in (
+      sym (ap (λ (x : Script). x.steps) read.2) ∙ (λ i. own i ++ rest.0 i),
+      named-stays p q line lines turns written is stays ∙ rest.1
+          ∙ ap (λ (x : Script). Some x.shape) read.2,
+    )
 from-next line lines onward n s p script same Ends Ends is next skipped well skips_it ok = ends n s p (line ∷ lines) script same ok
 from-next line lines onward n s p script same (Refused a) (Refused b) is next skipped well skips_it ok = cc ok
 from-next line lines onward n s p script same (Goes t steps text) Ends is next skipped well skips_it ok = absurd next
@@ -72,8 +79,10 @@ from-next line lines onward n s p script same (Refused a) Ends is next skipped w
 is-script : (lines : List (List ℕ)) → Goal lines
 is-script [] n s p script same ok = ends n s p [] script same ok
 is-script (line ∷ lines) n s p script same ok =
-    from-next line lines (is-script lines) n s p script same (verify.next_of s line) (next_of p line) refl (line-beside s p line same) (is_skipped line) (stands_well line lines) (λ skipped. skips line s skipped) ok
+    from-next line lines (is-script lines) n s p script same (verify.next_of s line) (next_of p line) refl (line-beside s p line same) (is_skipped line)
+    (stands_well line lines) (λ skipped. skips line s skipped) ok
 
 -- the steps that are read, and the shape
-pub script-is : (text : List ℕ) (script : Script) → script_in 1 None (lines_of text) ≡ Ok script → (script.steps ≡ steps_along None (lines_of text)) × (shape_of text ≡ Some script.shape)
+pub script-is : (text : List ℕ) (script : Script) → script_in 1 None (lines_of text) ≡ Ok script
+    → (script.steps ≡ steps_along None (lines_of text)) × (shape_of text ≡ Some script.shape)
 script-is text script ok = is-script (lines_of text) 1 None None script tt ok

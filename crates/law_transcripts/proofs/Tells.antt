@@ -46,7 +46,8 @@ tells-append (x ∷ xs) ys (t ∷ ts) us (one, first) more = (one, tells-append 
 deliveries-told : (w : World) (es : List Event) → All IsDelivery es → All (λ t. IsDelivery t.event) (turns_from w es)
 deliveries-told w [] all = All-nil (λ (t : Turn). IsDelivery t.event)
 deliveries-told w (e ∷ es) all =
-    All-cons (λ (t : Turn). IsDelivery t.event) (step w e).turn (turns_from (step w e).world es) (All-head IsDelivery e es all) (deliveries-told (step w e).world es (All-tail IsDelivery e es all))
+    All-cons (λ (t : Turn). IsDelivery t.event) (step w e).turn (turns_from (step w e).world es) (All-head IsDelivery e es all)
+    (deliveries-told (step w e).world es (All-tail IsDelivery e es all))
 
 looked-tells : (w : World) (p : ProcessId) (run : Run) → Tells (Look p run) (looked w p run)
 looked-tells w p run = by (is_down w) (is_dead w p)
@@ -63,10 +64,16 @@ TellsNext Ends steps told = ⊤
 TellsNext (Refused cause) steps told = ⊤
 
 module _ (s : Dimensions) where
-  made-tells : (w : World) (e : Event) → IsLedTo s w → MayCome w e → w.events < 2 ^ 62 → All FitsIfReply ((step w e).turn ∷ []) → TellAll (Make e ∷ []) (Made (step w e).turn ∷ [])
-  made-tells w e led may few fits = (subst (λ (v : World). MayCome v e → v.events < 2 ^ 62 → FitsIfReply (step v e).turn → Tells (Make e) (Made (step v e).turn)) (sym led.is) by may few (All-head FitsIfReply (step w e).turn [] fits), tt)
+  made-tells : (w : World) (e : Event) → IsLedTo s w → MayCome w e → w.events < 2 ^ 62 → All FitsIfReply ((step w e).turn ∷ [])
+      → TellAll (Make e ∷ []) (Made (step w e).turn ∷ [])
+  made-tells w e led may few fits = (
+    subst (λ (v : World). MayCome v e → v.events < 2 ^ 62 → FitsIfReply (step v e).turn
+        → Tells (Make e) (Made (step v e).turn)) (sym led.is) by may few (All-head FitsIfReply (step w e).turn [] fits),
+    tt,
+  )
     where
-      by : MayCome (after s led.events) e → (after s led.events).events < 2 ^ 62 → FitsIfReply (step (after s led.events) e).turn → Tells (Make e) (Made (step (after s led.events) e).turn)
+      by : MayCome (after s led.events) e → (after s led.events).events < 2 ^ 62 → FitsIfReply (step (after s led.events) e).turn
+          → Tells (Make e) (Made (step (after s led.events) e).turn)
       by may few fits =
           let can : MayAnswer (kind_of e) (step (after s led.events) e).turn.answer = may-answer s led.events e led.run may in
           (refl, can, answer-fits s led.events led.run few e may (λ r is. fits r is can))
@@ -78,10 +85,12 @@ module _ (s : Dimensions) where
       let long = turns-long w (draining w) in
       (deliveries-told w (draining w) (draining-delivers w), omega (arith, few, light, many, long))
 
-  then-tells : (p : Play) (l : Line) → IsLedTo s p.world → burden p.world < 2 ^ 62 → IsLineOf (Some p.world.shape) l → TellsNext (then_by p l) (steps_by p l) (told_by p l)
+  then-tells : (p : Play) (l : Line) → IsLedTo s p.world → burden p.world < 2 ^ 62 → IsLineOf (Some p.world.shape) l
+      → TellsNext (then_by p l) (steps_by p l) (told_by p l)
   then-tells p Skipped led few within = λ fits. tt
   then-tells p (Group shape) led few within = tt
-  then-tells p (Ask caller from act) led few within = λ fits. made-tells p.world (happens.Ask caller (record { moment = p.moment; act = act }) from) led within (omega (arith, few)) fits
+  then-tells p (Ask caller from act) led few within = λ fits. made-tells p.world (happens.Ask caller (record { moment = p.moment; act = act }) from)
+      led within (omega (arith, few)) fits
   then-tells p (Collect caller call from) led few within = λ fits. made-tells p.world (happens.Collect caller call from) led within (omega (arith, few)) fits
   then-tells p (Deliver from to) led few within = λ fits. made-tells p.world (happens.Deliver from to) led within (omega (arith, few)) fits
   then-tells p (Fail from keep) led few within = λ fits. made-tells p.world (happens.Fail from keep) led within (omega (arith, few)) fits
@@ -89,8 +98,10 @@ module _ (s : Dimensions) where
   then-tells p (Trace caller call d from) led few within = by (nat_lt call (at 0 p.world.asked caller)) refl
     where
       by : (b : Bool) → nat_lt call (at 0 p.world.asked caller) ≡ b
-          → TellsNext (if b then by_event p (happens.Trace caller call d from) else Refused BadLine) (Make (happens.Trace caller call d from) ∷ []) (Made (step p.world (happens.Trace caller call d from)).turn ∷ [])
-      by true less = λ fits. made-tells p.world (happens.Trace caller call d from) led (within.0, grind (arith, nat_tests, less), within.1, within.2) (omega (arith, few)) fits
+          → TellsNext (if b then by_event p (happens.Trace caller call d from) else Refused BadLine) (Make (happens.Trace caller call d from) ∷ [])
+          (Made (step p.world (happens.Trace caller call d from)).turn ∷ [])
+      by true less = λ fits. made-tells p.world (happens.Trace caller call d from) led (within.0, grind (arith, nat_tests, less), within.1, within.2)
+          (omega (arith, few)) fits
       by false less = tt
   then-tells p Drain led few within = λ fits. (drained-tells p.world led few, tt)
   then-tells p (Show from run) led few within = λ fits. (looked-tells p.world from run, tt)
@@ -98,7 +109,8 @@ module _ (s : Dimensions) where
   then-tells p (Time moment) led few within = λ fits. tt
   then-tells p Stop led few within = tt
 
-  line-tells : (p : Play) (line : List ℕ) → IsLedTo s p.world → burden p.world < 2 ^ 62 → TellsNext (next_of (Some p) line) (steps_on (Some p) (line_of (Some p.world.shape) line)) (told_on (Some p) (line_of (Some p.world.shape) line))
+  line-tells : (p : Play) (line : List ℕ) → IsLedTo s p.world → burden p.world < 2 ^ 62
+      → TellsNext (next_of (Some p) line) (steps_on (Some p) (line_of (Some p.world.shape) line)) (told_on (Some p) (line_of (Some p.world.shape) line))
   line-tells p line led few = by (line_of (Some p.world.shape) line) refl
     where
       by : (r : Result Line LineFault) → line_of (Some p.world.shape) line ≡ r → TellsNext (next_by (Some p) r) (steps_on (Some p) r) (told_on (Some p) r)
@@ -127,7 +139,8 @@ named-tells : (s : Dimensions) (lines : List (List ℕ)) → Goal s lines
 named-tells s [] p led few fits = tt
 named-tells s (line ∷ lines) p led few fits = by (next_of (Some p) line) refl (line-tells s p line led (omega (arith, few))) (named-tells s lines) fits
   where
-    by : (next : PlayNext) → next_of (Some p) line ≡ next → TellsNext next (steps_on (Some p) (line_of (Some p.world.shape) line)) (told_on (Some p) (line_of (Some p.world.shape) line)) → Goal s lines
+    by : (next : PlayNext) → next_of (Some p) line ≡ next
+        → TellsNext next (steps_on (Some p) (line_of (Some p.world.shape) line)) (told_on (Some p) (line_of (Some p.world.shape) line)) → Goal s lines
         → All FitsIfReply (turns_after lines next) → TellAll (steps_from (Some p) line lines next) (told_from (Some p) line lines next)
     by Ends is own later fits = tt
     by (Refused cause) is own later fits = tt
@@ -135,8 +148,10 @@ named-tells s (line ∷ lines) p led few fits = by (next_of (Some p) line) refl 
         let on : GoesOn p.world next turns = line-leads s p line next turns text led is in
         let light = on.light in
         let rest : TellsAlong next lines
-        = subst (λ (q : Option Play). TellsAlong q lines) (sym on.is) (later on.play (led-on s p.world on.play.world turns led on.leads) (omega (arith, few, light))) in
-        tells-append (steps_on (Some p) (line_of (Some p.world.shape) line)) (steps_along next lines) (told_on (Some p) (line_of (Some p.world.shape) line)) (told_along next lines)
+        = subst (λ (q : Option Play). TellsAlong q lines) (sym on.is)
+        (later on.play (led-on s p.world on.play.world turns led on.leads) (omega (arith, few, light))) in
+        tells-append (steps_on (Some p) (line_of (Some p.world.shape) line)) (steps_along next lines) (told_on (Some p) (line_of (Some p.world.shape) line))
+        (told_along next lines)
         (own (front-all FitsIfReply turns (turns_in next_of next lines) fits)) (rest (back-all FitsIfReply turns (turns_in next_of next lines) fits))
 
 pub script-tells : (lines : List (List ℕ)) → length lines * line_burden < 2 ^ 62 → TellsAlong None lines
@@ -146,11 +161,13 @@ script-tells (line ∷ lines) few fits = by (next_of None line) refl (script-tel
     named : (s : Dimensions) → IsShape s → TellsAlong (Some (record { world = opening s; moment = 0 })) lines
     named s limits = named-tells s lines (record { world = opening s; moment = 0 }) (opened s limits) (let none = load-opening s in omega (arith, none, few))
 
-    either : (next : Option Play) → (next ≡ None) ⊎ ((s : Dimensions) × IsShape s × (next ≡ Some (record { world = opening s; moment = 0 }))) → TellsAlong None lines → TellsAlong next lines
+    either : (next : Option Play) → (next ≡ None) ⊎ ((s : Dimensions) × IsShape s × (next ≡ Some (record { world = opening s; moment = 0 })))
+        → TellsAlong None lines → TellsAlong next lines
     either next (inl none) later = subst (λ (q : Option Play). TellsAlong q lines) (sym none) later
     either next (inr (s, limits, some)) later = subst (λ (q : Option Play). TellsAlong q lines) (sym some) (named s limits)
 
-    by : (next : PlayNext) → next_of None line ≡ next → TellsAlong None lines → All FitsIfReply (turns_after lines next) → TellAll (steps_from None line lines next) (told_from None line lines next)
+    by : (next : PlayNext) → next_of None line ≡ next → TellsAlong None lines → All FitsIfReply (turns_after lines next)
+        → TellAll (steps_from None line lines next) (told_from None line lines next)
     by Ends is later fits = tt
     by (Refused cause) is later fits = tt
     by (Goes next turns text) is later fits =

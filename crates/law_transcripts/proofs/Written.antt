@@ -36,7 +36,8 @@ use Rattle.law_transcripts.proofs.Telling.{looked, places_of, told_along, told_b
 
 pub lines-append : (xs ys : List Told) → lines_told (xs ++ ys) ≡ lines_told xs ++ lines_told ys
 lines-append [] ys = refl
-lines-append (x ∷ xs) ys = ap (λ (ls : List (List ℕ)). told_lines x ++ ls) (lines-append xs ys) ∙ sym (append_assoc (told_lines x) (lines_told xs) (lines_told ys))
+lines-append (x ∷ xs) ys = ap (λ (ls : List (List ℕ)). told_lines x ++ ls) (lines-append xs ys)
+    ∙ sym (append_assoc (told_lines x) (lines_told xs) (lines_told ys))
 
 one : (t : Told) → joined (told_lines t) ≡ joined (lines_told (t ∷ []))
 one t = ap joined (sym (append-nil (told_lines t)))
@@ -86,7 +87,8 @@ module _ (w : World) where
   placed-joined =
       let runs = runs-joined 0 w.shape.k in
       let many = many-placed (range_with_len 0 w.shape.k) in
-      (λ i. runs i ++ (codes "placed " ++ (decimal (many i) ++ codes "\n"))) ∙ sym (joined-append (place_lines 0 (places_of w)) (placed_line (count_placed (places_of w)) ∷ []))
+      (λ i. runs i ++ (codes "placed " ++ (decimal (many i) ++ codes "\n")))
+      ∙ sym (joined-append (place_lines 0 (places_of w)) (placed_line (count_placed (places_of w)) ∷ []))
 
 -- what is written for a line is what it tells
 abbrev Writes : PlayNext → List Told → Type 0
@@ -150,11 +152,13 @@ pub text-joined : (p : Option Play) (lines : List (List ℕ)) → text_in next_o
 text-joined p [] = refl
 text-joined p (line ∷ lines) = by (next_of p line) (line-writes p (line_of (shape_in p) line)) (λ q. text-joined q lines)
   where
-    by : (next : PlayNext) → Writes next (told_on p (line_of (shape_in p) line)) → ((q : Option Play) → text_in next_of q lines ≡ joined (lines_told (told_along q lines)))
+    by : (next : PlayNext) → Writes next (told_on p (line_of (shape_in p) line))
+        → ((q : Option Play) → text_in next_of q lines ≡ joined (lines_told (told_along q lines)))
         → text_from lines next ≡ joined (lines_told (told_from p line lines next))
     by Ends writes later = refl
     by (Refused cause) writes later = refl
     by (Goes q turns text) writes later =
         let own : List Told = told_on p (line_of (shape_in p) line) in
         let rest = later q in
-        (λ i. writes i ++ rest i) ∙ sym (joined-append (lines_told own) (lines_told (told_along q lines))) ∙ ap joined (sym (lines-append own (told_along q lines)))
+        (λ i. writes i ++ rest i) ∙ sym (joined-append (lines_told own) (lines_told (told_along q lines)))
+        ∙ ap joined (sym (lines-append own (told_along q lines)))
