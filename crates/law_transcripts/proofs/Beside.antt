@@ -1,8 +1,8 @@
 -- What the steps of a script ask, beside its course: both read each line alike.
-use Rattle.std.proofs.Common.{◌≡◌, ◌<◌, ◌+◌, ℕ, zero, suc, Bool, true, false, nat_lt, List, [], ◌∷◌, ◌++◌, ◌∙◌, length, slice_set, Option, Some, None, Result, Ok, Err, if◌then◌else◌, refl, sym, ap, subst, arith}
+use Rattle.std.proofs.Common.{◌≡◌, ◌<◌, ◌+◌, ℕ, zero, suc, Bool, true, false, nat_lt, List, [], ◌∷◌, ◌∙◌, length, slice_set, Option, Some, None, Result, Ok, Err, if◌then◌else◌, refl, sym, ap, subst, arith}
 use Rattle.std.proofs.lemmas.List.{length-replicate}
 use Rattle.std.proofs.lemmas.List.Elements.{All-head, All-tail}
-use Rattle.std.specs.Prelude.{All, option_map, slice_index}
+use Rattle.std.specs.Prelude.{All, slice_index}
 use Rattle.group_types.proofs.Lists.{length-put}
 use Rattle.group_types.specs.Dimensions.{Dimensions, callers}
 use Rattle.group_types.specs.Lists.{at, put}
@@ -19,7 +19,7 @@ use Rattle.scenario_run.specs.Course.{Ends, Goes, Refused}
 use Rattle.scenario_run.specs.Playing.{Play, PlayNext, by_event, draining, next_by, next_of, shape_in, then_by}
 use Rattle.scenario_run.proofs.Leading.{keeps-shape}
 use Rattle.run_verify.specs.Steps as verify
-use Rattle.run_verify.specs.Steps.{Setting, StepNext, first_setting, with_ask}
+use Rattle.run_verify.specs.Steps.{Setting, StepNext}
 use Rattle.run_verify.specs.Told.{IsDelivery}
 use Rattle.run_verify.specs.declared.step.Step.{Step}
 use Rattle.run_verify.specs.declared.step.Step.TheVariants.{Make}

@@ -1,5 +1,5 @@
 -- A block that has to be rebuilt first has a number below that of the addresses of a space.
-use Rattle.std.proofs.Common.{◌≡◌, ◌<◌, ◌≤◌, ◌+◌, ◌-◌, ◌/◌, ◌==◌, ◌&&◌, ◌⊎◌, inl, inr, ℕ, zero, suc, Bool, true, false, cond, nat_lt, not, is_some, find, List, [], ◌∷◌, ◌++◌, ◌∙◌, drop, length, take, slice_get, Option, Some, None, if◌then◌else◌, refl, sym, ap, subst, arith}
+use Rattle.std.proofs.Common.{◌≡◌, ◌<◌, ◌≤◌, ◌+◌, ◌-◌, ◌/◌, ◌==◌, ◌&&◌, ◌⊎◌, inl, inr, ℕ, zero, suc, Bool, true, false, cond, nat_lt, not, is_some, find, List, [], ◌∷◌, ◌∙◌, drop, length, take, slice_get, Option, Some, None, if◌then◌else◌, refl, sym, ap, subst, arith}
 use Rattle.std.proofs.Math.Nat.{div-le_self}
 use Rattle.std.proofs.lemmas.List.{take-append-drop}
 use Rattle.std.specs.List.{range_with_len}
@@ -17,11 +17,11 @@ use Rattle.group_calls.specs.declared.event.Event.{Event}
 use Rattle.group_run.specs.Applying.{replica_of}
 use Rattle.group_run.specs.Causes.{IsReady, IsUp, NeedsBlock, NeedsItem, NeedsPlace, home_in, replica_for}
 use Rattle.group_run.specs.Deciding.{reads_bytes, run_needed}
-use Rattle.group_run.specs.Headline.{HasClearRun, IsItem, IsRun, KeepsAll, ValuesWritten}
-use Rattle.group_run.specs.Leaders.{blocks_met, missing_block, rebuilt_block}
+use Rattle.group_run.specs.Headline.{IsItem, IsRun, KeepsAll}
+use Rattle.group_run.specs.Leaders.{blocks_met, rebuilt_block}
 use Rattle.group_run.specs.Meaning.{IsDown, Lives, Logged, process_of, run_after, run_on, run_unless, table_at, updates_of}
 use Rattle.group_run.specs.Replica.{Replica, run_in, slot_in}
-use Rattle.group_run.specs.World.{World, after}
+use Rattle.group_run.specs.World.{after}
 use Rattle.law_headline.proofs.Headlines.{headline_always}
 use Rattle.law_updates.proofs.Decides.{place-free}
 use Rattle.scenario_text.proofs.Read.{passed}

@@ -9,7 +9,7 @@ use Rattle.group_calls.specs.declared.event.Event.TheVariants as happens
 use Rattle.group_run.specs.Draining.{drain_events, event_or, next_among, next_delivery, next_from, next_target}
 use Rattle.group_run.specs.Progress.{load_of}
 use Rattle.group_run.specs.Shown.{is_down}
-use Rattle.group_run.specs.World.{World, step, world_after}
+use Rattle.group_run.specs.World.{World, step}
 use Rattle.scenario_run.specs.Playing.{draining}
 use Rattle.run_verify.specs.Told.{IsDelivery}
 

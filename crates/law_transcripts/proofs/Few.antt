@@ -1,10 +1,10 @@
 -- A script has few turns: no more than its lines can make and drain.
-use Rattle.std.proofs.Common.{◌≡◌, ◌<◌, ◌≤◌, ◌+◌, ◌*◌, ◌⊎◌, inl, inr, ℕ, suc, List, [], ◌∷◌, ◌++◌, ◌∙◌, length, Option, Some, None, refl, sym, ap, subst, arith}
+use Rattle.std.proofs.Common.{◌≡◌, ◌≤◌, ◌+◌, ◌*◌, ◌⊎◌, inl, inr, ℕ, suc, List, [], ◌∷◌, ◌++◌, ◌∙◌, length, Option, Some, None, refl, sym, ap, subst, arith}
 use Rattle.std.proofs.lemmas.List.{length-append}
 use Rattle.group_types.specs.Dimensions.{Dimensions}
 use Rattle.group_types.specs.Shape.{IsShape}
 use Rattle.group_calls.specs.Turns.{Turn}
-use Rattle.group_run.specs.World.{World, opening, turns_from}
+use Rattle.group_run.specs.World.{World, opening}
 use Rattle.scenario_run.specs.Course.{Ends, Goes, Refused, turns_in}
 use Rattle.scenario_run.specs.Playing.{Play, PlayNext, next_of}
 use Rattle.scenario_run.proofs.Draining.{burden, line_burden, load-opening}

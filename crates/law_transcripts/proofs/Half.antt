@@ -1,20 +1,18 @@
 -- What is told of a script that is read and was played: for its steps, in lines that its transcript is cut into.
-use Rattle.std.proofs.Common.{◌≡◌, ◌<◌, ◌≤◌, ◌+◌, ◌*◌, ◌^◌, ◌∙◌, ℕ, List, length, Some, None, Ok, refl, sym, ap, subst, arith}
+use Rattle.std.proofs.Common.{◌≡◌, ◌≤◌, ◌+◌, ℕ, List, length, Some, None, Ok, sym, subst, arith}
 use Rattle.std.proofs.lemmas.List.Elements.{All-weaker}
 use Rattle.std.specs.Prelude.{All}
-use Rattle.group_calls.specs.Turns.{Turn, log_of}
-use Rattle.group_calls.specs.declared.entry.Entry.{Entry}
+use Rattle.group_calls.specs.Turns.{log_of}
 use Rattle.scenario_run.specs.Lines.{lines_of}
 use Rattle.scenario_run.specs.Promises.{KeepsPromises}
 use Rattle.scenario_run.specs.Script.{first_fault, shape_of, transcript, turns_of}
-use Rattle.scenario_run.proofs.Draining.{line_burden}
 use Rattle.scenario_run.proofs.Promises.{scripts_keep_promises}
 use Rattle.scenario_play.specs.Status.{longest_script}
 use Rattle.run_verify.proofs.Judged.{lines-few}
 use Rattle.run_verify.specs.Steps.{Script, script_in}
-use Rattle.run_verify.specs.Told.{TellAll, Told, lines_told}
+use Rattle.run_verify.specs.Told.{TellAll, lines_told}
 use Rattle.run_verify.specs.declared.step.Step.{Step}
-use Rattle.law_transcripts.proofs.Asks.{FineTurn, turns-fine}
+use Rattle.law_transcripts.proofs.Asks.{turns-fine}
 use Rattle.law_transcripts.proofs.Few.{turns-few}
 use Rattle.law_transcripts.proofs.Lines.{PlainKey, lines-told}
 use Rattle.law_transcripts.proofs.Logs.{FineEntry, FitsLogged, log-short, ops-fine, replies-fit}

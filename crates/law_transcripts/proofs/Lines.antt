@@ -1,9 +1,8 @@
 -- The lines of a script's transcript are those that its course tells: none holds a line end within.
-use Rattle.std.proofs.Common.{◌≡◌, ◌+◌, ℕ, zero, suc, Bool, true, false, nat_lt, List, [], ◌∷◌, ◌++◌, ◌∙◌, codes, length, map, append_assoc, Option, Some, None, Result, Ok, Err, if◌then◌else◌, refl, sym, ap, subst, arith}
+use Rattle.std.proofs.Common.{◌≡◌, ℕ, suc, Bool, true, false, nat_lt, List, [], ◌∷◌, ◌++◌, ◌∙◌, codes, length, map, Option, Some, None, Result, Ok, Err, if◌then◌else◌, sym, ap, subst}
 use Rattle.std.proofs.lemmas.List.{append-nil}
-use Rattle.std.proofs.lemmas.List.Elements.{All-append, All-cons, All-head, All-map, All-nil, All-tail}
+use Rattle.std.proofs.lemmas.List.Elements.{All-append, All-cons, All-head, All-nil, All-tail}
 use Rattle.std.specs.Fmt.{decimal}
-use Rattle.std.specs.List.{range_with_len}
 use Rattle.std.specs.Prelude.{All, ⊤}
 use Rattle.group_types.specs.Lists.{at}
 use Rattle.group_types.specs.declared.process.ProcessId.{ProcessId}
@@ -11,27 +10,25 @@ use Rattle.group_types.specs.declared.run.Run.{Run}
 use Rattle.memc_table.specs.Act.{key_of}
 use Rattle.group_calls.specs.Turns.{Turn, log_of}
 use Rattle.group_calls.specs.declared.entry.Entry.{Entry}
-use Rattle.group_calls.specs.declared.event.Event.{Event}
 use Rattle.group_calls.specs.declared.event.Event.TheVariants as happens
 use Rattle.group_run.specs.Meaning.{is_dead}
 use Rattle.group_run.specs.Shown.{held, is_down, stamp_of}
 use Rattle.group_run.specs.World.{World, step, turns_from}
 use Rattle.scenario_text.specs.Meaning.{line_of}
-use Rattle.scenario_text.specs.Texts.{answer_text, entries_text, entry_text, many_placed, place_text, places_text, shown_text}
+use Rattle.scenario_text.specs.Texts.{answer_text, entry_text, place_text, shown_text}
 use Rattle.scenario_text.specs.declared.line.Line.{Line}
 use Rattle.scenario_text.specs.declared.line.Line.TheVariants.{Skipped, Group, Ask, Collect, Deliver, Fail, Flush, Trace, Drain, Show, Places, Time, Stop}
 use Rattle.scenario_text.specs.declared.line.LineFault.{LineFault}
 use Rattle.scenario_text.specs.declared.line.LineFault.TheVariants.{BadLine}
 use Rattle.scenario_run.specs.Course.{Ends, Goes, Refused, text_in, turns_in}
 use Rattle.scenario_run.specs.Lines.{lines_of}
-use Rattle.scenario_run.specs.Placing.{many_runs, placed_text, runs_text}
-use Rattle.scenario_run.specs.Playing.{Play, PlayNext, by_event, draining, drained_text, first_by, look, next_by, next_of, shape_in, then_by, turn_text}
+use Rattle.scenario_run.specs.Playing.{Play, PlayNext, by_event, draining, first_by, next_by, next_of, shape_in, then_by}
 use Rattle.run_verify.proofs.ImpliedShadow.{log-append}
 use Rattle.run_verify.specs.Told.{Down, Drained, Lost, Made, Placed, Shown, Told, count_placed, drained_line, lines_told, place_lines, placed_line, run_lines, told_lines}
-use Rattle.law_transcripts.proofs.Joining.{joined, joined-append, lines-joined}
+use Rattle.law_transcripts.proofs.Joining.{lines-joined}
 use Rattle.law_transcripts.proofs.Parts.{back-all, front-all}
-use Rattle.law_transcripts.proofs.Plain as plain
-use Rattle.law_transcripts.proofs.Plain.{Plain}
+use Rattle.law_transcripts.proofs.Plain.{Plain, append, number}
+use Rattle.law_transcripts.proofs.PlainTexts as plain
 use Rattle.law_transcripts.proofs.Written.{lines-append, text-joined, told_from}
 use Rattle.law_transcripts.proofs.Telling.{looked, places_of, told_along, told_by, told_on}
 
@@ -50,7 +47,7 @@ made-plain t keys = subst (All Plain) (sym (append-nil (told_lines (Made t))))
     (entries-plain t.logged (subst (All PlainKey) (append-nil t.logged) keys)))
 
 counted-plain : (front : List ℕ) (n : ℕ) → Plain front → All Plain ((front ++ decimal n) ∷ [])
-counted-plain front n first = All-cons Plain (front ++ decimal n) [] (plain.append front (decimal n) first (plain.number n)) (All-nil Plain)
+counted-plain front n first = All-cons Plain (front ++ decimal n) [] (append front (decimal n) first (number n)) (All-nil Plain)
 
 drained-plain : (ts : List Turn) → All PlainKey (log_of ts) → All Plain (lines_told (Drained ts (length ts) ∷ []))
 drained-plain ts keys = subst (All Plain) (sym (append-nil (told_lines (Drained ts (length ts)))))

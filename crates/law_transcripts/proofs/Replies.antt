@@ -1,5 +1,5 @@
 -- The replies of a script's turns are within their limits.
-use Rattle.std.proofs.Common.{◌≡◌, ◌<◌, ◌+◌, ◌^◌, ℕ, Bool, true, false, List, [], ◌∷◌, ◌++◌, ◌∙◌, drop, length, take, slice_get, Some, refl, sym, ap, subst}
+use Rattle.std.proofs.Common.{◌≡◌, ◌+◌, ℕ, List, ◌++◌, ◌∙◌, drop, take, slice_get, Some, refl, sym, ap, subst}
 use Rattle.std.proofs.lemmas.List.{take-append-drop}
 use Rattle.std.proofs.lemmas.List.Elements.{All-contains}
 use Rattle.std.specs.Prelude.{All, Contains}
@@ -7,11 +7,10 @@ use Rattle.memc_table.specs.declared.reply.Reply.{Reply}
 use Rattle.group_calls.specs.Turns.{CallName, Turn, asks_of, entry_of, log_of}
 use Rattle.group_calls.specs.Within.{AnswersWithin, Fetches, IsLoggedSince}
 use Rattle.group_calls.specs.declared.entry.Entry.{Entry}
-use Rattle.group_calls.specs.declared.event.Answer.{Answer}
 use Rattle.group_calls.specs.declared.event.Answer.TheVariants as answered
 use Rattle.group_calls.specs.declared.event.Event.{Event}
 use Rattle.group_calls.specs.declared.event.Event.TheVariants as happens
-use Rattle.transcript_text.specs.Forms.{FitsReply, MayAnswer, can_have, form_of, kind_of}
+use Rattle.transcript_text.specs.Forms.{FitsReply, MayAnswer, kind_of}
 use Rattle.run_verify.proofs.ExactEntries.{get-front}
 use Rattle.run_verify.proofs.ImpliedShadow.{log-append}
 use Rattle.law_transcripts.proofs.Logs.{FitsLogged, all-each, all-get, logged-there}

@@ -1,5 +1,5 @@
 -- The steps of a script that is read are those that its course asks, and its shape is that of the group.
-use Rattle.std.proofs.Common.{◌≡◌, ◌+◌, ℕ, Bool, true, false, List, [], ◌∷◌, ◌++◌, ◌∙◌, Option, Some, None, Result, Ok, Err, refl, sym, ap, subst}
+use Rattle.std.proofs.Common.{◌≡◌, ◌+◌, ℕ, Bool, true, false, List, [], ◌∷◌, ◌++◌, ◌∙◌, Option, Some, None, Result, Ok, Err, refl, sym, ap}
 use Rattle.group_types.specs.Dimensions.{Dimensions}
 use Rattle.scenario_text.specs.Meaning.{is_skipped, line_of}
 use Rattle.scenario_text.specs.declared.line.LineFault.{LineFault}
@@ -7,7 +7,7 @@ use Rattle.scenario_run.specs.Course.{Ends, Fault, Goes, Refused, named_in}
 use Rattle.scenario_run.specs.Lines.{lines_of}
 use Rattle.scenario_run.specs.Playing.{Play, PlayNext, next_of, shape_in}
 use Rattle.scenario_run.specs.Script.{shape_of}
-use Rattle.scenario_run.proofs.Following.{named-line, named_after}
+use Rattle.scenario_run.proofs.Following.{named-line}
 use Rattle.run_verify.specs.Steps as verify
 use Rattle.run_verify.specs.Steps.{Script, Setting, StepNext, behind, ended, from_line, script_in, stands_well}
 use Rattle.run_verify.specs.declared.step.Step.{Step}

@@ -1,5 +1,5 @@
 -- Something is told for each step of a script: an answer that its event can have, within its limits, and deliveries for a drain.
-use Rattle.std.proofs.Common.{◌≡◌, ◌<◌, ◌≤◌, ◌+◌, ◌*◌, ◌^◌, ◌⊎◌, inl, inr, ℕ, suc, Bool, true, false, nat_lt, List, [], ◌∷◌, ◌++◌, ◌∙◌, length, Option, Some, None, Result, Ok, Err, if◌then◌else◌, refl, sym, ap, subst, arith}
+use Rattle.std.proofs.Common.{◌≡◌, ◌<◌, ◌+◌, ◌*◌, ◌^◌, ◌⊎◌, inl, inr, ℕ, Bool, true, false, nat_lt, List, [], ◌∷◌, ◌++◌, length, Option, Some, None, Result, Ok, Err, if◌then◌else◌, refl, sym, subst, arith}
 use Rattle.std.proofs.lemmas.Bool.Decides.{nat_tests}
 use Rattle.std.proofs.lemmas.List.Elements.{All-cons, All-head, All-nil, All-tail}
 use Rattle.std.specs.Prelude.{All, ⊤}
@@ -14,7 +14,7 @@ use Rattle.group_calls.specs.declared.event.Event.TheVariants as happens
 use Rattle.group_run.specs.Headline.{MayCome}
 use Rattle.group_run.specs.Meaning.{is_dead}
 use Rattle.group_run.specs.Shown.{held, is_down, stamp_of}
-use Rattle.group_run.specs.World.{World, after, opening, step, turns_from, world_after}
+use Rattle.group_run.specs.World.{World, after, opening, step, turns_from}
 use Rattle.scenario_text.proofs.Lines.{line_of-within}
 use Rattle.scenario_text.specs.Meaning.{IsLineOf, line_of}
 use Rattle.scenario_text.specs.declared.line.Line.{Line}
@@ -26,16 +26,16 @@ use Rattle.scenario_run.specs.Playing.{Play, PlayNext, by_event, draining, next_
 use Rattle.scenario_run.proofs.Draining.{burden, drains, line_burden, load-opening}
 use Rattle.scenario_run.proofs.Leading.{IsLedTo, led-on, opened}
 use Rattle.scenario_run.proofs.Running.{GoesOn, line-leads, line-opens}
-use Rattle.transcript_text.specs.Forms.{FitsAnswer, MayAnswer, kind_of}
-use Rattle.run_verify.specs.Told.{Down, Drained, IsDelivery, Lost, Made, Placed, Shown, TellAll, Tells, Told}
+use Rattle.transcript_text.specs.Forms.{MayAnswer, kind_of}
+use Rattle.run_verify.specs.Told.{Down, Drained, IsDelivery, Lost, Made, Shown, TellAll, Tells, Told}
 use Rattle.run_verify.specs.declared.step.Step.{Step}
-use Rattle.run_verify.specs.declared.step.Step.TheVariants.{Make, Deliveries, Look, Placing}
+use Rattle.run_verify.specs.declared.step.Step.TheVariants.{Make, Deliveries, Look}
 use Rattle.law_transcripts.proofs.Answers.{may-answer}
 use Rattle.law_transcripts.proofs.Deliveries.{draining-delivers}
 use Rattle.law_transcripts.proofs.Numbers.{answer-fits, events-long, turns-long}
 use Rattle.law_transcripts.proofs.Parts.{back-all, front-all}
 use Rattle.law_transcripts.proofs.Replies.{FitsIfReply}
-use Rattle.law_transcripts.proofs.Telling.{looked, places_of, steps_along, steps_by, steps_on, told_along, told_by, told_on}
+use Rattle.law_transcripts.proofs.Telling.{looked, steps_along, steps_by, steps_on, told_along, told_by, told_on}
 
 tells-append : (xs ys : List Step) (ts us : List Told) → TellAll xs ts → TellAll ys us → TellAll (xs ++ ys) (ts ++ us)
 tells-append [] ys [] us first more = more

@@ -1,14 +1,12 @@
 -- What is written for the lines of a script is what its course tells, line by line.
-use Rattle.std.proofs.Common.{◌≡◌, ◌+◌, ℕ, zero, suc, Bool, true, false, nat_lt, List, [], ◌∷◌, ◌++◌, ◌∙◌, codes, length, map, append_assoc, Option, Some, None, Result, Ok, Err, if◌then◌else◌, refl, sym, ap, subst, arith}
+use Rattle.std.proofs.Common.{◌≡◌, ◌+◌, ℕ, zero, suc, Bool, true, false, nat_lt, List, [], ◌∷◌, ◌++◌, ◌∙◌, codes, length, map, append_assoc, Option, Some, None, Result, Ok, Err, if◌then◌else◌, refl, sym, ap, arith}
 use Rattle.std.proofs.lemmas.List.{append-nil}
-use Rattle.std.proofs.lemmas.List.Elements.{All-append, All-cons, All-head, All-map, All-nil, All-tail}
 use Rattle.std.specs.Fmt.{decimal}
 use Rattle.std.specs.List.{range_with_len}
-use Rattle.std.specs.Prelude.{All, ⊤}
+use Rattle.std.specs.Prelude.{⊤}
 use Rattle.group_types.specs.Lists.{at}
 use Rattle.group_types.specs.declared.process.ProcessId.{ProcessId}
 use Rattle.group_types.specs.declared.run.Run.{Run}
-use Rattle.memc_table.specs.Act.{key_of}
 use Rattle.group_calls.specs.Turns.{Turn, log_of}
 use Rattle.group_calls.specs.declared.entry.Entry.{Entry}
 use Rattle.group_calls.specs.declared.event.Event.{Event}
@@ -22,16 +20,11 @@ use Rattle.scenario_text.specs.declared.line.Line.{Line}
 use Rattle.scenario_text.specs.declared.line.Line.TheVariants.{Skipped, Group, Ask, Collect, Deliver, Fail, Flush, Trace, Drain, Show, Places, Time, Stop}
 use Rattle.scenario_text.specs.declared.line.LineFault.{LineFault}
 use Rattle.scenario_text.specs.declared.line.LineFault.TheVariants.{BadLine}
-use Rattle.scenario_run.specs.Course.{Ends, Goes, Refused, text_in, turns_in}
-use Rattle.scenario_run.specs.Lines.{lines_of}
+use Rattle.scenario_run.specs.Course.{Ends, Goes, Refused, text_in}
 use Rattle.scenario_run.specs.Placing.{many_runs, placed_text, runs_text}
 use Rattle.scenario_run.specs.Playing.{Play, PlayNext, by_event, draining, drained_text, first_by, look, next_by, next_of, shape_in, then_by, turn_text}
-use Rattle.run_verify.proofs.ImpliedShadow.{log-append}
 use Rattle.run_verify.specs.Told.{Down, Drained, Lost, Made, Placed, Shown, Told, count_placed, drained_line, lines_told, place_lines, placed_line, run_lines, told_lines}
-use Rattle.law_transcripts.proofs.Joining.{joined, joined-append, lines-joined}
-use Rattle.law_transcripts.proofs.Parts.{back-all, front-all}
-use Rattle.law_transcripts.proofs.Plain as plain
-use Rattle.law_transcripts.proofs.Plain.{Plain}
+use Rattle.law_transcripts.proofs.Joining.{joined, joined-append}
 use Rattle.law_transcripts.proofs.Telling.{looked, places_of, told_along, told_by, told_on}
 
 pub lines-append : (xs ys : List Told) → lines_told (xs ++ ys) ≡ lines_told xs ++ lines_told ys
