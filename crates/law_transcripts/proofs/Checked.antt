@@ -24,7 +24,8 @@ use Rattle.law_transcripts.proofs.Telling.{steps_along, told_along}
 -- a script that is played to its end is within the limit
 short-enough : (text : List ℕ) → told_in group_scripts text ≡ Done → (length text ≤ longest_script) × (verdict text ≡ Done)
 short-enough text done = by (nat_lt longest_script (length text)) refl done where
-  by : (b : Bool) → nat_lt longest_script (length text) ≡ b → (if b then TooLong else verdict text) ≡ Done → (length text ≤ longest_script) × (verdict text ≡ Done)
+  by : (b : Bool) → nat_lt longest_script (length text) ≡ b → (if b then TooLong else verdict text) ≡ Done
+      → (length text ≤ longest_script) × (verdict text ≡ Done)
   by true is done = absurd (cc done)
   by false is done = (grind (arith, nat_tests, is), done)
 
