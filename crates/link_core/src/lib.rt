@@ -3,7 +3,7 @@
 //! and how many more messages fit without memory. What a message means is left to the caller.
 #![tactic(auto)]
 
-ghost use Rattle.std.specs.Prelude.{◌≡◌, ℕ, ◌-◌, ◌<◌, ◌≤◌, ◌==◌, max, [], ◌∷◌, ◌++◌, length, take, drop, replicate, slice_get, IfOk, IsOk, OnOk, option_copied};
+ghost use Rattle.std.specs.Prelude.{◌≡◌, ◌↔◌, ℕ, ◌-◌, ◌<◌, ◌≤◌, ◌==◌, max, [], ◌∷◌, ◌++◌, length, take, drop, replicate, slice_get, All, IsTrue, IfOk, IsOk, OnOk, option_copied};
 ghost use Rattle.link_core.specs.Outgoing.{link_to, empty_link, with_link};
 
 use link::Link;
@@ -87,6 +87,13 @@ impl<M: Drop> Links<M> {
         ensures { self.new ≡ with_link self.old to (take keep (link_to self.old to).messages) (link_to self.old to).spare }
     {
         self.links[to as usize].cut(keep as usize);
+    }
+
+    /// Whether no message waits for any target.
+    pub fn is_idle(&self) -> bool
+        ensures { IsTrue result ↔ All (λ link. link.messages ≡ []) self.now }
+    {
+        self.links.iter().all(|link| link.is_empty())
     }
 
     /// Whether no message waits for this target.

@@ -41,8 +41,10 @@ impl<M: Drop> Link<M> {
         ensures err { OnErr result (self.new.spare ≡ self.old.spare) }
         ensures succeeds { n ≤ self.old.spare → IsOk result }
     {
-        self.messages.reserve(n)?;
-        self.spare = self.spare.max(n);
+        if self.spare < n {
+            self.messages.reserve(n)?;
+            self.spare = n;
+        }
         Ok(())
     }
 
