@@ -151,5 +151,5 @@ fn keeps_no_value_beside_its_parts(replica: &Replica) {
     let _: &FreeRuns = runs;
     let _: &Log<Updates> = log;
     let _: &Vec<Option<Kept>> = kept;
-    let _: &u32 = spare;
+    let _: &usize = spare;
 }
