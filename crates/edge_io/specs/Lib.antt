@@ -4,4 +4,5 @@ pub mod Connections
 pub mod Faults
 pub mod Memory
 pub mod Moving
+pub mod Reading
 pub mod Writing

@@ -3,7 +3,6 @@ use Rattle.std.proofs.Common.{◌≡◌, inl, inr, List, ℕ, Result, Ok, Err, r
 use Rattle.toml.specs.Data.{Members}
 use Rattle.group_config.specs.Reading.{ComesOf, IsDocument, Tells, settings_of}
 use Rattle.group_config.specs.declared.fault.ConfigFault.{ConfigFault}
-use Rattle.group_config.specs.declared.fault.ConfigFault.TheVariants.{BadConfig, Want}
 use Rattle.group_config.specs.declared.settings.Settings.{Settings}
 use Rattle.group_types.specs.declared.config_key.ConfigKey.{ConfigKey}
 

@@ -1,4 +1,4 @@
-use edge_io::Failed;
+use edge_io::ReadFault;
 use group_types::ConfigKey;
 use std::alloc::AllocError;
 use std::error::Error;
@@ -46,25 +46,18 @@ pub enum TextFault {
     Want,
 }
 
-impl From<Failed> for TextFault {
+impl From<ReadFault> for TextFault {
     ghost use Rattle.std.specs.Prelude.{◌≡◌};
-    ghost use Rattle.group_config.specs.declared.fault.TextFault.TheVariants.{ReadFault};
+    ghost use Rattle.group_config.specs.Text.{fault_of_read};
 
-    ghost from_gives = { λ _ fault. fault ≡ ReadFault };
+    ghost from_gives = { λ read fault. fault ≡ fault_of_read read };
 
-    fn from(_: Failed) -> TextFault {
-        TextFault::ReadFault
-    }
-}
-
-impl From<AllocError> for TextFault {
-    ghost use Rattle.std.specs.Prelude.{◌≡◌};
-    ghost use Rattle.group_config.specs.declared.fault.TextFault.TheVariants.{Want};
-
-    ghost from_gives = { λ _ fault. fault ≡ Want };
-
-    fn from(_: AllocError) -> TextFault {
-        TextFault::Want
+    fn from(fault: ReadFault) -> TextFault {
+        match fault {
+            ReadFault::TooLong => TextFault::TooLong,
+            ReadFault::Failed => TextFault::ReadFault,
+            ReadFault::Want => TextFault::Want,
+        }
     }
 }
 

@@ -1,7 +1,9 @@
 -- Which bytes a read moves that does not wait, and what an outbox sends.
-use Rattle.std.specs.Prelude.{◌≡◌, ℕ, ◌<◌, ◌≤◌, List, [], ◌++◌, length, take, Option, Result, Ok, Err, ⊤}
+use Rattle.std.specs.Prelude.{◌≡◌, ◌≢◌, ℕ, ◌+◌, ◌<◌, ◌≤◌, List, [], ◌++◌, length, take, Option, Result, Ok, Err, ⊤}
 use Rattle.std.specs.Io.KnownBytes.{Consumes}
 use Rattle.edge_io.specs.Moving.{Input, IsEnded, Takes, Appends}
+use Rattle.outbox.specs.declared.sending.Sending.{Sending}
+use Rattle.outbox.specs.declared.sending.Sending.TheVariants as sending
 use Rattle.outbox.specs.declared.reading.Reading.{Reading}
 use Rattle.outbox.specs.declared.reading.Reading.TheVariants.{Came, Ended, Waits}
 
@@ -30,6 +32,13 @@ TryConsumes before now (Ok (Came n)) room = Consumes before now (take n room)
 TryConsumes before now (Ok Ended) room = Consumes before now []
 TryConsumes before now (Ok Waits) room = Consumes before now []
 TryConsumes before now (Err e) room = Consumes before now []
+
+-- how far it was sent of at most so many bytes
+abbrev pub IsSent : {E : Type 0} → ℕ → List ℕ → List ℕ → List ℕ → Result Sending E → Type 0
+IsSent most held held_now waiting_now (Ok sending.All) = waiting_now ≡ []
+IsSent most held held_now waiting_now (Ok sending.Part) = (waiting_now ≢ []) × (length held_now ≡ length held + most)
+IsSent most held held_now waiting_now (Ok sending.Waits) = (waiting_now ≢ []) × (length held_now < length held + most)
+IsSent most held held_now waiting_now (Err e) = ⊤
 
 -- the front of what waited was sent, and the rest of it waits
 pub record Sends (held held_now waiting waiting_now : List ℕ) : Type 0 where

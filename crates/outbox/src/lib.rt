@@ -6,10 +6,12 @@
 mod front;
 mod outbox;
 mod reading;
+mod sending;
 mod try_edge;
 mod try_stream;
 
 pub use outbox::Outbox;
 pub use reading::Reading;
+pub use sending::Sending;
 pub use try_edge::TryEdge;
 pub use try_stream::TryStream;

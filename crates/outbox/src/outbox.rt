@@ -1,6 +1,7 @@
 ghost use Rattle.std.specs.Prelude.{◌≡◌, []};
 
 use crate::front::{cut_front, send};
+use crate::sending::Sending;
 use crate::try_stream::TryStream;
 use edge_io::{Failed, Sink, SinkFault};
 use std::alloc::{AllocError, Global};
@@ -28,9 +29,9 @@ impl Model for Outbox {
 }
 
 impl Outbox {
-    ghost use Rattle.std.specs.Prelude.{◌≡◌, ◌≤◌, ◌↔◌, [], length, drop, IfOk, IsTrue};
+    ghost use Rattle.std.specs.Prelude.{◌≡◌, ◌+◌, ◌≤◌, ◌↔◌, [], length, drop, IsTrue};
     ghost use Rattle.edge_io.specs.Faults.{HasCause};
-    ghost use Rattle.outbox.specs.Trying.{Sends};
+    ghost use Rattle.outbox.specs.Trying.{IsSent, Sends};
 
     /// Nothing waits.
     pub fn new(alloc: Global) -> Outbox
@@ -57,19 +58,27 @@ impl Outbox {
         self.len() == 0
     }
 
-    /// Sends what waits, as far as the stream takes it without waiting, and says whether all of it went out. At a fault
-    /// what was not sent still waits.
-    pub fn write_out<S: TryStream>(&mut self, stream: &mut S) -> Result<bool, Failed>
+    /// Sends what waits, at most so many bytes and as far as the stream takes them without waiting. At a fault what was not
+    /// sent still waits.
+    pub fn write_out<S: TryStream>(
+        &mut self,
+        stream: &mut S,
+        most: usize,
+    ) -> Result<Sending, Failed>
         ensures sends { Sends (S.held stream.old) (S.held stream.new) self.old self.new }
+        ensures few { length (S.held stream.new) ≤ length (S.held stream.old) + most }
+        ensures sent { IsSent most (S.held stream.old) (S.held stream.new) self.new result }
         ensures input { S.input stream.new ≡ S.input stream.old }
-        ensures all { IfOk result (λ all. IsTrue all ↔ (self.new ≡ [])) }
         ensures cause { HasCause (S.faults stream.old) (S.faults stream.new) result }
     {
+        let most = self.len().min(most);
         let mut count = 0;
-        let end = send(stream, &self.bytes[self.sent..], &mut count);
+        let end = send(stream, &self.bytes[self.sent..self.sent + most], &mut count);
         self.skip(count);
         match end {
-            Ok(()) => Ok(self.is_empty()),
+            Ok(()) if self.is_empty() => Ok(Sending::All),
+            Ok(()) if count == most => Ok(Sending::Part),
+            Ok(()) => Ok(Sending::Waits),
             Err(Failed) => Err(Failed),
         }
     }

@@ -8,7 +8,7 @@ ghost use Rattle.ready_client.specs.Coming.{end_by, Comes};
 use crate::step::{Step, advance};
 use edge_io::{Clock, Failed};
 use front_end::{Caller, Connection, ConnectionFault, End};
-use outbox::{Outbox, TryStream};
+use outbox::{Outbox, Sending, TryStream};
 use std::alloc::Global;
 
 /// How many steps a turn has: so many requests are answered or pieces read before others are served.
@@ -16,6 +16,9 @@ const STEPS: u32 = 32;
 
 /// The most bytes that may wait to be sent while more is answered: where more wait a turn ends, and the next sends them.
 const MOST_WAITING: usize = 262_144;
+
+/// The most bytes that a turn sends, so that a large item holds up no other connection for long.
+const MOST_SENT: usize = 65_536;
 
 /// What a turn came to.
 #[derive(Clone, Copy, Debug, PartialEq, Eq)]
@@ -77,69 +80,37 @@ impl<S: TryStream> Client<S> {
         ensures room { length room.new ≡ 65536 }
     {
         if self.outbox.len() > MOST_WAITING {
-            return self.send();
+            return self.send(Turn::More);
         }
         'steps: for _ in 0..STEPS {
             if self.end.is_some() {
-                return self.finish();
+                return self.send(Turn::Over);
             }
             if self.step(alloc, caller, clock, room) {
-                return self.pause();
+                return self.send(Turn::Waits);
             }
             if self.outbox.len() > MOST_WAITING {
                 return Turn::More;
             }
         }
-        self.send()
+        self.send(Turn::More)
     }
 
-    // Sends what waits, as far as the stream takes it: more where all of it went out.
-    fn send(&mut self) -> Turn
-        ensures text { S.held self.new.stream ++ self.new.outbox ≡ S.held self.old.stream ++ self.old.outbox }
-        ensures input { S.input self.new.stream ≡ S.input self.old.stream }
-        ensures connection { self.new.connection ≡ self.old.connection }
-        ensures end { self.new.end ≡ self.old.end }
-        ensures all { result ≡ Turn.More → self.new.outbox ≡ [] }
-        ensures over { result ≡ Turn.Over → Rose (S.faults self.old.stream) (S.faults self.new.stream) }
-        ensures later { S.faults self.old.stream ≤ S.faults self.new.stream }
-    {
-        match self.outbox.write_out(&mut self.stream) {
-            Ok(true) => Turn::More,
-            Ok(false) => Turn::Waits,
-            Err(Failed) => Turn::Over,
-        }
-    }
-
-    // Sends what waits of a connection that has nothing to do until its stream is ready.
-    fn pause(&mut self) -> Turn
-        ensures text { S.held self.new.stream ++ self.new.outbox ≡ S.held self.old.stream ++ self.old.outbox }
-        ensures input { S.input self.new.stream ≡ S.input self.old.stream }
-        ensures connection { self.new.connection ≡ self.old.connection }
-        ensures end { self.new.end ≡ self.old.end }
-        ensures over { result ≡ Turn.Over → Rose (S.faults self.old.stream) (S.faults self.new.stream) }
-        ensures later { S.faults self.old.stream ≤ S.faults self.new.stream }
-    {
-        match self.send() {
-            Turn::More => Turn::Waits,
-            Turn::Waits => Turn::Waits,
-            Turn::Over => Turn::Over,
-        }
-    }
-
-    // Sends what waits of a connection that ended: it is over where all of it went out.
-    fn finish(&mut self) -> Turn
+    // Sends what waits, as far as the stream takes it and a turn sends it. Where all of it went out it comes to `all`.
+    fn send(&mut self, all: Turn) -> Turn
         ensures text { S.held self.new.stream ++ self.new.outbox ≡ S.held self.old.stream ++ self.old.outbox }
         ensures input { S.input self.new.stream ≡ S.input self.old.stream }
         ensures connection { self.new.connection ≡ self.old.connection }
         ensures end { self.new.end ≡ self.old.end }
         ensures over { result ≡ Turn.Over
-            → (self.new.outbox ≡ []) ⊎ Rose (S.faults self.old.stream) (S.faults self.new.stream) }
+            → ((all ≡ Turn.Over) × (self.new.outbox ≡ [])) ⊎ Rose (S.faults self.old.stream) (S.faults self.new.stream) }
         ensures later { S.faults self.old.stream ≤ S.faults self.new.stream }
     {
-        match self.send() {
-            Turn::More => Turn::Over,
-            Turn::Waits => Turn::Waits,
-            Turn::Over => Turn::Over,
+        match self.outbox.write_out(&mut self.stream, MOST_SENT) {
+            Ok(Sending::All) => all,
+            Ok(Sending::Part) => Turn::More,
+            Ok(Sending::Waits) => Turn::Waits,
+            Err(Failed) => Turn::Over,
         }
     }
 

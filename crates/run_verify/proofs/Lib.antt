@@ -1,5 +1,4 @@
 pub mod Replying
-mod Cutting
 pub mod Implied
 mod ImpliedAccount
 mod ImpliedAhead

@@ -9,7 +9,7 @@ use Rattle.run_verify.specs.Placings.{ArePlacedFrom, placing}
 use Rattle.run_verify.specs.Sheet.{Sheet}
 use Rattle.run_verify.specs.Told.{placed_line}
 use Rattle.run_verify.specs.declared.change.Change.{Change}
-use Rattle.run_verify.proofs.Cutting.{some_lines}
+use Rattle.scenario_run.proofs.Cutting.{some_lines}
 
 -- ---- one line
 

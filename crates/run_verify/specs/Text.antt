@@ -1,11 +1,14 @@
 -- What comes of a text that is read, verified and told of.
-use Rattle.std.specs.Prelude.{ℕ, ◌≡◌, ◌⊎◌, ◌≤◌, ◌+◌, List, ◌++◌, codes, length, Result, Ok, Err, ⊤, Vec}
+use Rattle.std.specs.Prelude.{ℕ, ◌≡◌, ◌⊎◌, ◌≤◌, ◌+◌, List, ◌++◌, codes, length, Result, Ok, Err, ⊤}
 use Rattle.std.specs.Fmt.{decimal}
 use Rattle.edge_io.specs.Faults.{Rose}
 use Rattle.edge_io.specs.Moving.{Appends, Input, IsEnded, Takes}
+use Rattle.edge_io.specs.Reading.{IsReadWhole, TakesAtMost, TakesExactly}
 use Rattle.edge_io.specs.Writing.{HasWritten}
 use Rattle.edge_io.specs.declared.fault.SinkFault.{SinkFault}
 use Rattle.edge_io.specs.declared.fault.SinkFault.TheVariants as sink
+use Rattle.edge_io.specs.declared.fault.ReadFault as edge
+use Rattle.edge_io.specs.declared.fault.ReadFault.TheVariants as read
 use Rattle.run_verify.specs.Verdict.{IsVerdictOf}
 use Rattle.run_verify.specs.declared.status.VerifyStatus.{VerifyStatus}
 use Rattle.run_verify.specs.declared.status.VerifyStatus.TheVariants.{Done, Refused, BadLine, BadShape, TooLong, ReadFault, WriteFault, Want}
@@ -27,12 +30,6 @@ pub record IsRead (before now : Input) (text : List ℕ) : Type 0 where
   pub ended : IsEnded now
   pub short : length text ≤ longest_sheet
 
--- at most so many bytes were read
-pub record IsPartRead (most : ℕ) (before now : Input) : Type 0 where
-  pub text : List ℕ
-  pub taken : Takes before now text
-  pub few : length text ≤ most
-
 -- all is checked of a text that was read, with so many entries and lines that show bytes
 pub record IsVerifiedText (before now : Input) (entries shown : ℕ) : Type 0 where
   pub text : List ℕ
@@ -46,16 +43,21 @@ HasJudged before now held held_now (Refused n) = (text : List ℕ) × IsRead bef
 HasJudged before now held held_now (BadLine n) = (text : List ℕ) × IsRead before now text × IsVerdictOf text (Err (fault.BadLine n)) × (held_now ≡ held)
 HasJudged before now held held_now (BadShape field) = (text : List ℕ) × IsRead before now text × IsVerdictOf text (Err (fault.BadShape field)) × (held_now ≡ held)
 HasJudged before now held held_now TooLong = (text : List ℕ) × Takes before now text × (length text ≡ longest_sheet + 1) × (held_now ≡ held)
-HasJudged before now held held_now ReadFault = IsPartRead longest_sheet before now × (held_now ≡ held)
+HasJudged before now held held_now ReadFault = TakesAtMost longest_sheet before now × (held_now ≡ held)
 HasJudged before now held held_now WriteFault = (entries shown : ℕ) × IsVerifiedText before now entries shown × HasWritten held held_now (verified_line entries shown)
 HasJudged before now held held_now Want =
-    (IsPartRead (longest_sheet + 1) before now × (held_now ≡ held))
+    (TakesAtMost (longest_sheet + 1) before now × (held_now ≡ held))
     ⊎ ((entries shown : ℕ) × IsVerifiedText before now entries shown × HasWritten held held_now (verified_line entries shown))
 
 -- the status that tells a fault
 abbrev pub status_of_sink : SinkFault → VerifyStatus
 status_of_sink sink.Failed = WriteFault
 status_of_sink sink.Want = Want
+
+abbrev pub status_of_read : edge.ReadFault → VerifyStatus
+status_of_read read.TooLong = TooLong
+status_of_read read.Failed = ReadFault
+status_of_read read.Want = Want
 
 abbrev pub status_of_fault : VerifyFault → VerifyStatus
 status_of_fault (fault.BadLine n) = BadLine n
@@ -69,10 +71,10 @@ status_in (Err status) = status
 
 -- a text was read to its end, or it has more bytes than the limit, or a read failed, or there was no memory
 abbrev pub HasReadText : Input → Input → ℕ → ℕ → Result (List ℕ) VerifyStatus → Type 0
-HasReadText before now faults faults_now (Ok text) = Takes before now text × IsEnded now
-HasReadText before now faults faults_now (Err TooLong) = (text : List ℕ) × Takes before now text × (length text ≡ longest_sheet + 1)
-HasReadText before now faults faults_now (Err ReadFault) = Rose faults faults_now × IsPartRead longest_sheet before now
-HasReadText before now faults faults_now (Err Want) = IsPartRead (longest_sheet + 1) before now
+HasReadText before now faults faults_now (Ok text) = IsReadWhole before now text
+HasReadText before now faults faults_now (Err TooLong) = TakesExactly (longest_sheet + 1) before now
+HasReadText before now faults faults_now (Err ReadFault) = Rose faults faults_now × TakesAtMost longest_sheet before now
+HasReadText before now faults faults_now (Err Want) = TakesAtMost (longest_sheet + 1) before now
 HasReadText before now faults faults_now (Err _) = ⊥
 
 -- what is found of a text: how many entries and lines that show bytes there are, or why not all is checked
@@ -83,11 +85,6 @@ IsFoundOf text (Err (BadLine n)) = IsVerdictOf text (Err (fault.BadLine n))
 IsFoundOf text (Err (BadShape field)) = IsVerdictOf text (Err (fault.BadShape field))
 IsFoundOf text (Err Want) = ⊤
 IsFoundOf text (Err _) = ⊥
-
--- the bytes in an answer
-abbrev pub bytes_in : {E Z : Type 0} → Result (Vec ℕ Z) E → Result (List ℕ) E
-bytes_in (Ok text) = Ok text.items
-bytes_in (Err e) = Err e
 
 -- a line was written, or a front of it where that failed
 abbrev pub HasTold : List ℕ → List ℕ → List ℕ → Result (Unit {0}) VerifyStatus → Type 0

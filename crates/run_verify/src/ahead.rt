@@ -2,7 +2,7 @@ ghost use Rattle.std.specs.Prelude.{◌↔◌, ◌≡◌, IsTrue};
 ghost use Rattle.scenario_run.specs.Lines.{lines_of};
 ghost use Rattle.run_verify.specs.Passing.{LogsAhead, begins_entry};
 
-use crate::cut::cut_line;
+use scenario_run::cut_line;
 use transcript_text::name::tells;
 use transcript_text::word::after;
 

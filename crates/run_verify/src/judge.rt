@@ -8,7 +8,6 @@ ghost use Rattle.run_verify.specs.Plain.{EndsPlacing};
 ghost use Rattle.run_verify.specs.Runs.{ArePlacesOf};
 
 use crate::account::Account;
-use crate::cut::cut_line;
 use crate::pass::Found;
 use crate::places::Places;
 use crate::placing::judge_places;
@@ -17,6 +16,7 @@ use crate::step::Step;
 use crate::verdict::Verdict;
 use group_types::{CALLERS, Shape};
 use memc_table::Table;
+use scenario_run::cut_line;
 use std::alloc::{AllocError, Global};
 
 /// Judges the lines of a transcript, one after the other.

@@ -5,10 +5,10 @@ ghost use Rattle.run_verify.specs.Dues.{HasPassed, HasToldAt, TellsAt};
 ghost use Rattle.run_verify.specs.Items.{IsMarked, StandBehind, runs_of};
 
 use crate::change::{Change, Effect};
-use crate::cut::cut_line;
 use crate::items::Items;
 use crate::places::is_fit;
 use group_types::{Key, Run};
+use scenario_run::cut_line;
 use std::alloc::{AllocError, Global};
 
 /// A change: its partition, and its place there.

@@ -11,7 +11,6 @@ mod answering;
 pub mod call;
 mod calls;
 pub mod change;
-mod cut;
 mod entry;
 mod items;
 mod judge;

@@ -3,8 +3,8 @@ ghost use Rattle.scenario_run.specs.Lines.{lines_of};
 ghost use Rattle.run_verify.specs.Passing.{FitsRun};
 ghost use Rattle.run_verify.specs.Runs.{ArePlacesOf, IsRunAmong, Names, Rise, rank_of};
 
-use crate::cut::cut_line;
 use group_types::{Run, Shape};
+use scenario_run::cut_line;
 use std::alloc::{AllocError, Global};
 use std::marker::Model;
 use transcript_text::Place;

@@ -6,11 +6,11 @@ ghost use Rattle.run_verify.specs.Placings.{ArePlacedFrom};
 ghost use Rattle.run_verify.specs.Told.{placed_line};
 
 use crate::change::Change;
-use crate::cut::cut_line;
 use crate::items::Items;
 use crate::judging::{Passed, Spot};
 use crate::keep::changes_of;
 use group_types::Shape;
+use scenario_run::cut_line;
 use std::alloc::{AllocError, Global};
 
 /// What is found for the changes of a partition: all their lines pass, which makes so many in all, and this is behind them; or

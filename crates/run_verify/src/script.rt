@@ -6,11 +6,11 @@ ghost use Rattle.run_verify.specs.Scripts.{HasKept, HasReadScript, HasTaken, IsA
 ghost use Rattle.run_verify.specs.Sheet.{before_separator, behind_separator, separator};
 ghost use Rattle.run_verify.specs.Steps.{behind, ended, is_over, script_in, stands_well};
 
-use crate::cut::cut_line;
 use crate::setting::{Setting, Treated, treat};
 use crate::step::Step;
 use crate::verdict::VerifyFault;
 use group_types::Shape;
+use scenario_run::cut_line;
 use scenario_text::LineFault;
 use std::alloc::Global;
 use std::marker::Model;

@@ -3,9 +3,9 @@ ghost use Rattle.run_verify.specs.Judging.{IsStepOf};
 ghost use Rattle.run_verify.specs.Scripts.{HasRead, sheet_by};
 ghost use Rattle.run_verify.specs.Sheet.{sheet_of};
 
-use crate::cut::count_lines;
 use crate::script::{LONGEST_SHEET, Script, read_script, transcript_in};
 use crate::verdict::VerifyFault;
+use scenario_run::count_lines;
 use std::alloc::Global;
 
 /// Reads the script of a text, and finds its transcript.

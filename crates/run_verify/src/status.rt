@@ -1,5 +1,5 @@
 use crate::verdict::VerifyFault;
-use edge_io::{Failed, SinkFault};
+use edge_io::{ReadFault, SinkFault};
 use group_types::Field;
 use std::alloc::AllocError;
 
@@ -35,14 +35,18 @@ impl From<AllocError> for VerifyStatus {
     }
 }
 
-impl From<Failed> for VerifyStatus {
+impl From<ReadFault> for VerifyStatus {
     ghost use Rattle.std.specs.Prelude.{◌≡◌};
-    ghost use Rattle.run_verify.specs.declared.status.VerifyStatus.TheVariants.{ReadFault};
+    ghost use Rattle.run_verify.specs.Text.{status_of_read};
 
-    ghost from_gives = { λ _ status. status ≡ ReadFault };
+    ghost from_gives = { λ fault status. status ≡ status_of_read fault };
 
-    fn from(_: Failed) -> VerifyStatus {
-        VerifyStatus::ReadFault
+    fn from(fault: ReadFault) -> VerifyStatus {
+        match fault {
+            ReadFault::TooLong => VerifyStatus::TooLong,
+            ReadFault::Failed => VerifyStatus::ReadFault,
+            ReadFault::Want => VerifyStatus::Want,
+        }
     }
 }
 

@@ -76,7 +76,7 @@ module _ (l : Language) (a b : Outside) (text : List ℕ) (within : length text 
 -- what was not read to its end
 module _ (l : Language) (a b : Outside) (same : b.held ≡ a.held) where
   pub treated-unread : (status : Status) → HasRead a.input b.input a.reads b.reads (Err status) → HasTreated l a b (Err status)
-  treated-unread TooLong read = record { script = read.0; taken = read.1; few = omega (arith, read.2); ends = (same, read.2) }
+  treated-unread TooLong read = record { script = read.bytes; taken = read.taken; few = let exact = read.exact in omega (arith, exact); ends = (same, read.exact) }
   treated-unread ReadFault read = record { script = read.1.bytes; taken = read.1.taken; few = let few = read.1.few in omega (arith, few); ends = (same, read.0, read.1.few) }
   treated-unread Want read = record { script = read.bytes; taken = read.taken; few = read.few; ends = inl same }
   treated-unread Done read = absurd read

@@ -1,4 +1,3 @@
-pub mod Cutting
 pub mod Delivering
 pub mod Ending
 pub mod Lines

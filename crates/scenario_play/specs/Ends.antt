@@ -1,6 +1,7 @@
-use Rattle.std.specs.Prelude.{◌≡◌, ℕ, ◌+◌, ◌*◌, ◌^◌, ◌≤◌, List, [], length, Option, Some, None, Result, Ok, Err, ◌⊎◌, ⊤, Vec}
+use Rattle.std.specs.Prelude.{◌≡◌, ℕ, ◌+◌, ◌*◌, ◌^◌, ◌≤◌, List, [], length, Option, Some, None, Result, Ok, Err, ◌⊎◌, ⊤}
 use Rattle.edge_io.specs.Faults.{Rose}
 use Rattle.edge_io.specs.Moving.{Appends, Input, IsEnded, Takes}
+use Rattle.edge_io.specs.Reading.{IsReadWhole, TakesAtMost, TakesExactly}
 use Rattle.edge_io.specs.Writing.{HasWritten}
 use Rattle.group_types.specs.Dimensions.{Dimensions}
 use Rattle.group_calls.specs.declared.event.Event.{Event}
@@ -42,16 +43,10 @@ abbrev pub log_len : Option Play → ℕ
 log_len None = 0
 log_len (Some p) = length p.world.log
 
--- at most so many bytes were taken
-pub record TakesAtMost (most : ℕ) (before now : Input) : Type 0 where
-  pub bytes : List ℕ
-  pub taken : Takes before now bytes
-  pub few : length bytes ≤ most
-
 -- the script was read to its end, or it has more bytes than the limit, or a read failed, or there was no memory
 abbrev pub HasRead : Input → Input → ℕ → ℕ → Result (List ℕ) Status → Type 0
-HasRead before now faults_before faults_now (Ok text) = Takes before now text × IsEnded now
-HasRead before now faults_before faults_now (Err TooLong) = (text : List ℕ) × Takes before now text × (length text ≡ longest_script + 1)
+HasRead before now faults_before faults_now (Ok text) = IsReadWhole before now text
+HasRead before now faults_before faults_now (Err TooLong) = TakesExactly (longest_script + 1) before now
 HasRead before now faults_before faults_now (Err ReadFault) = Rose faults_before faults_now × TakesAtMost longest_script before now
 HasRead before now faults_before faults_now (Err Want) = TakesAtMost (longest_script + 1) before now
 HasRead before now faults_before faults_now (Err _) = ⊥
@@ -89,8 +84,3 @@ pub record HasTreated (l : Language) (before now : Outside) (result : Result (Un
   pub taken : Takes before.input now.input script
   pub few : length script ≤ longest_script + 1
   pub ends : HasPlayedScript l script before now result
-
--- the bytes in an answer
-abbrev pub bytes_in : {E Z : Type 0} → Result (Vec ℕ Z) E → Result (List ℕ) E
-bytes_in (Ok text) = Ok text.items
-bytes_in (Err e) = Err e

@@ -1,6 +1,8 @@
 use Rattle.std.specs.Prelude.{◌≡◌, ℕ, nat_lt, List, [], ◌++◌, codes, Option, Some, None, ◌⊎◌, if◌then◌else◌, length, ⊤}
 use Rattle.std.specs.Fmt.{decimal}
 use Rattle.edge_io.specs.Faults.{Rose}
+use Rattle.edge_io.specs.declared.fault.ReadFault as edge
+use Rattle.edge_io.specs.declared.fault.ReadFault.TheVariants as read
 use Rattle.group_types.specs.declared.config_key.ConfigKey.{ConfigKey}
 use Rattle.group_types.specs.declared.config_key.ConfigKey.TheVariants as key
 use Rattle.group_types.specs.declared.shape.Field.TheVariants.{K, M, Block, Blocks}
@@ -30,6 +32,12 @@ number_of_status LineTooLong = 11
 number_of_status Worn = 12
 number_of_status (BadFrame _) = 13
 number_of_status (Refused _) = 14
+
+-- the status of a script that wasn't read
+abbrev pub status_of_read : edge.ReadFault → Status
+status_of_read read.TooLong = TooLong
+status_of_read read.Failed = ReadFault
+status_of_read read.Want = Want
 
 -- the last line of settings that are refused at a key
 abbrev pub config_line : ConfigKey → List ℕ

@@ -4,7 +4,6 @@
 //! of a line and of an answer is left to `scenario_text`, and the group to `group_core`.
 #![tactic(auto)]
 
-mod cut;
 mod deliveries;
 pub mod entries;
 mod group_player;

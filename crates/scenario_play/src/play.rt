@@ -10,13 +10,13 @@ ghost use Rattle.scenario_play.specs.Played.{IsPlayed};
 ghost use Rattle.scenario_play.specs.Player.{HasPlayed};
 ghost use Rattle.scenario_play.specs.Status.{HasFaultOf};
 
-use crate::cut::cut_line;
 use crate::group_player::GroupPlayer;
 use crate::player::Player;
 use crate::read_script::{LONGEST_SCRIPT, read_script};
 use crate::status::Status;
 use crate::tell::tell;
 use edge_io::{Sink, SinkFault, Source, write_all};
+use scenario_run::cut_line;
 use std::alloc::Global;
 
 /// Reads a script of one group from the source to its end, treats its lines in order, and writes their

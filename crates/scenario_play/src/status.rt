@@ -1,6 +1,7 @@
 ghost use Rattle.std.specs.Prelude.{◌≡◌};
 ghost use Rattle.scenario_play.specs.Status.{config_line};
 
+use edge_io::ReadFault;
 use group_types::{ConfigKey, Field};
 use std::alloc::AllocError;
 
@@ -110,6 +111,21 @@ fn config_line(key: ConfigKey) -> &'static str
         ConfigKey::Connections => "fault: config connections\n",
         ConfigKey::Control => "fault: config control\n",
         ConfigKey::Unknown => "fault: config unknown\n",
+    }
+}
+
+impl From<ReadFault> for Status {
+    ghost use Rattle.std.specs.Prelude.{◌≡◌};
+    ghost use Rattle.scenario_play.specs.Status.{status_of_read};
+
+    ghost from_gives = { λ fault status. status ≡ status_of_read fault };
+
+    fn from(fault: ReadFault) -> Status {
+        match fault {
+            ReadFault::TooLong => Status::TooLong,
+            ReadFault::Failed => Status::ReadFault,
+            ReadFault::Want => Status::Want,
+        }
     }
 }
 

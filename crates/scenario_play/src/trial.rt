@@ -8,7 +8,6 @@ ghost use Rattle.scenario_play.specs.Played.{IsWritten};
 ghost use Rattle.scenario_play.specs.Status.{TellsOfScript, status_for};
 ghost use Rattle.scenario_play.specs.Trial.{trial_of, trial_text};
 
-use crate::cut::count_lines;
 use crate::group_player::GroupPlayer;
 use crate::page::Page;
 use crate::play::{play_lines, write_text};
@@ -17,6 +16,7 @@ use crate::status::Status;
 use crate::tell::tell;
 use edge_io::Sink;
 use scenario_make::make_script;
+use scenario_run::count_lines;
 use std::alloc::Global;
 
 /// Plays the script that the number makes, and writes what came of it on a line: how many lines the script has, how

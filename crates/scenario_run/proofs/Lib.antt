@@ -1,3 +1,4 @@
+pub mod Cutting
 pub mod Draining
 pub mod Following
 pub mod Leading

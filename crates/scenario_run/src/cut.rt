@@ -4,7 +4,7 @@ ghost use Rattle.scenario_run.specs.Lines.{lines_of};
 use memchr::memchr;
 
 /// The first line, and what follows its end.
-pub(crate) fn cut_line(text: &[u8]) -> (&[u8], &[u8])
+pub fn cut_line(text: &[u8]) -> (&[u8], &[u8])
     requires { 0 < length text.now }
     ensures lines { lines_of text.now ≡ result.0.now ∷ lines_of result.1.now }
     ensures shorter { length result.1.now < length text.now }
@@ -16,7 +16,7 @@ pub(crate) fn cut_line(text: &[u8]) -> (&[u8], &[u8])
 }
 
 /// How many lines a text has.
-pub(crate) fn count_lines(text: &[u8]) -> usize
+pub fn count_lines(text: &[u8]) -> usize
     ensures count { result ≡ length (lines_of text.now) }
     ensures few { result ≤ length text.now }
 {

@@ -1,6 +1,6 @@
 use Rattle.std.proofs.Common.{◌≡◌, ◌+◌, ◌≤◌, length}
 use Rattle.scenario_run.specs.Lines.{lines_of}
-use Rattle.run_verify.proofs.cut.count_lines.Given as goal
+use Rattle.scenario_run.proofs.cut.count_lines.Given as goal
 
 abbrev pub invariant-lines : goal.invariant-lines
 invariant-lines l = record {

@@ -2,8 +2,8 @@ use Rattle.std.proofs.Common.{ℕ, ◌+◌, List, ◌∷◌, length, take, sym, 
 use Rattle.std.proofs.Math.Seq.{drop-length}
 use Rattle.std.proofs.lemmas.List.{take_rest}
 use Rattle.scenario_run.specs.Lines.{lines_of}
-use Rattle.run_verify.proofs.Cutting.{lines_of-cut, lines_of-last}
-use Rattle.run_verify.proofs.cut.cut_line.Goals as goal
+use Rattle.scenario_run.proofs.Cutting.{lines_of-cut, lines_of-last}
+use Rattle.scenario_run.proofs.cut.cut_line.Goals as goal
 
 pub returns-in-Some-clause-lines : goal.returns-in-Some-clause-lines
 returns-in-Some-clause-lines c =
