@@ -24,7 +24,8 @@ pub(crate) fn drain(
 ) -> Result<u64, AllocError>
     requires ready { IsReadyFor (2 ^ 59) cluster.old }
     ensures cluster { OnOk result (cluster.new ≡ cluster_after cluster.old (all_deliveries cluster.old)) }
-    ensures text { OnOk result (text.new.items ≡ text.old.items ++ cluster_entries_text (log_of (turns_from cluster.old (all_deliveries cluster.old)))) }
+    ensures text { OnOk result (text.new.items ≡ text.old.items
+        ++ cluster_entries_text (log_of (turns_from cluster.old (all_deliveries cluster.old)))) }
     ensures count { IfOk result (λ count. count ≡ length (all_deliveries cluster.old)) }
 {
     let mut count: u64 = 0;
@@ -44,7 +45,8 @@ fn drain_group(
     requires group { group < length cluster.old.groups.worlds }
     requires ready { IsReadyFor (2 ^ 59) cluster.old }
     ensures cluster { OnOk result (cluster.new ≡ cluster_after cluster.old (deliveries_in cluster.old group)) }
-    ensures text { OnOk result (text.new.items ≡ text.old.items ++ cluster_entries_text (log_of (turns_from cluster.old (deliveries_in cluster.old group)))) }
+    ensures text { OnOk result (text.new.items ≡ text.old.items
+        ++ cluster_entries_text (log_of (turns_from cluster.old (deliveries_in cluster.old group)))) }
     ensures count { IfOk result (λ count. count ≡ length (deliveries_in cluster.old group)) }
 {
     if cluster.world(group).is_down() {
@@ -64,7 +66,8 @@ fn deliver_all(
     requires up { ¬ (IsDown (world_in cluster.old.groups group)) }
     requires ready { IsReadyFor (2 ^ 59) cluster.old }
     ensures cluster { OnOk result (cluster.new ≡ cluster_after cluster.old (deliveries_in cluster.old group)) }
-    ensures text { OnOk result (text.new.items ≡ text.old.items ++ cluster_entries_text (log_of (turns_from cluster.old (deliveries_in cluster.old group)))) }
+    ensures text { OnOk result (text.new.items ≡ text.old.items
+        ++ cluster_entries_text (log_of (turns_from cluster.old (deliveries_in cluster.old group)))) }
     ensures count { IfOk result (λ count. count ≡ length (deliveries_in cluster.old group)) }
 {
     let mark = write_mark(alloc, group)?;
@@ -90,7 +93,8 @@ fn deliver(
     requires few { HasFewEvents cluster.old.groups group }
     requires mark { mark.now ≡ group_mark group }
     ensures cluster { OnOk result (cluster.new ≡ (cluster_step cluster.old (InGroup group (Deliver from to))).cluster) }
-    ensures text { OnOk result (text.new.items ≡ text.old.items ++ cluster_entries_text (logged_in (cluster_step cluster.old (InGroup group (Deliver from to))).turns)) }
+    ensures text { OnOk result (text.new.items ≡ text.old.items
+        ++ cluster_entries_text (logged_in (cluster_step cluster.old (InGroup group (Deliver from to))).turns)) }
 {
     let event = Event::Deliver { from, to };
     let out = cluster.step(&ClusterEvent::InGroup { group, event })?;

@@ -69,7 +69,8 @@ fn follow_all(
     line: &[u8],
 ) -> Result<Option<Vec<u8>>, ClusterFault>
     requires ready { IsReadyFor (2 ^ 59) play.old.cluster }
-    ensures { HasDone (Some play.old) (by_words play.old line.now None (failure_line (length play.old.cluster.failed) (text.words_of line.now))) (Some play.new) (text_in result) }
+    ensures { HasDone (Some play.old) (by_words play.old line.now None
+        (failure_line (length play.old.cluster.failed) (text.words_of line.now))) (Some play.new) (text_in result) }
 {
     match read_failure(play.cluster.nodes(), &words_of(alloc, line)?) {
         Ok((node, keep)) => Ok(Some(play.fail(alloc, node, keep)?)),

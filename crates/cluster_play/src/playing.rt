@@ -81,7 +81,11 @@ impl ClusterPlay {
     ) -> Result<Vec<u8>, AllocError>
         requires may { MayHappen self.old.cluster (InGroup group event) }
         requires ready { IsReadyFor (2 ^ 59) self.old.cluster }
-        ensures play { OnOk result (self.new ≡ record { cluster = (cluster_step self.old.cluster (InGroup group event)).cluster; moment = self.old.moment }) }
+        ensures play { OnOk result (self.new ≡ record {
+          cluster =
+              (cluster_step self.old.cluster (InGroup group event)).cluster;
+          moment = self.old.moment;
+        }) }
         ensures text { IfOk result (λ text. text.items ≡ turn_text (turn_of self.old.cluster (InGroup group event))) }
     {
         let out = self.cluster.step(&ClusterEvent::InGroup { group, event })?;
@@ -102,7 +106,11 @@ impl ClusterPlay {
     ) -> Result<Vec<u8>, AllocError>
         requires may { MayHappen self.old.cluster (FailNode node keep) }
         requires ready { IsReadyFor (2 ^ 59) self.old.cluster }
-        ensures play { OnOk result (self.new ≡ record { cluster = (cluster_step self.old.cluster (FailNode node keep)).cluster; moment = self.old.moment }) }
+        ensures play { OnOk result (self.new ≡ record {
+          cluster =
+              (cluster_step self.old.cluster (FailNode node keep)).cluster;
+          moment = self.old.moment;
+        }) }
         ensures text { IfOk result (λ text. text.items ≡ turn_text (turn_of self.old.cluster (FailNode node keep))) }
     {
         let out = self.cluster.step(&ClusterEvent::FailNode { node, keep })?;
@@ -112,8 +120,13 @@ impl ClusterPlay {
     /// Messages are delivered in one group after the other, until none is left: what that logged, and how many there were.
     pub(crate) fn drain(&mut self, alloc: Global) -> Result<Vec<u8>, AllocError>
         requires ready { IsReadyFor (2 ^ 59) self.old.cluster }
-        ensures play { OnOk result (self.new ≡ record { cluster = cluster_after self.old.cluster (all_deliveries self.old.cluster); moment = self.old.moment }) }
-        ensures text { IfOk result (λ text. text.items ≡ drained_text (turns_from self.old.cluster (all_deliveries self.old.cluster))) }
+        ensures play { OnOk result (self.new ≡ record {
+          cluster = cluster_after self.old.cluster
+              (all_deliveries self.old.cluster);
+          moment = self.old.moment;
+        }) }
+        ensures text { IfOk result (λ text. text.items
+            ≡ drained_text (turns_from self.old.cluster (all_deliveries self.old.cluster))) }
     {
         let mut text = Vec::new(alloc);
         let count = drain(alloc, &mut self.cluster, &mut text)?;
@@ -132,7 +145,8 @@ impl ClusterPlay {
         requires group { group < length self.now.cluster.groups.worlds }
         requires process { IsProcess (group_in self.now group).shape at }
         requires run { run.at + run.len ≤ space_of (group_in self.now group).shape }
-        ensures { IfOk result (λ text. text.items ≡ look (group_in self.now group) at (held (group_in self.now group) at run) ++ 10 ∷ []) }
+        ensures { IfOk result (λ text. text.items
+            ≡ look (group_in self.now group) at (held (group_in self.now group) at run) ++ 10 ∷ []) }
     {
         let mut text = write_look(alloc, self.cluster.world(group), at, run)?;
         text.push(b'\n')?;

@@ -44,7 +44,8 @@ pub(crate) fn read_group(groups: u32, line: &[u8]) -> Result<(u32, &[u8]), LineF
 }
 
 fn cut_at_space(line: &[u8]) -> Option<(&[u8], &[u8])>
-    ensures { MatchOption result (cut_at_space line.now ≡ None) (λ parts. cut_at_space line.now ≡ Some (parts.0.now, parts.1.now)) }
+    ensures { MatchOption result (cut_at_space line.now ≡ None) (λ parts. cut_at_space line.now
+        ≡ Some (parts.0.now, parts.1.now)) }
 {
     match memchr(b' ', line) {
         Some(end) => Some((&line[..end], &line[end + 1..])),
@@ -64,7 +65,8 @@ fn read_group_word(groups: u32, word: &[u8]) -> Result<u32, LineFault>
 
 /// The node that fails, of so many nodes, and how many messages links keep: the words `fail_node <node> <keep>`.
 pub(crate) fn read_failure(nodes: u32, words: &[&[u8]]) -> Result<(u32, u32), LineFault>
-    ensures failure { IsReadBy (λ failure. FailNode failure.0 failure.1) result (failure_line nodes (map (λ word. word.now) words.now)) }
+    ensures failure { IsReadBy (λ failure. FailNode failure.0 failure.1) result
+        (failure_line nodes (map (λ word. word.now) words.now)) }
     ensures there { IfOk result (λ failure. failure.0 < nodes) }
 {
     match words {

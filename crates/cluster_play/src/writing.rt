@@ -37,7 +37,8 @@ pub(crate) fn answer_line(alloc: Global, out: ClusterOut) -> Result<Vec<u8>, All
 }
 
 fn end_line(text: Result<Vec<u8>, AllocError>) -> Result<Vec<u8>, AllocError>
-    ensures { IfOk result (λ line. (front : List ℕ) → IfOk text (λ t. t.items ≡ front) → line.items ≡ front ++ 10 ∷ []) }
+    ensures { IfOk result (λ line. (front : List ℕ) → IfOk text (λ t. t.items ≡ front)
+        → line.items ≡ front ++ 10 ∷ []) }
 {
     let mut text = text?;
     text.push(b'\n')?;

@@ -40,7 +40,8 @@ fn read_bare(
     words: &[String],
 ) -> Result<Command, WordsFault>
     ensures ok { IfOk result (λ said. bare_of name.now command (map string_bytes words.now) ≡ Some said) }
-    ensures bad_words { IsErrOf result WordsFault.BadWords → bare_of name.now command (map string_bytes words.now) ≡ None }
+    ensures bad_words { IsErrOf result WordsFault.BadWords
+        → bare_of name.now command (map string_bytes words.now) ≡ None }
 {
     parse(parsers::bare(alloc, name), words)?;
     Ok(command)
@@ -75,16 +76,20 @@ fn session(
 }
 
 fn read_make(alloc: Global, words: &[String]) -> Result<Command, WordsFault>
-    ensures ok { IfOk result (λ command. option_map Command.Make (number_of (codes "make") (map string_bytes words.now)) ≡ Some command) }
-    ensures bad_words { IsErrOf result WordsFault.BadWords → number_of (codes "make") (map string_bytes words.now) ≡ None }
+    ensures ok { IfOk result (λ command. option_map Command.Make
+        (number_of (codes "make") (map string_bytes words.now)) ≡ Some command) }
+    ensures bad_words { IsErrOf result WordsFault.BadWords
+        → number_of (codes "make") (map string_bytes words.now) ≡ None }
 {
     let number = read_number(alloc, "make", words)?;
     Ok(Command::Make { number })
 }
 
 fn read_trial(alloc: Global, words: &[String]) -> Result<Command, WordsFault>
-    ensures ok { IfOk result (λ command. option_map Command.Trial (number_of (codes "trial") (map string_bytes words.now)) ≡ Some command) }
-    ensures bad_words { IsErrOf result WordsFault.BadWords → number_of (codes "trial") (map string_bytes words.now) ≡ None }
+    ensures ok { IfOk result (λ command. option_map Command.Trial
+        (number_of (codes "trial") (map string_bytes words.now)) ≡ Some command) }
+    ensures bad_words { IsErrOf result WordsFault.BadWords
+        → number_of (codes "trial") (map string_bytes words.now) ≡ None }
 {
     let number = read_number(alloc, "trial", words)?;
     Ok(Command::Trial { number })
@@ -101,9 +106,11 @@ fn read_number(alloc: Global, name: &str, words: &[String]) -> Result<u64, Words
 // What a command of `clap` makes of the words.
 fn parse<'a>(command: clap::Command<'a>, words: &'a [String]) -> Result<ArgMatches<'a>, WordsFault>
     requires { is_simple_and_free (app_of command) ≡ true }
-    ensures rows { IfOk result (λ matches. rows_of (found_of matches) ≡ matches_of (app_of command.entry) (map string_bytes words.entry.now)) }
+    ensures rows { IfOk result (λ matches. rows_of (found_of matches)
+        ≡ matches_of (app_of command.entry) (map string_bytes words.entry.now)) }
     ensures taken { OnOk result (fault_of (app_of command.entry) (map string_bytes words.entry.now) ≡ []) }
-    ensures bad_words { IsErrOf result WordsFault.BadWords → fault_of (app_of command.entry) (map string_bytes words.entry.now) ≢ [] }
+    ensures bad_words { IsErrOf result WordsFault.BadWords
+        → fault_of (app_of command.entry) (map string_bytes words.entry.now) ≢ [] }
 {
     match command.try_get_matches_from(words) {
         Ok(matches) => Ok(matches),

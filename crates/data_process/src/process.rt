@@ -63,7 +63,8 @@ impl DataProcess {
     /// The data process of this number at the start.
     pub fn new(alloc: Global, shape: Shape, number: u32) -> Result<DataProcess, AllocError>
         requires { number < shape.k }
-        ensures { IfOk result (λ process. process ≡ record { shape = shape; process = opening_process shape (DataNode number); made = [] }) }
+        ensures { IfOk result (λ process. process
+            ≡ record { shape = shape; process = opening_process shape (DataNode number); made = [] }) }
     {
         Ok(DataProcess {
             alloc,
@@ -75,10 +76,12 @@ impl DataProcess {
     /// A call is asked. After want of memory nothing but room has changed.
     pub fn ask(&mut self, call: Call, op: &Op) -> Result<CallStep, AllocError>
         requires caller { call.caller < callers }
-        requires numbers { last_of (replica_of self.old.process (home_of (key_of op.now.act) self.old.shape.k)) < 2 ^ 62 }
+        requires numbers { last_of (replica_of self.old.process (home_of (key_of op.now.act) self.old.shape.k))
+            < 2 ^ 62 }
         ensures shape { self.new.shape ≡ self.old.shape }
         ensures pages { MakesNoneOf (CallMisses self.old.shape op.now self.old.process) self.old.made self.new.made }
-        ensures step { IfOk result (λ step. ask_process self.old.shape (name_of call) op.now self.old.process ≡ called self.new.process step) }
+        ensures step { IfOk result (λ step. ask_process self.old.shape (name_of call) op.now self.old.process
+            ≡ called self.new.process step) }
         ensures wanted { OnErr result (AskWants self.old.shape op.now self.old.process) }
         ensures err { OnErr result (self.new.process ≡ self.old.process) }
     {
@@ -92,7 +95,8 @@ impl DataProcess {
     pub fn collect(&mut self, caller: u32, call: u64) -> Answer
         ensures shape { self.new.shape ≡ self.old.shape }
         ensures pages { self.new.made ≡ self.old.made }
-        ensures answer { collect_from caller call self.old.process (range_with_len 0 self.old.shape.k) ≡ only result self.new.process }
+        ensures answer { collect_from caller call self.old.process (range_with_len 0 self.old.shape.k)
+            ≡ only result self.new.process }
     {
         self.service.collect(caller, call)
     }
@@ -101,14 +105,16 @@ impl DataProcess {
     pub fn fate(&self, caller: u32, call: u64, partition: Partition) -> Answer
         requires caller { caller < callers }
         requires partition { partition.0 < self.now.shape.k }
-        ensures { result ≡ fate_of self.now.shape caller call partition.0 self.now.process (head_at self.now.process partition.0) }
+        ensures { result ≡ fate_of self.now.shape caller call partition.0 self.now.process
+            (head_at self.now.process partition.0) }
     {
         self.service.fate(caller, call, partition)
     }
 
     /// The messages that tell how far the process has settled, which change nothing here.
     pub fn flush(&self) -> Result<Vec<Sent>, AllocError>
-        ensures { IfOk result (λ sent. (flush_process self.now.shape self.now.process).step ≡ sending sent.items self.now.process) }
+        ensures { IfOk result (λ sent. (flush_process self.now.shape self.now.process).step
+            ≡ sending sent.items self.now.process) }
     {
         self.service.flush()
     }
@@ -118,7 +124,8 @@ impl DataProcess {
         requires { ComesToData self.old.shape from message.now self.old.process }
         ensures shape { self.new.shape ≡ self.old.shape }
         ensures pages { self.new.made ≡ self.old.made }
-        ensures step { IfOk result (λ step. receive self.old.shape from message.now self.old.process ≡ stepped self.new.process step) }
+        ensures step { IfOk result (λ step. receive self.old.shape from message.now self.old.process
+            ≡ stepped self.new.process step) }
         ensures wanted { OnErr result (is_current self.old.process message.now ≡ true) }
         ensures err { OnErr result (self.new.process ≡ self.old.process) }
     {
@@ -161,7 +168,8 @@ impl DataProcess {
 
     /// Whether the partition of an op has numbers left, which is a condition of `ask`.
     pub fn has_numbers(&self, op: &Op) -> bool
-        ensures { IsTrue result ↔ last_of (replica_of self.now.process (home_of (key_of op.now.act) self.now.shape.k)) < 2 ^ 62 }
+        ensures { IsTrue result ↔ last_of (replica_of self.now.process (home_of (key_of op.now.act) self.now.shape.k))
+            < 2 ^ 62 }
     {
         let partition = home(op.act().key(), self.service.shape().k());
         self.service.last(partition) < 1 << 62
@@ -203,7 +211,8 @@ impl DataProcess {
         requires partition { partition.0 < self.old.shape.k }
         ensures shape { self.new.shape ≡ self.old.shape }
         ensures pages { self.new.made ≡ self.old.made }
-        ensures step { IfOk result (λ step. receive self.old.shape from (tells.Ack rank partition number) self.old.process ≡ stepped self.new.process step) }
+        ensures step { IfOk result (λ step. receive self.old.shape from
+            (tells.Ack rank partition number) self.old.process ≡ stepped self.new.process step) }
         ensures wanted { OnErr result (is_under rank.0 (at None self.old.process.heads partition.0) ≡ true) }
         ensures err { OnErr result (self.new.process ≡ self.old.process) }
     {
@@ -235,7 +244,8 @@ impl DataProcess {
         requires news { knows_dead self.old.process.known dead ≡ false }
         ensures shape { self.new.shape ≡ self.old.shape }
         ensures pages { self.new.made ≡ self.old.made }
-        ensures step { IfOk result (λ step. notice_comes self.old.shape dead self.old.process ≡ stepped self.new.process step) }
+        ensures step { IfOk result (λ step. notice_comes self.old.shape dead self.old.process
+            ≡ stepped self.new.process step) }
         ensures err { OnErr result (self.new.process ≡ self.old.process) }
     {
         let mut sent = Vec::new(self.alloc);

@@ -28,7 +28,8 @@ pub fn apply<B: Beneath>(
     ensures tidy { IsTidyBut replica.new (λ _. false) }
     ensures below { B.shape below.new ≡ B.shape below.old }
     ensures pages { B.made below.new ≡ B.made below.old }
-    ensures bytes { B.process below.new ≡ bytes_after (B.shape below.old) partition.0 (up_to number replica.old.replica) (B.process below.old) }
+    ensures bytes { B.process below.new ≡ bytes_after (B.shape below.old) partition.0
+        (up_to number replica.old.replica) (B.process below.old) }
     ensures kept { (d : ℕ) (u : Update) → B.is_ready below.old d u → B.is_ready below.new d u }
     ensures ready { All (λ u. B.is_ready below.new partition.0 u) replica.new.replica.log }
 {

@@ -35,10 +35,12 @@ pub fn follow<B: Beneath>(
     ensures shape { replica.new.shape ≡ replica.old.shape }
     ensures tidy { IsTidyBut replica.new (λ _. false) }
     ensures below { B.shape below.new ≡ B.shape below.old }
-    ensures pages { MakesNoneOf (Misses (B.shape below.old).block update.now.body) (B.made below.old) (B.made below.new) }
+    ensures pages { MakesNoneOf (Misses (B.shape below.old).block update.now.body) (B.made below.old)
+        (B.made below.new) }
     ensures kept { (d : ℕ) (u : Update) → B.is_ready below.old d u → B.is_ready below.new d u }
     ensures ready { All (λ u. B.is_ready below.new partition.0 u) replica.new.replica.log }
-    ensures replica { OnOk result (replica.new.replica ≡ with_update update.now (applied_to stable replica.old.replica)) }
+    ensures replica { OnOk result (replica.new.replica
+        ≡ with_update update.now (applied_to stable replica.old.replica)) }
     ensures bytes { OnOk result (B.process below.new
         ≡ bytes_after (B.shape below.old) partition.0 (up_to stable replica.old.replica) (B.process below.old)) }
     ensures replica_err { OnErr result (replica.new.replica ≡ replica.old.replica) }

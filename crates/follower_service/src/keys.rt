@@ -9,7 +9,8 @@ use partition_replica::Replica;
 pub fn tidy_all(replica: &mut Replica, updates: &[Update])
     ensures shape { replica.new.shape ≡ replica.old.shape }
     ensures replica { replica.new.replica ≡ replica.old.replica }
-    ensures owed { (owed : List ℕ → Bool) → IsTidyBut replica.old (λ q. owed q || is_touched updates.now q) → IsTidyBut replica.new owed }
+    ensures owed { (owed : List ℕ → Bool) → IsTidyBut replica.old (λ q. owed q || is_touched updates.now q)
+        → IsTidyBut replica.new owed }
 {
     'updates: for update in updates {
         replica.tidy(&update.key);

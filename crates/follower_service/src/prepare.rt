@@ -35,9 +35,11 @@ pub fn for_update<B: Beneath>(
     requires writes { Writes (space_of (B.shape below.old)) update.now.body }
     ensures shape { replica.new.shape ≡ replica.old.shape }
     ensures replica { replica.new.replica ≡ replica.old.replica }
-    ensures owed { (owed : List ℕ → Bool) → IsTidyBut replica.old owed → IsTidyBut replica.new (λ q. owed q || is_touched (update.now ∷ []) q) }
+    ensures owed { (owed : List ℕ → Bool) → IsTidyBut replica.old owed
+        → IsTidyBut replica.new (λ q. owed q || is_touched (update.now ∷ []) q) }
     ensures below { B.shape below.new ≡ B.shape below.old }
-    ensures pages { MakesNoneOf (Misses (B.shape below.old).block update.now.body) (B.made below.old) (B.made below.new) }
+    ensures pages { MakesNoneOf (Misses (B.shape below.old).block update.now.body) (B.made below.old)
+        (B.made below.new) }
     ensures bytes { B.process below.new ≡ B.process below.old }
     ensures kept { (d : ℕ) (u : Update) → B.is_ready below.old d u → B.is_ready below.new d u }
     ensures copy { IfOk result (λ p. p.copy ≡ update.now) }
@@ -64,19 +66,22 @@ pub fn for_list<B: Beneath>(
     below: &mut B,
 ) -> Result<Prepared<UpdateList>, AllocError>
     requires partition { partition.0 < (B.shape below.old).k }
-    requires writes { All (λ u. Writes (space_of (B.shape below.old)) u.body) (drop (replica.old.replica.applied - base) list.now) }
+    requires writes { All (λ u. Writes (space_of (B.shape below.old)) u.body)
+        (drop (replica.old.replica.applied - base) list.now) }
     requires reaches { replica.old.replica.applied ≤ base + length list.now }
     requires few { length list.now ≤ window }
     ensures shape { replica.new.shape ≡ replica.old.shape }
     ensures replica { replica.new.replica ≡ replica.old.replica }
-    ensures owed { (owed : List ℕ → Bool) → IsTidyBut replica.old owed → IsTidyBut replica.new (λ q. owed q || is_touched list.now q) }
+    ensures owed { (owed : List ℕ → Bool) → IsTidyBut replica.old owed
+        → IsTidyBut replica.new (λ q. owed q || is_touched list.now q) }
     ensures below { B.shape below.new ≡ B.shape below.old }
     ensures pages { MakesNoneOf (AllMiss (B.shape below.old).block list.now) (B.made below.old) (B.made below.new) }
     ensures bytes { B.process below.new ≡ B.process below.old }
     ensures kept { (d : ℕ) (u : Update) → B.is_ready below.old d u → B.is_ready below.new d u }
     ensures copy { IfOk result (λ p. p.copy ≡ list.now) }
     ensures room { OnOk result (HasRoom replica.new.room list.now) }
-    ensures ready { OnOk result (All (λ u. B.is_ready below.new partition.0 u) (drop (replica.old.replica.applied - base) list.now)) }
+    ensures ready { OnOk result (All (λ u. B.is_ready below.new partition.0 u)
+        (drop (replica.old.replica.applied - base) list.now)) }
     ensures empty { IfOk result (λ p. p.room.items ≡ []) }
     ensures fits { IfOk result (λ p. vec_capacity p.room ≡ length (up_to base replica.old.replica)) }
 {

@@ -152,7 +152,8 @@ fn answer_key<C: Caller, K: Sink, T: Clock>(
 
 /// Makes a call at a moment of its own.
 fn ask<C: Caller, T: Clock>(caller: &mut C, clock: &T, act: Act) -> Result<CallEnd, AllocError>
-    ensures made { IfOk result (IsMade (ways_of C.made C.failed C.kept) (T.moment clock.now) caller.old caller.new act) }
+    ensures made { IfOk result (IsMade (ways_of C.made C.failed C.kept)
+        (T.moment clock.now) caller.old caller.new act) }
     ensures want { OnErr result (C.kept caller.old caller.new) }
 {
     let op = Op::new(clock.now(), act);

@@ -75,7 +75,8 @@ pub(crate) fn enter(
     requires tickets_room { vec_len tickets.old < vec_capacity tickets.old }
     ensures asked { asked.new ≡ asked_after asked.old (call_in asked.old call) }
     ensures log { log.new.items ≡ log.old.items ++ logged_at_once (call_in asked.old call) answer.now }
-    ensures tickets { tickets.new.items ≡ tickets_after (length log.old.items) (call_in asked.old call) answer.now tickets.old.items }
+    ensures tickets { tickets.new.items ≡ tickets_after (length log.old.items)
+        (call_in asked.old call) answer.now tickets.old.items }
     ensures few { vec_len log.new ≤ vec_len log.old + 1 }
     ensures log_capacity { vec_capacity log.old ≤ vec_capacity log.new }
 {
@@ -99,7 +100,8 @@ fn enter_call(
     requires tickets_room { vec_len tickets.old < vec_capacity tickets.old }
     ensures asked { asked.new ≡ asked_after asked.old (call_in asked.old (Some call)) }
     ensures log { log.new.items ≡ log.old.items ++ logged_at_once (call_in asked.old (Some call)) answer.now }
-    ensures tickets { tickets.new.items ≡ tickets_after (length log.old.items) (call_in asked.old (Some call)) answer.now tickets.old.items }
+    ensures tickets { tickets.new.items ≡ tickets_after (length log.old.items)
+        (call_in asked.old (Some call)) answer.now tickets.old.items }
     ensures few { vec_len log.new ≤ vec_len log.old + 1 }
     ensures log_capacity { vec_capacity log.old ≤ vec_capacity log.new }
 {

@@ -134,7 +134,8 @@ impl Ledger {
         requires caller { IfSome call (λ c. c.caller < callers) }
         requires refusal { IfSome call (λ c. c.refusal ≡ refusal_in answer.now) }
         requires once { Once (settled_by (call_in self.old.books.asked call) answer.now settled.now self.old.books).logged }
-        ensures books { self.new.books ≡ recorded (call_in self.old.books.asked call) answer.now settled.now self.old.books }
+        ensures books { self.new.books ≡ recorded
+            (call_in self.old.books.asked call) answer.now settled.now self.old.books }
         ensures logged { result ≡ length (settled_by (call_in self.old.books.asked call) answer.now settled.now self.old.books).logged }
         ensures room { self.new.room ≡ 0 }
     {

@@ -44,8 +44,10 @@ fn settle_partition(
     requires differ { Differ tickets.old }
     requires log_room { vec_len log.old + length (settled_in partition settled.now) ≤ vec_capacity log.old }
     requires places_room { vec_len places.old + length settled.now ≤ vec_capacity places.old }
-    ensures log { log.new.items ≡ log.old.items ++ entries_taken tickets.old (news_of partition (vec_len places.old) settled.now) }
-    ensures places { places.new.items ≡ places.old.items ++ runs_of (news_of partition (vec_len places.old) settled.now) }
+    ensures log { log.new.items ≡ log.old.items
+        ++ entries_taken tickets.old (news_of partition (vec_len places.old) settled.now) }
+    ensures places { places.new.items ≡ places.old.items
+        ++ runs_of (news_of partition (vec_len places.old) settled.now) }
     ensures tickets { tickets.new ≡ ops_taken (news_of partition (vec_len places.old) settled.now) tickets.old }
     ensures differ { Differ tickets.new }
     ensures few { vec_len log.new ≤ vec_len log.old + length (settled_in partition settled.now) }
@@ -76,7 +78,8 @@ fn settle(
     requires differ { Differ tickets.old }
     requires log_room { vec_len log.old < vec_capacity log.old }
     requires places_room { vec_len places.old < vec_capacity places.old }
-    ensures log { log.new.items ≡ log.old.items ++ entry_then update.now (op_in (update_name update.now) tickets.old) [] }
+    ensures log { log.new.items ≡ log.old.items
+        ++ entry_then update.now (op_in (update_name update.now) tickets.old) [] }
     ensures places { places.new.items ≡ places.old.items ++ run_of update.now.body ∷ [] }
     ensures tickets { tickets.new ≡ map (op_taken (update_name update.now)) tickets.old }
     ensures log_capacity { vec_capacity log.old ≤ vec_capacity log.new }

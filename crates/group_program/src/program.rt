@@ -74,7 +74,8 @@ where
     ensures write { result ≡ Status.WriteFault → Rose (K.faults sink.old) (K.faults sink.new) }
     ensures accept { result ≡ Status.AcceptFault → Rose (L.faults listener.old) (L.faults listener.new) }
     ensures unread { ReadsNothing (command_of (map string_bytes words.now)) → source.new ≡ source.old }
-    ensures unshaped { (d : Dimensions) → command_of (map string_bytes words.now) ≡ Some (Command.Session d.k d.m d.blocks d.block) → ¬ (IsShape d) → source.new ≡ source.old }
+    ensures unshaped { (d : Dimensions) → command_of (map string_bytes words.now)
+        ≡ Some (Command.Session d.k d.m d.blocks d.block) → ¬ (IsShape d) → source.new ≡ source.old }
     ensures listener { command_of (map string_bytes words.now) ≢ Some Command.Serve → listener.new ≡ listener.old }
 {
     match read_words(alloc, words) {

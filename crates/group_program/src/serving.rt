@@ -27,7 +27,8 @@ pub(crate) fn serve_session<S: Source, K: Sink, T: Clock>(
     ensures session { IsSession (record { k = k; m = m; blocks = blocks; block = block }) (T.moment clock.now)
         (outside (S.input source.old) (S.faults source.old) (K.held sink.old) (K.faults sink.old))
         (outside (S.input source.new) (S.faults source.new) (K.held sink.new) (K.faults sink.new)) result }
-    ensures unshaped { let asked : Dimensions = record { k = k; m = m; blocks = blocks; block = block } in ¬ (IsShape asked) → source.new ≡ source.old }
+    ensures unshaped { let asked : Dimensions = record { k = k; m = m; blocks = blocks; block = block } in ¬
+        (IsShape asked) → source.new ≡ source.old }
     ensures named { result ≢ Status.BadWords }
     ensures read { result ≡ Status.ReadFault → Rose (S.faults source.old) (S.faults source.new) }
     ensures write { result ≡ Status.WriteFault → Rose (K.faults sink.old) (K.faults sink.new) }

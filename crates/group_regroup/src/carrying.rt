@@ -108,8 +108,10 @@ fn load_from(
     requires partition { partition.0 < world.now.shape.k }
     requires up { ¬ (IsDown world.now) }
     requires drained { IsDrained world.now }
-    ensures items { OnOk result ((xs : List Load) → StandFor items.old.items xs → StandFor items.new.items (xs ++ loads_in world.now partition.0)) }
-    ensures within { OnOk result (AreWithin world.now.shape.k items.old.items → AreWithin world.now.shape.k items.new.items) }
+    ensures items { OnOk result ((xs : List Load) → StandFor items.old.items xs
+        → StandFor items.new.items (xs ++ loads_in world.now partition.0)) }
+    ensures within { OnOk result (AreWithin world.now.shape.k items.old.items
+        → AreWithin world.now.shape.k items.new.items) }
     ensures space { OnOk result (bytes_in world.now partition.0 ≤ space) }
     ensures fault { IfErr result (IsLongFault partition (bytes_in world.now partition.0) space) }
 {

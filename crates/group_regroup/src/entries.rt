@@ -43,7 +43,8 @@ fn told_op(
     entry: &Entry,
 ) -> Result<Op, AllocError>
     requires { 1 ≤ k }
-    ensures { IfOk result (λ op. op ≡ unwrap_or (op_asked lowered.now place (name_of entry.now)) (op_out bases.now k entry.now.op)) }
+    ensures { IfOk result (λ op. op ≡ unwrap_or (op_asked lowered.now place (name_of entry.now))
+        (op_out bases.now k entry.now.op)) }
 {
     'lowered: for asked in lowered {
         if covers(asked, place, entry) {
@@ -98,7 +99,8 @@ fn raised(bases: &[u64], k: u32, op: &Op) -> Result<Op, AllocError>
 
 // A reply whose cas number has the base added.
 fn told_reply(base: u64, reply: &Reply) -> Result<Reply, AllocError>
-    ensures { IfOk result (λ told. (bases : List ℕ) (d : ℕ) → at 0 bases d ≡ base → told ≡ told_reply bases d reply.now) }
+    ensures { IfOk result (λ told. (bases : List ℕ) (d : ℕ) → at 0 bases d ≡ base
+        → told ≡ told_reply bases d reply.now) }
 {
     match reply {
         Reply::Value(item) => {

@@ -43,7 +43,8 @@ pub(crate) fn renew(
     requires shape { IsShape shape }
     requires partitions { shape.k ≡ world.old.shape.k }
     ensures world { OnOk result (world.new ≡ (reading world.old).world) }
-    ensures fresh { IfOk result (IsFresh (reading world.old).world bases.now lowered.now shape (reading world.old).parcels) }
+    ensures fresh { IfOk result (IsFresh (reading world.old).world bases.now lowered.now shape
+        (reading world.old).parcels) }
     ensures err { OnErr result (IsPart world.old (reading world.old).events world.new) }
 {
     let parcels = read_all(alloc, world, items)?;
@@ -73,7 +74,8 @@ fn fill(
 fn filled(alloc: Global, shape: Shape, parcels: Vec<Parcel>) -> Result<World, AllocError>
     requires shape { IsShape shape }
     requires within { AreAllWithin shape.k parcels.items }
-    ensures { IfOk result (λ world. world ≡ world_after (opening shape) (setting (opening shape) (parcels_as parcels.items))) }
+    ensures { IfOk result (λ world. world ≡ world_after (opening shape)
+        (setting (opening shape) (parcels_as parcels.items))) }
 {
     let mut world = World::new(alloc, shape)?;
     set_all(&mut world, parcels)?;

@@ -39,7 +39,8 @@ fn told_in(
     place: usize,
 ) -> Result<Option<Entry>, AllocError>
     requires { 1 ≤ k }
-    ensures { IfOk result (λ found. (era : ℕ) → option_map (λ x. (era, x)) found ≡ slice_get (told_from bases.now k era lowered.now 0 log.now) place) }
+    ensures { IfOk result (λ found. (era : ℕ) → option_map (λ x. (era, x)) found
+        ≡ slice_get (told_from bases.now k era lowered.now 0 log.now) place) }
 {
     if log.len() <= place {
         return Ok(None);

@@ -18,7 +18,8 @@ pub(crate) fn read_all(
     requires up { ¬ (IsDown world.old) }
     requires within { AreWithin world.old.shape.k items.items }
     ensures world { OnOk result (world.new ≡ (read_all world.old (loads_of items.items)).world) }
-    ensures parcels { IfOk result (λ parcels. parcels_as parcels.items ≡ (read_all world.old (loads_of items.items)).parcels) }
+    ensures parcels { IfOk result (λ parcels. parcels_as parcels.items
+        ≡ (read_all world.old (loads_of items.items)).parcels) }
     ensures err { OnErr result (IsPart world.old (read_all world.old (loads_of items.items)).events world.new) }
 {
     let mut parcels = Vec::new(alloc);

@@ -65,9 +65,12 @@ fn make(world: &mut World, bases: &[u64], event: &Event) -> Result<Out, AllocErr
     requires events { world.old.events < 2 ^ 62 }
     requires low { All IsLowBase bases.now }
     requires may { MayCome world.old event.now }
-    ensures world { IfOk result (λ _. world.new ≡ (step world.old (event_in bases.now world.old.shape.k event.now)).world) }
-    ensures answer { IfOk result (λ out. out.answer ≡ told_to bases.now world.old.shape.k event.now (step world.old (event_in bases.now world.old.shape.k event.now)).turn.answer) }
-    ensures logged { IfOk result (λ out. out.logged ≡ length (step world.old (event_in bases.now world.old.shape.k event.now)).turn.logged) }
+    ensures world { IfOk result (λ _. world.new
+        ≡ (step world.old (event_in bases.now world.old.shape.k event.now)).world) }
+    ensures answer { IfOk result (λ out. out.answer ≡ told_to bases.now world.old.shape.k event.now
+        (step world.old (event_in bases.now world.old.shape.k event.now)).turn.answer) }
+    ensures logged { IfOk result (λ out. out.logged
+        ≡ length (step world.old (event_in bases.now world.old.shape.k event.now)).turn.logged) }
     ensures err { OnErr result (world.new ≡ world.old) }
 {
     match event {
@@ -87,9 +90,13 @@ fn ask(
     requires events { world.old.events < 2 ^ 62 }
     requires low { All IsLowBase bases.now }
     requires may { MayCome world.old (happens.Ask caller op.now at) }
-    ensures world { IfOk result (λ _. world.new ≡ (step world.old (happens.Ask caller (op_in bases.now world.old.shape.k op.now) at)).world) }
-    ensures answer { IfOk result (λ out. out.answer ≡ told_to bases.now world.old.shape.k (happens.Ask caller op.now at) (step world.old (happens.Ask caller (op_in bases.now world.old.shape.k op.now) at)).turn.answer) }
-    ensures logged { IfOk result (λ out. out.logged ≡ length (step world.old (happens.Ask caller (op_in bases.now world.old.shape.k op.now) at)).turn.logged) }
+    ensures world { IfOk result (λ _. world.new ≡ (step world.old
+        (happens.Ask caller (op_in bases.now world.old.shape.k op.now) at)).world) }
+    ensures answer { IfOk result (λ out. out.answer ≡ told_to bases.now world.old.shape.k
+        (happens.Ask caller op.now at) (step world.old
+        (happens.Ask caller (op_in bases.now world.old.shape.k op.now) at)).turn.answer) }
+    ensures logged { IfOk result (λ out. out.logged ≡ length
+        (step world.old (happens.Ask caller (op_in bases.now world.old.shape.k op.now) at)).turn.logged) }
     ensures err { OnErr result (world.new ≡ world.old) }
 {
     world.run();

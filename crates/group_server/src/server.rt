@@ -34,10 +34,12 @@ where
     L::Incoming: Drop,
     L::Outgoing: Drop,
     requires { CanServe stage.now seats.seats }
-    ensures accepted { IfOk result (λ n. HasAccepted (L.accepted listener.old) (L.accepted listener.new) connections n) }
+    ensures accepted { IfOk result (λ n. HasAccepted (L.accepted listener.old)
+        (L.accepted listener.new) connections n) }
     ensures done { IfOk result (λ n. IsDone connections n (L.over listener.new)) }
     ensures fault { HasCauseOf (L.faults listener.old) (L.faults listener.new) result ServeFault.AcceptFault }
-    ensures at_fault { OnErr result ((n : ℕ) × HasAccepted (L.accepted listener.old) (L.accepted listener.new) connections n) }
+    ensures at_fault { OnErr result ((n : ℕ) × HasAccepted (L.accepted listener.old)
+        (L.accepted listener.new) connections n) }
     ensures want { result ≡ Err ServeFault.Want → listener.new ≡ listener.old }
 {
     let mut rest = seats;
@@ -77,10 +79,12 @@ fn serve_beside<R: Threads + Wait + Sync, L: ReadyListener, G: Gate, T: Clock>(
 where
     L::Incoming: Drop,
     L::Outgoing: Drop,
-    ensures accepted { IfOk result (λ n. HasAccepted (L.accepted listener.old) (L.accepted listener.new) connections n) }
+    ensures accepted { IfOk result (λ n. HasAccepted (L.accepted listener.old)
+        (L.accepted listener.new) connections n) }
     ensures done { IfOk result (λ n. IsDone connections n (L.over listener.new)) }
     ensures fault { HasCauseOf (L.faults listener.old) (L.faults listener.new) result ServeFault.AcceptFault }
-    ensures at_fault { OnErr result ((n : ℕ) × HasAccepted (L.accepted listener.old) (L.accepted listener.new) connections n) }
+    ensures at_fault { OnErr result ((n : ℕ) × HasAccepted (L.accepted listener.old)
+        (L.accepted listener.new) connections n) }
     ensures want { result ≡ Err ServeFault.Want → listener.new ≡ listener.old }
 {
     let bell = Bell::new();
@@ -120,10 +124,12 @@ fn serve_and_ring<R: Threads + Wait + Sync, L: ReadyListener, G: Gate, T: Clock>
 where
     L::Incoming: Drop,
     L::Outgoing: Drop,
-    ensures accepted { IfOk result (λ n. HasAccepted (L.accepted listener.old) (L.accepted listener.new) connections n) }
+    ensures accepted { IfOk result (λ n. HasAccepted (L.accepted listener.old)
+        (L.accepted listener.new) connections n) }
     ensures done { IfOk result (λ n. IsDone connections n (L.over listener.new)) }
     ensures fault { HasCauseOf (L.faults listener.old) (L.faults listener.new) result ServeFault.AcceptFault }
-    ensures at_fault { OnErr result ((n : ℕ) × HasAccepted (L.accepted listener.old) (L.accepted listener.new) connections n) }
+    ensures at_fault { OnErr result ((n : ℕ) × HasAccepted (L.accepted listener.old)
+        (L.accepted listener.new) connections n) }
     ensures want { result ≡ Err ServeFault.Want → listener.new ≡ listener.old }
 {
     let end = serve_either(rt, alloc, listener, desk, gate, workers, connections, clock);

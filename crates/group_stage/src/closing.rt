@@ -59,7 +59,8 @@ impl Stage {
         ensures table { result.table_id ≡ self.now.table.shared.table_id }
         ensures parts { result.me.0.parts ≡ self.now.plan.callers }
         ensures idle { result.me.0.held ≡ [] }
-        ensures whole { (es : List Event) → IsWhole self.now.plan.shape es (result.me.0 ∷ []) → IsWhole self.now.plan.shape es (map view_of seats.seats) }
+        ensures whole { (es : List Event) → IsWhole self.now.plan.shape es (result.me.0 ∷ [])
+            → IsWhole self.now.plan.shape es (map view_of seats.seats) }
     {
         let mut rest = seats;
         let Some(first) = rest.take() else {
@@ -80,7 +81,8 @@ impl Stage {
         requires parts { seat.me.0.parts ≡ self.plan.callers }
         requires idle { seat.me.0.held ≡ [] }
         requires nodes { nodes ≡ record { room = limits.processes_of self.plan.shape; nodes = [] } }
-        ensures { (seats : List Seat) → ((es : List Event) → IsWhole self.plan.shape es (seat.me.0 ∷ []) → IsWhole self.plan.shape es (map view_of seats)) → HasClosed self.plan.shape seats result.nodes }
+        ensures { (seats : List Seat) → ((es : List Event) → IsWhole self.plan.shape es (seat.me.0 ∷ [])
+            → IsWhole self.plan.shape es (map view_of seats)) → HasClosed self.plan.shape seats result.nodes }
     {
         let Stage {
             alloc: _,
@@ -99,7 +101,9 @@ fn take_nodes(shape: Shape, slots: Closed<Option<Node>, Global>, nodes: Nodes) -
     requires have { HaveNodes (limits.processes_of shape) (slots_items slots.slots) }
     requires nodes { nodes ≡ record { room = limits.processes_of shape; nodes = [] } }
     ensures many { length result.nodes ≡ limits.processes_of shape }
-    ensures nodes { (p : ℕ) (y : Standing) → p < limits.processes_of shape → get_elem? (slots_items slots.slots) (places.slot_of p) ≡ maybe.some (Some y) → slice_get result.nodes p ≡ Some y }
+    ensures nodes { (p : ℕ) (y : Standing) → p < limits.processes_of shape
+        → get_elem? (slots_items slots.slots) (places.slot_of p) ≡ maybe.some (Some y)
+        → slice_get result.nodes p ≡ Some y }
 {
     let mut closed = slots;
     let mut taken = nodes;

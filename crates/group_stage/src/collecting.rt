@@ -27,7 +27,8 @@ impl Stage {
         requires process { IsProcess (shape_of self.now) at }
         ensures seat { IsOf self.now seat.new }
         ensures caller { seat.new.caller ≡ seat.old.caller }
-        ensures ended { HasEnded (happens.Collect seat.old.caller call at) (view_of seat.old) result (view_of seat.new) }
+        ensures ended { HasEnded (happens.Collect seat.old.caller call at) (view_of seat.old) result
+            (view_of seat.new) }
         ensures succeeds { IsOk result }
     {
         if seat.is_worn() {

@@ -92,7 +92,9 @@ impl Stage {
         requires table { seat.old.table_id ≡ self.now.table.shared.table_id }
         requires can { CanFinishTwo self.now.plan seat.old.me low high first second }
         ensures table { seat.new.table_id ≡ seat.old.table_id }
-        ensures finished { (es : List Event) × Knows es seat.old.me.0 × ((f : ℕ) × (g : ℕ) × (seat.new.me ≡ (released (released (committed es seat.old.me.0) high f) low g, []))) }
+        ensures finished { (es : List Event) × Knows es seat.old.me.0
+            × ((f : ℕ) × (g : ℕ) × (seat.new.me
+            ≡ (released (released (committed es seat.old.me.0) high f) low g, []))) }
     {
         self.commit(seat);
         self.put_two_back(seat, low, high, first, second);
@@ -122,7 +124,8 @@ fn is_before(shape: Shape, one: ProcessId, other: ProcessId) -> bool
 fn in_order(up: bool, from: ProcessId, to: ProcessId) -> (ProcessId, ProcessId)
     ensures one { result.0 ≡ one_of up from to }
     ensures other { result.1 ≡ other_of up from to }
-    ensures processes { (s : Dimensions) → IsProcess s from → IsProcess s to → IsProcess s result.0 × IsProcess s result.1 }
+    ensures processes { (s : Dimensions) → IsProcess s from → IsProcess s to
+        → IsProcess s result.0 × IsProcess s result.1 }
 {
     if up { (from, to) } else { (to, from) }
 }

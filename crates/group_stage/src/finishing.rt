@@ -13,7 +13,8 @@ impl Stage {
         requires table { seat.old.table_id ≡ self.now.table.shared.table_id }
         requires can { CanFinish self.now.plan seat.old.me place node }
         ensures table { seat.new.table_id ≡ seat.old.table_id }
-        ensures finished { (es : List Event) × Knows es seat.old.me.0 × ((found : ℕ) × (seat.new.me ≡ (released (committed es seat.old.me.0) place found, []))) }
+        ensures finished { (es : List Event) × Knows es seat.old.me.0
+            × ((found : ℕ) × (seat.new.me ≡ (released (committed es seat.old.me.0) place found, []))) }
     {
         self.commit(seat);
         self.put_back(seat, place, node);

@@ -30,7 +30,8 @@ impl Seats {
         ensures made { self.new.made ≡ self.old.made }
         ensures last { MatchOption result ((self.old.seats ≡ []) × (self.new.seats ≡ []))
             (λ seat. self.old.seats ≡ self.new.seats ++ seat ∷ []) }
-        ensures of_stage { (stage : Stage) → AreOf stage self.old.seats → AreOf stage self.new.seats × IfSome result (IsOf stage) }
+        ensures of_stage { (stage : Stage) → AreOf stage self.old.seats
+            → AreOf stage self.new.seats × IfSome result (IsOf stage) }
     {
         self.seats.pop()
     }

@@ -74,7 +74,8 @@ impl Stage {
         requires table { seat.old.table_id ≡ self.now.table.shared.table_id }
         requires can { CanCommit self.now.plan seat.old.me.0 }
         ensures table { seat.new.table_id ≡ seat.old.table_id }
-        ensures commits { (es : List Event) × Knows es seat.old.me.0 × (seat.new.me ≡ (committed es seat.old.me.0, seat.old.me.1)) }
+        ensures commits { (es : List Event) × Knows es seat.old.me.0
+            × (seat.new.me ≡ (committed es seat.old.me.0, seat.old.me.1)) }
     {
         let word = word_of(self.plan.shape, processes_of(self.plan.shape));
         let _found = self.table.shared.fetch_add::<Commit>(seat, word, 1);

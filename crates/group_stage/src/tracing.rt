@@ -31,7 +31,8 @@ impl Stage {
         requires partition { partition.0 < (shape_of self.now).k }
         ensures seat { IsOf self.now seat.new }
         ensures caller { seat.new.caller ≡ seat.old.caller }
-        ensures ended { HasEnded (happens.Trace seat.old.caller call partition at) (view_of seat.old) result (view_of seat.new) }
+        ensures ended { HasEnded (happens.Trace seat.old.caller call partition at) (view_of seat.old) result
+            (view_of seat.new) }
         ensures succeeds { IsOk result }
     {
         if seat.is_worn() {

@@ -113,7 +113,8 @@ fn act<B: Beneath>(
     requires tidy { IsTidyBut replica.old (λ _. false) }
     ensures shape { replica.new.shape ≡ replica.old.shape }
     ensures below { B.shape below.new ≡ B.shape below.old }
-    ensures pages { MakesNoneOf (DecisionMisses (B.shape below.old).block decision) (B.made below.old) (B.made below.new) }
+    ensures pages { MakesNoneOf (DecisionMisses (B.shape below.old).block decision) (B.made below.old)
+        (B.made below.new) }
     ensures kept { (d : ℕ) (u : Update) → B.is_ready below.old d u → B.is_ready below.new d u }
     ensures ready { All (λ u. B.is_ready below.new partition.0 u) replica.new.replica.log }
     ensures tidy { IsTidyBut replica.new (λ _. false) }
@@ -145,7 +146,8 @@ fn act<B: Beneath>(
 }
 
 fn only(alloc: Global, answer: Answer) -> Asked
-    ensures { (step : CallStep) × (result ≡ Done step) × (step.answer ≡ answer) × (step.sent.items ≡ []) × (step.settled.items ≡ []) }
+    ensures { (step : CallStep) × (result ≡ Done step) × (step.answer ≡ answer) × (step.sent.items ≡ [])
+        × (step.settled.items ≡ []) }
 {
     Asked::Done(CallStep::only(alloc, answer))
 }

@@ -57,6 +57,7 @@ pub trait Beneath {
         requires ready { is_ready self.old partition.0 update.now }
         ensures pages { made self.new ≡ made self.old }
         ensures shape { shape self.new ≡ shape self.old }
-        ensures process { process self.new ≡ bytes_after (shape self.old) partition.0 (update.now ∷ []) (process self.old) }
+        ensures process { process self.new ≡ bytes_after (shape self.old) partition.0 (update.now ∷ [])
+            (process self.old) }
         ensures kept { (d : ℕ) (u : Update) → is_ready self.old d u → is_ready self.new d u };
 }

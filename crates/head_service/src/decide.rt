@@ -121,7 +121,8 @@ fn decide_read<B: Beneath>(
     ensures decision { IfOk result (λ d. d ≡ decide_waiting (space_of replica.now.shape) replica.now.replica op.now
         (found_in (B.shape below.now) partition.0 (B.process below.now)) (Some slot) None) }
     ensures whole { IfOk result (IsWhole replica.now.shape) }
-    ensures wanted { OnErr result (IsThere (found_in (B.shape below.now) partition.0 (B.process below.now) (run_in slot))) }
+    ensures wanted { OnErr result (IsThere (found_in (B.shape below.now) partition.0 (B.process below.now)
+        (run_in slot))) }
 {
     if let Some(reply) = blind_reply(op, slot) {
         return Ok(Decision::Answer(reply));

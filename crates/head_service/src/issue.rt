@@ -53,15 +53,18 @@ pub fn issue<B: Beneath>(
     ensures kept { (d : ℕ) (u : Update) → B.is_ready below.old d u → B.is_ready below.new d u }
     ensures ready { All (λ u. B.is_ready below.new partition.0 u) replica.new.replica.log }
     ensures tidy { IsTidyBut replica.new (λ _. false) }
-    ensures replica { OnOk result (replica.new.replica ≡ applied_to (settles peers.now head.now update.number) (with_update update replica.old.replica)) }
+    ensures replica { OnOk result (replica.new.replica ≡ applied_to (settles peers.now head.now update.number)
+        (with_update update replica.old.replica)) }
     ensures bytes { OnOk result (B.process below.new ≡ bytes_after (B.shape below.old) partition.0
         (up_to (settles peers.now head.now update.number) (with_update update replica.old.replica)) (B.process below.old)) }
     ensures sent { IfOk result (λ step. step.sent.items
         ≡ to_all peers.now (message_of (record { 0 = head.now.rank }) partition (Issued update replica.old.replica.applied))) }
     ensures settled { IfOk result (λ step. step.settled.items ≡ settlements partition.0
         (up_to (settles peers.now head.now update.number) (with_update update replica.old.replica))) }
-    ensures answer { IfOk result (λ step. step.answer ≡ answer_to (nat_le update.number replica.new.replica.applied) update) }
-    ensures held { OnOk result (held.new.items ≡ held_then (nat_le update.number replica.new.replica.applied) update held.old.items) }
+    ensures answer { IfOk result (λ step. step.answer
+        ≡ answer_to (nat_le update.number replica.new.replica.applied) update) }
+    ensures held { OnOk result (held.new.items ≡ held_then
+        (nat_le update.number replica.new.replica.applied) update held.old.items) }
     ensures replica_err { OnErr result (replica.new.replica ≡ replica.old.replica) }
     ensures bytes_err { OnErr result (B.process below.new ≡ B.process below.old) }
     ensures held_err { OnErr result (held.new.items ≡ held.old.items) }
@@ -98,10 +101,12 @@ fn prepare<B: Beneath>(
     ensures replica { replica.new.replica ≡ replica.old.replica }
     ensures held { held.new.items ≡ held.old.items }
     ensures below { B.shape below.new ≡ B.shape below.old }
-    ensures pages { MakesNoneOf (Misses (B.shape below.old).block update.now.body) (B.made below.old) (B.made below.new) }
+    ensures pages { MakesNoneOf (Misses (B.shape below.old).block update.now.body) (B.made below.old)
+        (B.made below.new) }
     ensures bytes { B.process below.new ≡ B.process below.old }
     ensures kept { (d : ℕ) (u : Update) → B.is_ready below.old d u → B.is_ready below.new d u }
-    ensures owed { (owed : List ℕ → Bool) → IsTidyBut replica.old owed → IsTidyBut replica.new (λ q. owed q || is_touched (update.now ∷ []) q) }
+    ensures owed { (owed : List ℕ → Bool) → IsTidyBut replica.old owed
+        → IsTidyBut replica.new (λ q. owed q || is_touched (update.now ∷ []) q) }
     ensures room { OnOk result (HasRoom replica.new.room (update.now ∷ [])) }
     ensures place { OnOk result (vec_len held.new < vec_capacity held.new) }
     ensures ready { OnOk result (B.is_ready below.new partition.0 update.now) }
@@ -136,10 +141,12 @@ fn make_room<B: Beneath>(
     ensures replica { replica.new.replica ≡ replica.old.replica }
     ensures held { held.new.items ≡ held.old.items }
     ensures below { B.shape below.new ≡ B.shape below.old }
-    ensures pages { MakesNoneOf (Misses (B.shape below.old).block update.now.body) (B.made below.old) (B.made below.new) }
+    ensures pages { MakesNoneOf (Misses (B.shape below.old).block update.now.body) (B.made below.old)
+        (B.made below.new) }
     ensures bytes { B.process below.new ≡ B.process below.old }
     ensures kept { (d : ℕ) (u : Update) → B.is_ready below.old d u → B.is_ready below.new d u }
-    ensures owed { (owed : List ℕ → Bool) → IsTidyBut replica.old owed → IsTidyBut replica.new (λ q. owed q || is_touched (update.now ∷ []) q) }
+    ensures owed { (owed : List ℕ → Bool) → IsTidyBut replica.old owed
+        → IsTidyBut replica.new (λ q. owed q || is_touched (update.now ∷ []) q) }
     ensures room { OnOk result (HasRoom replica.new.room (update.now ∷ [])) }
     ensures place { OnOk result (vec_len held.new < vec_capacity held.new) }
     ensures ready { OnOk result (B.is_ready below.new partition.0 update.now) }
@@ -212,7 +219,8 @@ fn carry_out<B: Beneath>(
     ensures kept { (d : ℕ) (u : Update) → B.is_ready below.old d u → B.is_ready below.new d u }
     ensures ready { All (λ u. B.is_ready below.new partition.0 u) replica.new.replica.log }
     ensures sent { result.sent ≡ prepared.sent }
-    ensures settled { result.settled.items ≡ settlements partition.0 (up_to prepared.number (with_update update replica.old.replica)) }
+    ensures settled { result.settled.items ≡ settlements partition.0
+        (up_to prepared.number (with_update update replica.old.replica)) }
     ensures answer { result.answer ≡ answer_to (nat_le update.number replica.new.replica.applied) update }
     ensures held { held.new.items ≡ held_then (nat_le update.number replica.new.replica.applied) update held.old.items }
 {
@@ -242,8 +250,10 @@ fn carry_out<B: Beneath>(
 /// is held.
 fn answer(applied: u64, call: Held, held: &mut Vec<Held>) -> Answer
     requires { vec_len held.old < vec_capacity held.old }
-    ensures told { call.number ≤ applied → (result ≡ says.Reply (reply_from call.outcome)) × (held.new.items ≡ held.old.items) }
-    ensures waits { applied < call.number → (result ≡ says.Ticket call.number) × (held.new.items ≡ held.old.items ++ call ∷ []) }
+    ensures told { call.number ≤ applied → (result ≡ says.Reply (reply_from call.outcome))
+        × (held.new.items ≡ held.old.items) }
+    ensures waits { applied < call.number → (result ≡ says.Ticket call.number)
+        × (held.new.items ≡ held.old.items ++ call ∷ []) }
 {
     if call.number <= applied {
         return Answer::Reply(reply(call.outcome));

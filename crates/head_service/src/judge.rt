@@ -33,7 +33,8 @@ pub fn judge<B: Beneath>(
         ≤ vec_capacity settled.old }
     requires tidy { IsTidyBut replica.old (λ _. false) }
     ensures shape { replica.new.shape ≡ replica.old.shape }
-    ensures replica { replica.new.replica ≡ applied_to (settles peers.now head.now (last_of replica.old.replica)) replica.old.replica }
+    ensures replica { replica.new.replica ≡ applied_to
+        (settles peers.now head.now (last_of replica.old.replica)) replica.old.replica }
     ensures tidy { IsTidyBut replica.new (λ _. false) }
     ensures below { B.shape below.new ≡ B.shape below.old }
     ensures pages { B.made below.new ≡ B.made below.old }

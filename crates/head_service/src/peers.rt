@@ -25,7 +25,8 @@ pub struct Peers {
 impl Peers {
     /// Whether a parity process is among them.
     pub fn has(&self, parity: u32) -> bool
-        ensures { result ≡ (not (same_process self.now.name (ParityNode parity)) && not (knows_dead self.now.known (ParityNode parity))) }
+        ensures { result ≡ (not (same_process self.now.name (ParityNode parity)) && not
+            (knows_dead self.now.known (ParityNode parity))) }
     {
         let process = ProcessId::ParityNode(parity);
         self.name != process && !self.known.is_dead(process)
@@ -76,7 +77,8 @@ impl Peers {
         news: &News,
         sent: &mut Vec<Sent>,
     ) -> Result<(), AllocError>
-        ensures { OnOk result (sent.new.items ≡ sent.old.items ++ to_all self.now (message_of rank partition news.now)) }
+        ensures { OnOk result (sent.new.items
+            ≡ sent.old.items ++ to_all self.now (message_of rank partition news.now)) }
     {
         let alloc = *sent.allocator();
         'parities: for parity in 0..self.m {

@@ -70,7 +70,8 @@ pub fn needs_bytes(op: &Op, slot: &Slot) -> bool
 /// What an op that needs the bytes of an item is answered by their number alone, if it is.
 pub fn blind_reply(op: &Op, slot: Slot) -> Option<Reply>
     requires needed { run_needed op.now (Some slot) ≡ Some (run_in slot) }
-    ensures { (r : machine.Replica) → result ≡ blind_reply slot.len (ruling_with r op.now (Some slot) (unseen (Some slot))) }
+    ensures { (r : machine.Replica) → result
+        ≡ blind_reply slot.len (ruling_with r op.now (Some slot) (unseen (Some slot))) }
 {
     match op.act() {
         Act::Append { value, .. } | Act::Prepend { value, .. }
@@ -103,8 +104,10 @@ pub fn ruling_with(
 }
 
 fn rule_held(alloc: Global, op: &Op, number: u64, held: &Holding) -> Result<Ruling, AllocError>
-    ensures ruling { IfOk result (λ ruling. ruling ≡ ruling_of op.now.moment number op.now.act (live_at op.now.moment (Some held.now))) }
-    ensures wanted { OnErr result (HoldsItem (ruling_of op.now.moment number op.now.act (live_at op.now.moment (Some held.now)))) }
+    ensures ruling { IfOk result (λ ruling. ruling
+        ≡ ruling_of op.now.moment number op.now.act (live_at op.now.moment (Some held.now))) }
+    ensures wanted { OnErr result (HoldsItem (ruling_of op.now.moment number op.now.act
+        (live_at op.now.moment (Some held.now)))) }
 {
     rule(alloc, op, number, live(op.now(), Some(held)))
 }

@@ -38,8 +38,10 @@ pub fn settle_to<B: Beneath>(
     ensures replica { replica.new.replica ≡ applied_to number replica.old.replica }
     ensures below { B.shape below.new ≡ B.shape below.old }
     ensures pages { B.made below.new ≡ B.made below.old }
-    ensures bytes { B.process below.new ≡ bytes_after (B.shape below.old) partition.0 (up_to number replica.old.replica) (B.process below.old) }
-    ensures settled { settled.new.items ≡ settled.old.items ++ settlements partition.0 (up_to number replica.old.replica) }
+    ensures bytes { B.process below.new ≡ bytes_after (B.shape below.old) partition.0
+        (up_to number replica.old.replica) (B.process below.old) }
+    ensures settled { settled.new.items ≡ settled.old.items
+        ++ settlements partition.0 (up_to number replica.old.replica) }
     ensures capacity { vec_capacity settled.old ≤ vec_capacity settled.new }
     ensures room { replica.new.room ≡ replica.old.room }
     ensures ready { (d : ℕ) (u : Update) → B.is_ready below.old d u → B.is_ready below.new d u }
@@ -62,7 +64,8 @@ pub fn settle_to<B: Beneath>(
 pub fn tidy(replica: &mut Replica, settled: &[Settlement])
     ensures shape { replica.new.shape ≡ replica.old.shape }
     ensures replica { replica.new.replica ≡ replica.old.replica }
-    ensures owed { (owed : List ℕ → Bool) → IsTidyBut replica.old (λ q. owed q || is_touched (updates_of settled.now) q) → IsTidyBut replica.new owed }
+    ensures owed { (owed : List ℕ → Bool) → IsTidyBut replica.old
+        (λ q. owed q || is_touched (updates_of settled.now) q) → IsTidyBut replica.new owed }
 {
     'settled: for settlement in settled {
         replica.tidy(&settlement.update.key);

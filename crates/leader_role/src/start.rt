@@ -65,7 +65,8 @@ impl Start {
     }
 
     fn question(&self, alloc: Global, rows: &[u32]) -> Result<Message, AllocError>
-        ensures { IfOk result (λ message. message ≡ tells.ReadBlock (session_of self.now.leader self.now.number) self.now.block rows.now) }
+        ensures { IfOk result (λ message. message
+            ≡ tells.ReadBlock (session_of self.now.leader self.now.number) self.now.block rows.now) }
     {
         let rows = Vec::from_slice(alloc, rows)?;
         Ok(Message::ReadBlock {

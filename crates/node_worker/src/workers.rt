@@ -36,11 +36,13 @@ pub fn serve_all<R: Threads + Wait + Sync, L: Listener, P: Port, G: Gate, T: Clo
 where
     L::Incoming: Drop,
     L::Outgoing: Drop,
-    ensures accepted { IfOk result (λ n. HasAccepted (L.accepted listener.old) (L.accepted listener.new) connections n) }
+    ensures accepted { IfOk result (λ n. HasAccepted (L.accepted listener.old)
+        (L.accepted listener.new) connections n) }
     ensures done { IfOk result (λ n. IsDone connections n (L.over listener.new)) }
     ensures fault { HasCauseOf (L.faults listener.old) (L.faults listener.new) result ServeFault.AcceptFault }
     ensures only { IfErr result (λ fault. fault ≡ ServeFault.AcceptFault) }
-    ensures at_fault { OnErr result ((n : ℕ) × HasAccepted (L.accepted listener.old) (L.accepted listener.new) connections n) }
+    ensures at_fault { OnErr result ((n : ℕ) × HasAccepted (L.accepted listener.old)
+        (L.accepted listener.new) connections n) }
 {
     let hall = Hall::new(alloc, port, gate, clock, workers);
     let Accepted { listener: _, end } = serve_in_scope::<
@@ -69,10 +71,12 @@ fn serve_in_scope<
     T: Clock,
 >(rt: &R, listener: &'a mut L, hall: &Hall<'_, P, G, T>, connections: u64) -> Accepted<'a, L>
     ensures same { result.listener.ghost_name ≡ listener.entry.ghost_name }
-    ensures accepted { IfOk result.end (λ n. HasAccepted (L.accepted listener.old) (L.accepted result.listener.now) connections n) }
+    ensures accepted { IfOk result.end (λ n. HasAccepted (L.accepted listener.old)
+        (L.accepted result.listener.now) connections n) }
     ensures done { IfOk result.end (λ n. IsDone connections n (L.over result.listener.now)) }
     ensures fault { HasCause (L.faults listener.old) (L.faults result.listener.now) result.end }
-    ensures at_fault { OnErr result.end ((n : ℕ) × HasAccepted (L.accepted listener.old) (L.accepted result.listener.now) connections n) }
+    ensures at_fault { OnErr result.end ((n : ℕ) × HasAccepted (L.accepted listener.old)
+        (L.accepted result.listener.now) connections n) }
 {
     thread::scope(
         thread::scope_env(),
@@ -115,10 +119,12 @@ fn accept_all<
     hall: &'s Hall<'s, P, G, T>,
     connections: u64,
 ) -> Result<u64, Failed>
-    ensures accepted { IfOk result (λ n. HasAccepted (L.accepted listener.old) (L.accepted listener.new) connections n) }
+    ensures accepted { IfOk result (λ n. HasAccepted (L.accepted listener.old)
+        (L.accepted listener.new) connections n) }
     ensures done { IfOk result (λ n. IsDone connections n (L.over listener.new)) }
     ensures fault { HasCause (L.faults listener.old) (L.faults listener.new) result }
-    ensures at_fault { OnErr result ((n : ℕ) × HasAccepted (L.accepted listener.old) (L.accepted listener.new) connections n) }
+    ensures at_fault { OnErr result ((n : ℕ) × HasAccepted (L.accepted listener.old)
+        (L.accepted listener.new) connections n) }
 {
     let mut accepted = 0;
     'connections: for _ in rt.forever() {

@@ -46,7 +46,12 @@ impl ParityBytes {
     /// no session.
     pub fn new(alloc: Global, shape: Shape, number: u32) -> Result<ParityBytes, AllocError>
         requires { number < shape.m }
-        ensures { IfOk result (λ bytes. bytes ≡ record { shape = shape; made = []; process = opening_process shape (ParityNode number) }) }
+        ensures { IfOk result (λ bytes. bytes ≡ record {
+          shape = shape;
+          made = [];
+          process = opening_process shape
+              (ParityNode number);
+        }) }
     {
         Ok(ParityBytes {
             shape,

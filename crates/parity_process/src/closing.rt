@@ -67,7 +67,8 @@ fn tell(
 // What the process keeps of its bytes once it knows of the death. It takes no memory.
 fn close(dead: ProcessId, bytes: &mut ParityBytes)
     ensures stays { Stays bytes.old bytes.new }
-    ensures closed { bytes.new.process ≡ closed_if bytes.old.process.as_leader.sessions (leader_forgotten dead bytes.old.process) }
+    ensures closed { bytes.new.process ≡ closed_if bytes.old.process.as_leader.sessions
+        (leader_forgotten dead bytes.old.process) }
 {
     bytes.forget(dead);
     if bytes.is_idle() {

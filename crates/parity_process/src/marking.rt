@@ -101,7 +101,8 @@ pub fn take(
 ) -> Option<Copy>
     requires partition { mark.partition.0 < service.old.shape.k }
     requires empty { room.items ≡ [] }
-    requires fits { length (up_to mark.number (at empty_replica service.old.replicas mark.partition.0)) ≤ vec_capacity room }
+    requires fits { length (up_to mark.number (at empty_replica service.old.replicas mark.partition.0))
+        ≤ vec_capacity room }
     requires over { IsOver service.old bytes.old }
     ensures shape { service.new.shape ≡ service.old.shape }
     ensures over { IsOver service.new bytes.new }

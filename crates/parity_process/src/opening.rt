@@ -102,8 +102,10 @@ struct Plan {
 
 impl Plan {
     fn new(alloc: Global, service: &Service) -> Result<Plan, AllocError>
-        ensures lost { (b : Process) → IfOk result (λ plan. plan.lost.items ≡ lost_of service.now.shape (serving service.now b)) }
-        ensures rows { (b : Process) → IfOk result (λ plan. plan.rows.items ≡ rows_of service.now.shape (serving service.now b)) }
+        ensures lost { (b : Process) → IfOk result (λ plan. plan.lost.items
+            ≡ lost_of service.now.shape (serving service.now b)) }
+        ensures rows { (b : Process) → IfOk result (λ plan. plan.rows.items
+            ≡ rows_of service.now.shape (serving service.now b)) }
     {
         let known = service.known();
         let lost = lost(alloc, service.shape(), &known)?;
@@ -122,7 +124,8 @@ fn questions(
     service: &Service,
 ) -> Result<Vec<Sent>, AllocError>
     requires rows { (b : Process) → rows.now ≡ rows_of service.now.shape (serving service.now b) }
-    ensures { (b : Process) → IfOk result (λ sent. sent.items ≡ session_starts service.now.shape leader number block (serving service.now b)) }
+    ensures { (b : Process) → IfOk result (λ sent. sent.items
+        ≡ session_starts service.now.shape leader number block (serving service.now b)) }
 {
     let start = Start {
         leader,
@@ -181,12 +184,14 @@ fn mark_at(
     requires over { IsOver service.old bytes.old }
     requires leader { bytes.old.process.name ≡ ParityNode leader }
     requires own { WaitForOwnRow bytes.old.process }
-    requires takes { accepts_mark (serving service.old bytes.old.process) leader number (at 0 service.old.ranks partition.0) partition.0 ≡ true }
+    requires takes { accepts_mark (serving service.old bytes.old.process) leader number
+        (at 0 service.old.ranks partition.0) partition.0 ≡ true }
     requires copied { is_some (copy_in bytes.old.process.as_row.copies leader number) ≡ true }
     ensures shape { service.new.shape ≡ service.old.shape }
     ensures over { IsOver service.new bytes.new }
     ensures pages { bytes.new.made ≡ bytes.old.made }
-    ensures step { own_mark service.old.shape leader number block partition.0 (serving service.old bytes.old.process) ≡ quiet (serving service.new bytes.new.process) }
+    ensures step { own_mark service.old.shape leader number block partition.0 (serving service.old bytes.old.process)
+        ≡ quiet (serving service.new bytes.new.process) }
 {
     let session = Session {
         leader: ProcessId::ParityNode(leader),

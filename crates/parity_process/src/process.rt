@@ -62,7 +62,8 @@ impl ParityProcess {
     /// The parity process of this number at the start.
     pub fn new(alloc: Global, shape: Shape, number: u32) -> Result<ParityProcess, AllocError>
         requires { number < shape.m }
-        ensures { IfOk result (λ process. process ≡ record { shape = shape; process = opening_process shape (ParityNode number); made = [] }) }
+        ensures { IfOk result (λ process. process
+            ≡ record { shape = shape; process = opening_process shape (ParityNode number); made = [] }) }
     {
         Ok(ParityProcess {
             alloc,
@@ -74,12 +75,15 @@ impl ParityProcess {
     /// A call is asked. After want of memory nothing but room has changed.
     pub fn ask(&mut self, call: Call, op: &Op) -> Result<CallStep, AllocError>
         requires caller { call.caller < callers }
-        requires numbers { last_of (replica_of self.old.process (home_of (key_of op.now.act) self.old.shape.k)) < 2 ^ 62 }
+        requires numbers { last_of (replica_of self.old.process (home_of (key_of op.now.act) self.old.shape.k))
+            < 2 ^ 62 }
         requires sessions { self.old.process.as_leader.last_session < 2 ^ 62 }
         ensures shape { self.new.shape ≡ self.old.shape }
         ensures pages { MakesNoneOf (CallMisses self.old.shape op.now self.old.process) self.old.made self.new.made }
-        ensures step { IfOk result (λ step. ask_process self.old.shape (name_of call) op.now self.old.process ≡ called self.new.process step) }
-        ensures wanted { OnErr result (AskWants self.old.shape op.now self.old.process ⊎ CallOpens self.old.shape (name_of call) op.now self.old.process) }
+        ensures step { IfOk result (λ step. ask_process self.old.shape (name_of call) op.now self.old.process
+            ≡ called self.new.process step) }
+        ensures wanted { OnErr result (AskWants self.old.shape op.now self.old.process
+            ⊎ CallOpens self.old.shape (name_of call) op.now self.old.process) }
         ensures err { OnErr result (self.new.process ≡ self.old.process) }
     {
         match self.service.ask(call, op, &mut self.bytes)? {
@@ -92,7 +96,8 @@ impl ParityProcess {
     pub fn collect(&mut self, caller: u32, call: u64) -> Answer
         ensures shape { self.new.shape ≡ self.old.shape }
         ensures pages { self.new.made ≡ self.old.made }
-        ensures answer { collect_from caller call self.old.process (range_with_len 0 self.old.shape.k) ≡ only result self.new.process }
+        ensures answer { collect_from caller call self.old.process (range_with_len 0 self.old.shape.k)
+            ≡ only result self.new.process }
     {
         self.service.collect(caller, call)
     }
@@ -101,14 +106,16 @@ impl ParityProcess {
     pub fn fate(&self, caller: u32, call: u64, partition: Partition) -> Answer
         requires caller { caller < callers }
         requires partition { partition.0 < self.now.shape.k }
-        ensures { result ≡ fate_of self.now.shape caller call partition.0 self.now.process (head_at self.now.process partition.0) }
+        ensures { result ≡ fate_of self.now.shape caller call partition.0 self.now.process
+            (head_at self.now.process partition.0) }
     {
         self.service.fate(caller, call, partition)
     }
 
     /// The messages that tell how far the process has settled, which change nothing here.
     pub fn flush(&self) -> Result<Vec<Sent>, AllocError>
-        ensures { IfOk result (λ sent. (flush_process self.now.shape self.now.process).step ≡ sending sent.items self.now.process) }
+        ensures { IfOk result (λ sent. (flush_process self.now.shape self.now.process).step
+            ≡ sending sent.items self.now.process) }
     {
         self.service.flush()
     }
@@ -120,7 +127,8 @@ impl ParityProcess {
         requires group { IsOfGroup self.old.shape message.now self.old.process }
         ensures shape { self.new.shape ≡ self.old.shape }
         ensures pages { MakesNoneOf (MessageMisses self.old.shape.block message.now) self.old.made self.new.made }
-        ensures step { IfOk result (λ step. machine.receive self.old.shape from message.now self.old.process ≡ stepped self.new.process step) }
+        ensures step { IfOk result (λ step. machine.receive self.old.shape from message.now self.old.process
+            ≡ stepped self.new.process step) }
         ensures wanted { OnErr result (is_current self.old.process message.now ≡ true) }
         ensures err { OnErr result (self.new.process ≡ self.old.process) }
     {
@@ -156,7 +164,8 @@ impl ParityProcess {
 
     /// The number up to which each partition is applied.
     pub fn stamp(&self) -> Result<Stamp, AllocError>
-        ensures { IfOk result (λ stamp. stamp ≡ map (λ d. (replica_of self.now.process d).applied) (range_with_len 0 self.now.shape.k)) }
+        ensures { IfOk result (λ stamp. stamp ≡ map (λ d. (replica_of self.now.process d).applied)
+            (range_with_len 0 self.now.shape.k)) }
     {
         let k = self.service.shape().k();
         let mut stamp = Stamp::zero(self.alloc, k)?;

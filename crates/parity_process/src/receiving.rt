@@ -165,7 +165,8 @@ fn gather_row(from: ProcessId, session: Session, block: &ByteList, bytes: &mut P
 fn cease(from: ProcessId, upto: u64, bytes: &mut ParityBytes)
     requires from { IsProcess bytes.old.shape from }
     ensures stays { Stays bytes.old bytes.new }
-    ensures process { (v : Serving) → machine.receive bytes.old.shape from (tells.Cease upto) (serving v bytes.old.process) ≡ quiet (serving v bytes.new.process) }
+    ensures process { (v : Serving) → machine.receive bytes.old.shape from (tells.Cease upto)
+        (serving v bytes.old.process) ≡ quiet (serving v bytes.new.process) }
 {
     match from {
         ProcessId::DataNode(_) => {}

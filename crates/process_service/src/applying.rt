@@ -17,7 +17,8 @@ impl Service {
     pub fn room(&self, partition: Partition, number: u64) -> Result<Vec<Settlement>, AllocError>
         requires { partition.0 < self.now.shape.k }
         ensures empty { IfOk result (λ room. room.items ≡ []) }
-        ensures fits { IfOk result (λ room. vec_capacity room ≡ length (up_to number (at empty_replica self.now.replicas partition.0))) }
+        ensures fits { IfOk result (λ room. vec_capacity room
+            ≡ length (up_to number (at empty_replica self.now.replicas partition.0))) }
     {
         room(self.alloc, number, &self.replicas[partition.0 as usize])
     }
@@ -40,7 +41,8 @@ impl Service {
         ensures heads { self.new.heads ≡ self.old.heads }
         ensures beneath { IsBeneath self.new (B.shape below.new) (B.process below.new) (B.is_ready below.new) }
         ensures pages { B.made below.new ≡ B.made below.old }
-        ensures process { serving self.new (B.process below.new) ≡ apply_to self.old.shape partition.0 number (serving self.old (B.process below.old)) }
+        ensures process { serving self.new (B.process below.new)
+            ≡ apply_to self.old.shape partition.0 number (serving self.old (B.process below.old)) }
     {
         let replica = &mut self.replicas[partition.0 as usize];
         apply(partition, number, room, replica, below);

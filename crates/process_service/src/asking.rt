@@ -28,12 +28,14 @@ impl Service {
         below: &mut B,
     ) -> Result<Asked, AllocError>
         requires caller { call.caller < callers }
-        requires numbers { last_of (at empty_replica self.old.replicas (home_of (key_of op.now.act) self.old.shape.k)) < 2 ^ 62 }
+        requires numbers { last_of (at empty_replica self.old.replicas (home_of (key_of op.now.act) self.old.shape.k))
+            < 2 ^ 62 }
         requires beneath { IsBeneath self.old (B.shape below.old) (B.process below.old) (B.is_ready below.old) }
         ensures shape { self.new.shape ≡ self.old.shape }
         ensures name { self.new.name ≡ self.old.name }
         ensures beneath { IsBeneath self.new (B.shape below.new) (B.process below.new) (B.is_ready below.new) }
-        ensures pages { MakesNoneOf (CallMisses self.old.shape op.now (serving self.old (B.process below.old))) (B.made below.old) (B.made below.new) }
+        ensures pages { MakesNoneOf (CallMisses self.old.shape op.now (serving self.old (B.process below.old)))
+            (B.made below.old) (B.made below.new) }
         ensures asked { IfOk result (λ asked. IsAsked self.old.shape (name_of call) op.now (serving self.old (B.process below.old)) asked
             (serving self.new (B.process below.new))) }
         ensures block { IfOk result (NeedsOf self.old.shape) }

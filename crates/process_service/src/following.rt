@@ -38,7 +38,8 @@ impl Service {
         ensures shape { self.new.shape ≡ self.old.shape }
         ensures name { self.new.name ≡ self.old.name }
         ensures beneath { IsBeneath self.new (B.shape below.new) (B.process below.new) (B.is_ready below.new) }
-        ensures pages { MakesNoneOf (Misses self.old.shape.block update.now.body) (B.made below.old) (B.made below.new) }
+        ensures pages { MakesNoneOf (Misses self.old.shape.block update.now.body) (B.made below.old)
+            (B.made below.new) }
         ensures step { IfOk result (λ step. update_comes self.old.shape from rank.0 partition.0 update.now stable (serving self.old (B.process below.old))
             ≡ stepped (serving self.new (B.process below.new)) step) }
         ensures wanted { OnErr result (at 0 self.old.ranks partition.0 ≤ rank.0) }

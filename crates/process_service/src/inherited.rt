@@ -19,7 +19,8 @@ pub struct Inherited {
 impl Service {
     /// The oldest inherited update that is unfinished, of the lowest headed partition that has one. It takes no memory.
     pub fn oldest_inherited(&self) -> Option<Inherited>
-        ensures { (b : Process) → oldest_inherited (serving self.now b) (range_with_len 0 self.now.shape.k) ≡ oldest_as result }
+        ensures { (b : Process) → oldest_inherited (serving self.now b) (range_with_len 0 self.now.shape.k)
+            ≡ oldest_as result }
     {
         'partitions: for d in 0..self.shape.k() {
             let found = self.inherited_at(Partition(d));
@@ -33,7 +34,8 @@ impl Service {
     // The oldest one of a partition.
     fn inherited_at(&self, partition: Partition) -> Option<Inherited>
         requires { partition.0 < self.now.shape.k }
-        ensures { (b : Process) → inherited_or (serving self.now b) partition.0 (head_at (serving self.now b) partition.0) None ≡ oldest_as result }
+        ensures { (b : Process) → inherited_or (serving self.now b) partition.0
+            (head_at (serving self.now b) partition.0) None ≡ oldest_as result }
     {
         match &self.heads[partition.0 as usize] {
             None => None,
@@ -44,7 +46,8 @@ impl Service {
 
 // The update behind what is applied, if it is an inherited one.
 fn unfinished(partition: Partition, applied: u64, inherited: u64) -> Option<Inherited>
-    ensures { (if nat_lt applied inherited then Some (record { partition = partition.0; number = suc applied }) else None) ≡ oldest_as result }
+    ensures { (if nat_lt applied inherited then Some
+        (record { partition = partition.0; number = suc applied }) else None) ≡ oldest_as result }
 {
     if inherited <= applied {
         return None;

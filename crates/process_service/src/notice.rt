@@ -28,9 +28,11 @@ impl Service {
     pub fn prepare(&self, dead: ProcessId, sent: &mut Vec<Sent>) -> Result<Notice, AllocError>
         requires process { IsProcess self.now.shape dead }
         requires news { knows_dead self.now.known dead ≡ false }
-        ensures prepared { IfOk result (λ notice. IsPrepared (bereaved dead self.now) notice.known notice.heads.items (vec_capacity notice.settled)) }
+        ensures prepared { IfOk result (λ notice. IsPrepared (bereaved dead self.now) notice.known notice.heads.items
+            (vec_capacity notice.settled)) }
         ensures settled { IfOk result (λ notice. notice.settled.items ≡ []) }
-        ensures sent { OnOk result (sent.new.items ≡ sent.old.items ++ adoptions (bereaved dead self.now) (range_with_len 0 self.now.shape.k)) }
+        ensures sent { OnOk result (sent.new.items ≡ sent.old.items
+            ++ adoptions (bereaved dead self.now) (range_with_len 0 self.now.shape.k)) }
     {
         let mut known = self.known;
         let _ = known.fail(dead);
@@ -56,7 +58,8 @@ impl Service {
         notice: Notice,
         below: &mut B,
     ) -> Vec<Settlement>
-        requires prepared { IsPrepared (bereaved dead self.old) notice.known notice.heads.items (vec_capacity notice.settled) }
+        requires prepared { IsPrepared (bereaved dead self.old) notice.known notice.heads.items
+            (vec_capacity notice.settled) }
         requires settled { notice.settled.items ≡ [] }
         requires beneath { IsBeneath self.old (B.shape below.old) (B.process below.old) (B.is_ready below.old) }
         ensures shape { self.new.shape ≡ self.old.shape }

@@ -38,7 +38,8 @@ impl Service {
         partition: Partition,
     ) -> Result<Option<Head>, AllocError>
         requires { partition.0 < self.now.shape.k }
-        ensures { IfOk result (λ head. head ≡ heir_if due self.now.shape self.now.name (at empty_replica self.now.replicas partition.0)) }
+        ensures { IfOk result (λ head. head ≡ heir_if due self.now.shape self.now.name
+            (at empty_replica self.now.replicas partition.0)) }
     {
         if !due {
             return Ok(None);

@@ -27,10 +27,12 @@ pub fn serve_either<R: Threads + Wait + Sync, L: ReadyListener, P: Port, G: Gate
 where
     L::Incoming: Drop,
     L::Outgoing: Drop,
-    ensures accepted { IfOk result (λ n. HasAccepted (L.accepted listener.old) (L.accepted listener.new) connections n) }
+    ensures accepted { IfOk result (λ n. HasAccepted (L.accepted listener.old)
+        (L.accepted listener.new) connections n) }
     ensures done { IfOk result (λ n. IsDone connections n (L.over listener.new)) }
     ensures fault { HasCauseOf (L.faults listener.old) (L.faults listener.new) result ServeFault.AcceptFault }
-    ensures at_fault { OnErr result ((n : ℕ) × HasAccepted (L.accepted listener.old) (L.accepted listener.new) connections n) }
+    ensures at_fault { OnErr result ((n : ℕ) × HasAccepted (L.accepted listener.old)
+        (L.accepted listener.new) connections n) }
     ensures want { result ≡ Err ServeFault.Want → listener.new ≡ listener.old }
 {
     if listener.is_ready() {

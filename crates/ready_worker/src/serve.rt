@@ -38,10 +38,12 @@ pub fn serve_ready<R: Threads + Wait + Sync, L: ReadyListener, P: Port, T: Clock
     clock: &T,
 ) -> Result<u64, ServeFault>
     requires ready { L.ready listener.old ≡ true }
-    ensures accepted { IfOk result (λ n. HasAccepted (L.accepted listener.old) (L.accepted listener.new) connections n) }
+    ensures accepted { IfOk result (λ n. HasAccepted (L.accepted listener.old)
+        (L.accepted listener.new) connections n) }
     ensures done { IfOk result (λ n. IsDone connections n (L.over listener.new)) }
     ensures fault { HasCauseOf (L.faults listener.old) (L.faults listener.new) result ServeFault.AcceptFault }
-    ensures at_fault { OnErr result ((n : ℕ) × HasAccepted (L.accepted listener.old) (L.accepted listener.new) connections n) }
+    ensures at_fault { OnErr result ((n : ℕ) × HasAccepted (L.accepted listener.old)
+        (L.accepted listener.new) connections n) }
     ensures want { result ≡ Err ServeFault.Want → listener.new ≡ listener.old }
 {
     let Ok(crew) = crew_of(alloc, listener, workers) else {
@@ -91,10 +93,13 @@ fn serve_in_scope<
 ) -> Accepted<'a, L>
     requires ready { L.ready listener.old ≡ true }
     ensures same { result.listener.ghost_name ≡ listener.entry.ghost_name }
-    ensures accepted { IfOk result.end (λ n. HasAccepted (L.accepted listener.old) (L.accepted result.listener.now) connections n) }
+    ensures accepted { IfOk result.end (λ n. HasAccepted (L.accepted listener.old)
+        (L.accepted result.listener.now) connections n) }
     ensures done { IfOk result.end (λ n. IsDone connections n (L.over result.listener.now)) }
-    ensures fault { HasCauseOf (L.faults listener.old) (L.faults result.listener.now) result.end ServeFault.AcceptFault }
-    ensures at_fault { OnErr result.end ((n : ℕ) × HasAccepted (L.accepted listener.old) (L.accepted result.listener.now) connections n) }
+    ensures fault { HasCauseOf (L.faults listener.old)
+        (L.faults result.listener.now) result.end ServeFault.AcceptFault }
+    ensures at_fault { OnErr result.end ((n : ℕ) × HasAccepted (L.accepted listener.old)
+        (L.accepted result.listener.now) connections n) }
     ensures want { result.end ≡ Err ServeFault.Want → result.listener.now ≡ listener.old }
 {
     thread::scope(
@@ -125,10 +130,12 @@ fn accept_by<R: Wait, L: ReadyListener>(
     connections: u64,
 ) -> Result<u64, ServeFault>
     requires ready { L.ready listener.old ≡ true }
-    ensures accepted { IfOk result (λ n. HasAccepted (L.accepted listener.old) (L.accepted listener.new) connections n) }
+    ensures accepted { IfOk result (λ n. HasAccepted (L.accepted listener.old)
+        (L.accepted listener.new) connections n) }
     ensures done { IfOk result (λ n. IsDone connections n (L.over listener.new)) }
     ensures fault { HasCauseOf (L.faults listener.old) (L.faults listener.new) result ServeFault.AcceptFault }
-    ensures at_fault { OnErr result ((n : ℕ) × HasAccepted (L.accepted listener.old) (L.accepted listener.new) connections n) }
+    ensures at_fault { OnErr result ((n : ℕ) × HasAccepted (L.accepted listener.old)
+        (L.accepted listener.new) connections n) }
     ensures want { result ≡ Err ServeFault.Want → listener.new ≡ listener.old }
 {
     if !hall.has_worker() {
@@ -189,10 +196,12 @@ fn accept_all<R: Wait, L: ReadyListener>(
     connections: u64,
 ) -> Result<u64, Failed>
     requires ready { L.ready listener.old ≡ true }
-    ensures accepted { IfOk result (λ n. HasAccepted (L.accepted listener.old) (L.accepted listener.new) connections n) }
+    ensures accepted { IfOk result (λ n. HasAccepted (L.accepted listener.old)
+        (L.accepted listener.new) connections n) }
     ensures done { IfOk result (λ n. IsDone connections n (L.over listener.new)) }
     ensures fault { HasCause (L.faults listener.old) (L.faults listener.new) result }
-    ensures at_fault { OnErr result ((n : ℕ) × HasAccepted (L.accepted listener.old) (L.accepted listener.new) connections n) }
+    ensures at_fault { OnErr result ((n : ℕ) × HasAccepted (L.accepted listener.old)
+        (L.accepted listener.new) connections n) }
 {
     let pause = Parker::new();
     let mut accepted = 0;

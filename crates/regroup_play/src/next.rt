@@ -91,7 +91,8 @@ fn follow_words(
     line: &[u8],
 ) -> Result<Option<Vec<u8>>, LineFault>
     requires { IsLed play.old.eras }
-    ensures { HasDone (Some play.old) (regroup_by play.old (regroup_line play.old.eras.world.shape.k (text.words_of line.now))) (Some play.new) (text_in result) }
+    ensures { HasDone (Some play.old) (regroup_by play.old
+        (regroup_line play.old.eras.world.shape.k (text.words_of line.now))) (Some play.new) (text_in result) }
 {
     let shape = read_regroup(play.shape().k(), &words_of(alloc, line)?)?;
     follow_regroup(alloc, play, shape)
@@ -151,7 +152,8 @@ fn follow_collect(
 ) -> Result<Option<Vec<u8>>, LineFault>
     requires line { IsLineOf (Some play.old.eras.world.shape) (line.Collect caller call at) }
     requires led { IsLed play.old.eras }
-    ensures { HasDone (Some play.old) (then_by play.old (line.Collect caller call at)) (Some play.new) (text_in result) }
+    ensures { HasDone (Some play.old) (then_by play.old (line.Collect caller call at)) (Some play.new)
+        (text_in result) }
 {
     follow_call(alloc, play, caller, &Event::Collect { caller, call, at })
 }
@@ -204,7 +206,8 @@ fn follow_trace(
 ) -> Result<Option<Vec<u8>>, LineFault>
     requires line { IsLineOf (Some play.old.eras.world.shape) (line.Trace caller call partition at) }
     requires led { IsLed play.old.eras }
-    ensures { HasDone (Some play.old) (then_by play.old (line.Trace caller call partition at)) (Some play.new) (text_in result) }
+    ensures { HasDone (Some play.old) (then_by play.old (line.Trace caller call partition at)) (Some play.new)
+        (text_in result) }
 {
     if play.regroup.world().asks(caller) <= call {
         return Err(LineFault::BadLine);
@@ -263,7 +266,8 @@ fn follow_event(
 /// Delivers messages until none is left: what that logged, and how many there were.
 fn follow_drain(alloc: Global, play: &mut EraPlay) -> Result<Option<Vec<u8>>, LineFault>
     requires led { IsLed play.old.eras }
-    ensures { HasDone (Some play.old) (by_drain play.old (draining play.old.eras.world)) (Some play.new) (text_in result) }
+    ensures { HasDone (Some play.old) (by_drain play.old (draining play.old.eras.world)) (Some play.new)
+        (text_in result) }
 {
     let from = play.regroup.world().log().len();
     let count = drain(&mut play.regroup)?;

@@ -23,8 +23,10 @@ pub(crate) fn write_placed(alloc: Global, regroup: &Regroup) -> Result<Vec<u8>, 
 /// Writes the runs of each partition's updates, and gives their number.
 fn write_runs(alloc: Global, regroup: &Regroup, text: &mut Vec<u8>) -> Result<u64, AllocError>
     requires { text.old.items ≡ [] }
-    ensures text { OnOk result (text.new.items ≡ runs_text regroup.now.bases regroup.now.world (range_with_len 0 regroup.now.world.shape.k)) }
-    ensures count { IfOk result (λ count. count ≡ many_runs regroup.now.world (range_with_len 0 regroup.now.world.shape.k)) }
+    ensures text { OnOk result (text.new.items ≡ runs_text regroup.now.bases regroup.now.world
+        (range_with_len 0 regroup.now.world.shape.k)) }
+    ensures count { IfOk result (λ count. count
+        ≡ many_runs regroup.now.world (range_with_len 0 regroup.now.world.shape.k)) }
 {
     let mut count: u64 = 0;
     'partitions: for d in 0..regroup.world().shape().k() {
@@ -41,7 +43,8 @@ fn write_partition(
     text: &mut Vec<u8>,
 ) -> Result<u64, AllocError>
     requires { partition < regroup.now.world.shape.k }
-    ensures text { OnOk result (text.new.items ≡ text.old.items ++ places_text partition (at 0 regroup.now.bases partition) (at [] regroup.now.world.places partition)) }
+    ensures text { OnOk result (text.new.items ≡ text.old.items
+        ++ places_text partition (at 0 regroup.now.bases partition) (at [] regroup.now.world.places partition)) }
     ensures count { IfOk result (λ count. count ≡ many_placed (at [] regroup.now.world.places partition)) }
     ensures lines { IfOk result (λ count. length text.old.items + count ≤ length text.new.items) }
 {

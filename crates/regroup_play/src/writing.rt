@@ -28,7 +28,8 @@ pub(crate) fn write_since(
     text: &mut Vec<u8>,
 ) -> Result<(), AllocError>
     requires { era ≤ regroup.now.era }
-    ensures { OnOk result (text.new.items ≡ text.old.items ++ marked_entries (era_mark era) (drop from (entries_of era regroup.now.log))) }
+    ensures { OnOk result (text.new.items ≡ text.old.items
+        ++ marked_entries (era_mark era) (drop from (entries_of era regroup.now.log))) }
 {
     let mark = write_mark(alloc, era)?;
     let entries = regroup.told(era, from)?;

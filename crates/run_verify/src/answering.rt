@@ -27,7 +27,8 @@ impl Account {
         ahead: &[u8],
     ) -> Result<bool, AllocError>
         requires { FitsEvent event.now }
-        ensures { Judges (IsAnswered (account_of self.old) event.now line.now (lines_of ahead.now)) (account_of self.new) result }
+        ensures { Judges (IsAnswered (account_of self.old) event.now line.now (lines_of ahead.now))
+            (account_of self.new) result }
     {
         match read_said(kind(event), line) {
             None => Ok(false),
@@ -58,7 +59,8 @@ impl Account {
     /// Whether a text is that of the reply of the entry of an event's call.
     fn is_reply_to(&self, event: &Event, reply: &[u8], ahead: &[u8]) -> Result<bool, AllocError>
         requires { FitsEvent event.now }
-        ensures { IfOk result (λ yes. IsTrue yes ↔ TellsReplyTo (account_of self.now) event.now reply.now (lines_of ahead.now)) }
+        ensures { IfOk result (λ yes. IsTrue yes
+            ↔ TellsReplyTo (account_of self.now) event.now reply.now (lines_of ahead.now)) }
     {
         match event {
             Event::Ask { caller, .. } => self.is_next(*caller, reply, ahead),
@@ -71,7 +73,8 @@ impl Account {
     /// Whether the entry of a caller's next call is right ahead with this reply.
     fn is_next(&self, caller: u32, reply: &[u8], ahead: &[u8]) -> Result<bool, AllocError>
         requires { caller < 256 }
-        ensures { IfOk result (λ yes. IsTrue yes ↔ LogsAhead (front_of (next_name (account_of self.now) caller)) reply.now (lines_of ahead.now)) }
+        ensures { IfOk result (λ yes. IsTrue yes ↔ LogsAhead
+            (front_of (next_name (account_of self.now) caller)) reply.now (lines_of ahead.now)) }
     {
         let call = calls_of(&self.calls, caller).len() as u64;
         is_ahead(self.alloc, caller, call, reply, ahead)

@@ -93,7 +93,8 @@ pub(crate) fn is_ahead(
     reply: &[u8],
     ahead: &[u8],
 ) -> Result<bool, AllocError>
-    ensures { IfOk result (λ yes. IsTrue yes ↔ LogsAhead (front_of (record { caller = caller; call = call })) reply.now (lines_of ahead.now)) }
+    ensures { IfOk result (λ yes. IsTrue yes ↔ LogsAhead (front_of (record { caller = caller; call = call })) reply.now
+        (lines_of ahead.now)) }
 {
     let front = front(alloc, caller, call)?;
     Ok(logs_ahead(&front, reply, ahead))

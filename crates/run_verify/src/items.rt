@@ -47,7 +47,8 @@ impl Items {
         requires inside { run.at + run.len ≤ space_of self.old.shape }
         requires off { IsOff (runs_of self.old) run }
         ensures marked { OnOk result (IsMarked self.new) }
-        ensures runs { OnOk result ((other : List ℕ) → runs_of self.new other ≡ with_run key.now (Some run) (runs_of self.old) other) }
+        ensures runs { OnOk result ((other : List ℕ)
+            → runs_of self.new other ≡ with_run key.now (Some run) (runs_of self.old) other) }
         ensures shape { self.new.shape ≡ self.old.shape }
     {
         let old = self.runs.insert(key.clone()?, run)?;

@@ -44,7 +44,8 @@ impl Account {
         entry: &Entry,
     ) -> Result<(), AllocError>
         requires partitions { length self.old.changes.items ≡ shape.k }
-        ensures changed { OnOk result (HasChanged shape places.now (account_of self.old) entry.now (account_of self.new)) }
+        ensures changed { OnOk result (HasChanged shape places.now (account_of self.old) entry.now
+            (account_of self.new)) }
         ensures partitions { length self.new.changes.items ≡ length self.old.changes.items }
     {
         if !accepts(&entry.reply) {
@@ -151,7 +152,8 @@ fn add_change(
 fn set_reply(calls: &mut Vec<Vec<Call>>, caller: u32, call: u64, reply: Reply)
     requires caller { caller < length calls.old.items }
     requires call { call < length (at [] (lists_of calls.old.items) caller) }
-    ensures calls { lists_of calls.new.items ≡ put [] (lists_of calls.old.items) caller (with_reply (at [] (lists_of calls.old.items) caller) call reply) }
+    ensures calls { lists_of calls.new.items ≡ put [] (lists_of calls.old.items) caller
+        (with_reply (at [] (lists_of calls.old.items) caller) call reply) }
     ensures callers { length calls.new.items ≡ length calls.old.items }
 {
     reply_at(&mut calls[caller as usize], call, reply);

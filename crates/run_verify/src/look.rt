@@ -102,7 +102,8 @@ impl Account {
         requires partitions { length self.old.changes.items ≡ shape.k }
         requires fit { All (All (IsFitChange shape)) (lists_of self.old.changes.items) }
         requires stamp { length stamp.now ≡ stamp_len shape at }
-        ensures told { IfOk result (λ yes. IsTrue yes ↔ IsTold shape (lists_of self.old.changes.items) at run stamp.now word.now) }
+        ensures told { IfOk result (λ yes. IsTrue yes
+            ↔ IsTold shape (lists_of self.old.changes.items) at run stamp.now word.now) }
         ensures same { account_of self.new ≡ account_of self.old }
     {
         if !self.is_stamped(shape, at, stamp) {
@@ -140,7 +141,8 @@ impl Account {
         requires fit { All (All (IsFitChange shape)) (lists_of self.old.changes.items) }
         requires stamp { length stamp.now ≡ stamp_len shape at }
         requires below { IsStamped (lists_of self.old.changes.items) at stamp.now }
-        ensures bytes { IfOk result (λ bytes. bytes.items ≡ bytes_at run.at run.len (space_seen shape (lists_of self.old.changes.items) at stamp.now)) }
+        ensures bytes { IfOk result (λ bytes. bytes.items
+            ≡ bytes_at run.at run.len (space_seen shape (lists_of self.old.changes.items) at stamp.now)) }
         ensures same { account_of self.new ≡ account_of self.old }
     {
         let shadows = &mut self.shadows;

@@ -47,7 +47,8 @@ impl Account {
         requires low { All (λ count. count < 2 ^ 62) (account_of self.old).table.counts }
         requires entries { self.old.entries < 2 ^ 62 }
         requires shown { self.old.shown < 2 ^ 62 }
-        ensures { IfOk result (HasFound shape places.now (account_of self.old) step.now logging line.now (lines_of ahead.now) (account_of self.new)) }
+        ensures { IfOk result (HasFound shape places.now (account_of self.old) step.now logging line.now
+            (lines_of ahead.now) (account_of self.new)) }
     {
         if begins_entry(line) {
             return self.pass_log(shape, places, logging, step, line, ahead);
@@ -69,7 +70,8 @@ impl Account {
         requires few { All (λ changes. length changes < 2 ^ 62) (lists_of self.old.changes.items) }
         requires low { All (λ count. count < 2 ^ 62) (account_of self.old).table.counts }
         requires entries { self.old.entries < 2 ^ 62 }
-        ensures { IfOk result (HasFoundOn true shape places.now (account_of self.old) step.now logging line.now (lines_of ahead.now) (account_of self.new)) }
+        ensures { IfOk result (HasFoundOn true shape places.now (account_of self.old) step.now logging line.now
+            (lines_of ahead.now) (account_of self.new)) }
     {
         if !may_log(logging, step) {
             return Ok(Found::Fails);
@@ -94,7 +96,8 @@ impl Account {
         requires partitions { length self.old.changes.items ≡ shape.k }
         requires fit { All (All (IsFitChange shape)) (lists_of self.old.changes.items) }
         requires shown { self.old.shown < 2 ^ 62 }
-        ensures { IfOk result (HasFoundOn false shape places.now (account_of self.old) step.now logging line.now (lines_of ahead.now) (account_of self.new)) }
+        ensures { IfOk result (HasFoundOn false shape places.now (account_of self.old) step.now logging line.now
+            (lines_of ahead.now) (account_of self.new)) }
     {
         if let Step::Placing = step {
             return Ok(Found::Places);
@@ -135,7 +138,8 @@ impl Account {
         requires partitions { length self.old.changes.items ≡ shape.k }
         requires fit { All (All (IsFitChange shape)) (lists_of self.old.changes.items) }
         requires shown { self.old.shown < 2 ^ 62 }
-        ensures { Judges (IsMet shape (account_of self.old) step.now line.now (lines_of ahead.now)) (account_of self.new) result }
+        ensures { Judges (IsMet shape (account_of self.old) step.now line.now (lines_of ahead.now))
+            (account_of self.new) result }
     {
         match step {
             Step::Make(event) => self.answer(event, line, ahead),

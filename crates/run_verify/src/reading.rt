@@ -9,7 +9,8 @@ use std::alloc::Global;
 
 /// Reads the source to its end, or to the first byte above the limit.
 pub(crate) fn read_text<S: Source>(alloc: Global, source: &mut S) -> Result<Vec<u8>, VerifyStatus>
-    ensures read { HasReadText (S.input source.old) (S.input source.new) (S.faults source.old) (S.faults source.new) (bytes_in result) }
+    ensures read { HasReadText (S.input source.old) (S.input source.new) (S.faults source.old) (S.faults source.new)
+        (bytes_in result) }
     ensures limit { IfOk result (λ text. length text.items ≤ LONGEST_SHEET) }
 {
     Ok(read_whole(alloc, source, LONGEST_SHEET)?)

@@ -39,7 +39,8 @@ impl Model for Script {
 /// The first line of a script, and what follows it; none at the separator, and at the end.
 fn script_line(text: &[u8]) -> Option<(&[u8], &[u8])>
     ensures none { result ≡ None → before_separator (lines_of text.now) ≡ [] }
-    ensures some { IfSome result (λ cut. before_separator (lines_of text.now) ≡ cut.0.now ∷ before_separator (lines_of cut.1.now)) }
+    ensures some { IfSome result (λ cut. before_separator (lines_of text.now)
+        ≡ cut.0.now ∷ before_separator (lines_of cut.1.now)) }
     ensures shorter { IfSome result (λ cut. length cut.1.now < length text.now) }
 {
     if text.is_empty() {
@@ -121,7 +122,8 @@ fn take_line(
 ) -> Result<bool, VerifyFault>
     requires number { number < 2 ^ 62 }
     requires low { IsAtLine number setting.old }
-    ensures taken { HasTaken number setting.old setting.new steps.old.items steps.new.items line.now (before_separator (lines_of rest.now)) result }
+    ensures taken { HasTaken number setting.old setting.new steps.old.items steps.new.items line.now
+        (before_separator (lines_of rest.now)) result }
     ensures low { IsAtLine (number + 1) setting.new }
     ensures steps { AreStepsOf setting.old steps.old.items → OnOk result (AreStepsOf setting.new steps.new.items) }
 {

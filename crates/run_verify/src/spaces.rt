@@ -38,7 +38,8 @@ pub(crate) fn held_part(
     requires fit { All (All (IsFitChange shape)) (lists_of changes.now) }
     requires follow { AllFollow (lists_of changes.now) shadows.old.items }
     ensures follow { AllFollow (lists_of changes.now) shadows.new.items }
-    ensures bytes { IfOk result (λ bytes. bytes.items ≡ bytes_at run.at run.len (spaces_in shape (lists_of changes.now) partition number)) }
+    ensures bytes { IfOk result (λ bytes. bytes.items
+        ≡ bytes_at run.at run.len (spaces_in shape (lists_of changes.now) partition number)) }
 {
     let place = go_to(alloc, shape, shadows, changes, 0, partition, number)?;
     part(alloc, run, &shadows[place].space)
@@ -100,7 +101,8 @@ fn add_part(shape: Shape, process: u32, partition: u32, run: Run, space: &[u8], 
     requires partition { partition < shape.k }
     requires run { run.at + run.len ≤ length space.now }
     requires sum { length sum.old.items ≡ run.len }
-    ensures sum { sum.new.items ≡ add_bytes sum.old.items (scale (coefficient shape.m process partition) (bytes_at run.at run.len space.now)) }
+    ensures sum { sum.new.items ≡ add_bytes sum.old.items
+        (scale (coefficient shape.m process partition) (bytes_at run.at run.len space.now)) }
     ensures long { length sum.new.items ≡ run.len }
 {
     let _partitions = shape.k();
@@ -145,7 +147,8 @@ fn place_for(shape: Shape, row: u32, partition: u32) -> usize
 
 /// Makes room for a shadow at this place.
 fn grow(alloc: Global, shadows: &mut Vec<Shadow>, place: usize) -> Result<(), AllocError>
-    ensures follow { (changes : List (List Change)) → AllFollow changes shadows.old.items → AllFollow changes shadows.new.items }
+    ensures follow { (changes : List (List Change)) → AllFollow changes shadows.old.items
+        → AllFollow changes shadows.new.items }
     ensures there { OnOk result (place < length shadows.new.items) }
 {
     'shadows: while shadows.len() <= place {

@@ -29,7 +29,8 @@ fn verify_source<S: Source, K: Sink>(
     source: &mut S,
     sink: &mut K,
 ) -> Result<(), VerifyStatus>
-    ensures judged { HasJudged (S.input source.old) (S.input source.new) (K.held sink.old) (K.held sink.new) (status_in result) }
+    ensures judged { HasJudged (S.input source.old) (S.input source.new) (K.held sink.old) (K.held sink.new)
+        (status_in result) }
     ensures read { result ≡ Err VerifyStatus.ReadFault → Rose (S.faults source.old) (S.faults source.new) }
     ensures write { HasCauseOf (K.faults sink.old) (K.faults sink.new) result VerifyStatus.WriteFault }
 {

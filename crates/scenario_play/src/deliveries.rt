@@ -19,7 +19,8 @@ use std::alloc::{AllocError, Global};
 pub(crate) fn drain(alloc: Global, world: &mut World, text: &mut Vec<u8>) -> Result<u64, AllocError>
     requires light { world.old.events + load_of world.old ≤ 2 ^ 61 }
     ensures world { OnOk result (world.new ≡ world_after world.old (draining world.old)) }
-    ensures text { OnOk result (text.new.items ≡ text.old.items ++ entries_text (log_of (turns_from world.old (draining world.old)))) }
+    ensures text { OnOk result (text.new.items ≡ text.old.items
+        ++ entries_text (log_of (turns_from world.old (draining world.old)))) }
     ensures count { IfOk result (λ count. count ≡ length (draining world.old)) }
 {
     if world.is_down() {
@@ -33,7 +34,8 @@ fn deliver_all(alloc: Global, world: &mut World, text: &mut Vec<u8>) -> Result<u
     requires up { ¬ (IsDown world.old) }
     requires light { world.old.events + load_of world.old ≤ 2 ^ 61 }
     ensures world { OnOk result (world.new ≡ world_after world.old (drain_events (load_of world.old) world.old)) }
-    ensures text { OnOk result (text.new.items ≡ text.old.items ++ entries_text (log_of (turns_from world.old (drain_events (load_of world.old) world.old)))) }
+    ensures text { OnOk result (text.new.items ≡ text.old.items
+        ++ entries_text (log_of (turns_from world.old (drain_events (load_of world.old) world.old)))) }
     ensures count { IfOk result (λ count. count ≡ length (drain_events (load_of world.old) world.old)) }
 {
     world.run();
@@ -56,7 +58,8 @@ fn deliver(
     requires may { MayCome world.old (Deliver from to) }
     requires events { world.old.events < 2 ^ 62 }
     ensures world { OnOk result (world.new ≡ (step world.old (Deliver from to)).world) }
-    ensures text { OnOk result (text.new.items ≡ text.old.items ++ entries_text (step world.old (Deliver from to)).turn.logged) }
+    ensures text { OnOk result (text.new.items
+        ≡ text.old.items ++ entries_text (step world.old (Deliver from to)).turn.logged) }
 {
     let out = world.step(&Event::Deliver { from, to })?;
     write_last(alloc, b"= ", world.log(), out.logged, text)

@@ -14,7 +14,8 @@ pub fn write_last(
     text: &mut Vec<u8>,
 ) -> Result<(), AllocError>
     requires { count ≤ length log.now }
-    ensures { OnOk result (text.new.items ≡ text.old.items ++ marked_entries mark.now (drop (length log.now - count) log.now)) }
+    ensures { OnOk result (text.new.items ≡ text.old.items
+        ++ marked_entries mark.now (drop (length log.now - count) log.now)) }
 {
     write_entries(alloc, mark, &log[log.len() - count as usize..], text)
 }

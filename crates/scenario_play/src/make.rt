@@ -14,7 +14,8 @@ use std::alloc::Global;
 
 /// Writes the script that the number makes.
 pub fn make<K: Sink>(alloc: Global, number: u64, sink: &mut K) -> Status
-    ensures { IsWritten Status.Done (script_text number) (K.held sink.old) (K.held sink.new) (K.faults sink.old) (K.faults sink.new) result }
+    ensures { IsWritten Status.Done (script_text number) (K.held sink.old) (K.held sink.new) (K.faults sink.old)
+        (K.faults sink.new) result }
 {
     match write_script(alloc, number, sink) {
         Ok(()) => Status::Done,
@@ -26,7 +27,8 @@ fn write_script<K: Sink>(alloc: Global, number: u64, sink: &mut K) -> Result<(),
     ensures whole { OnOk result (Appends (K.held sink.old) (K.held sink.new) (script_text number)) }
     ensures part { HasWritten (K.held sink.old) (K.held sink.new) (script_text number) }
     ensures later { K.faults sink.old ≤ K.faults sink.new }
-    ensures fault { IfErr result (λ status. ((status ≡ Status.WriteFault) × Rose (K.faults sink.old) (K.faults sink.new)) ⊎ (status ≡ Status.Want)) }
+    ensures fault { IfErr result (λ status. ((status ≡ Status.WriteFault)
+        × Rose (K.faults sink.old) (K.faults sink.new)) ⊎ (status ≡ Status.Want)) }
 {
     let script = make_script(alloc, number)?;
     write_text(sink, &script)

@@ -62,7 +62,8 @@ fn play_script<P: Player, S: Source, K: Sink>(
     ensures end { HasTreated (language_of (P.text player.old) (P.verdict 1 player.old))
         (outside (S.input source.old) (S.faults source.old) (K.held sink.old) (K.faults sink.old))
         (outside (S.input source.new) (S.faults source.new) (K.held sink.new) (K.faults sink.new)) result }
-    ensures fault { IfErr result (λ status. HasFaultOf (S.faults source.old) (S.faults source.new) (K.faults sink.old) (K.faults sink.new) status) }
+    ensures fault { IfErr result (λ status. HasFaultOf (S.faults source.old) (S.faults source.new) (K.faults sink.old)
+        (K.faults sink.new) status) }
     ensures later { K.faults sink.old ≤ K.faults sink.new }
 {
     let text = read_script(alloc, source)?;
@@ -101,7 +102,8 @@ pub(crate) fn write_text<K: Sink>(sink: &mut K, text: &[u8]) -> Result<(), Statu
     ensures whole { OnOk result (Appends (K.held sink.old) (K.held sink.new) text.now) }
     ensures part { HasWritten (K.held sink.old) (K.held sink.new) text.now }
     ensures later { K.faults sink.old ≤ K.faults sink.new }
-    ensures fault { IfErr result (λ status. ((status ≡ Status.WriteFault) × Rose (K.faults sink.old) (K.faults sink.new)) ⊎ (status ≡ Status.Want)) }
+    ensures fault { IfErr result (λ status. ((status ≡ Status.WriteFault)
+        × Rose (K.faults sink.old) (K.faults sink.new)) ⊎ (status ≡ Status.Want)) }
 {
     match write_all(sink, text) {
         Ok(()) => Ok(()),

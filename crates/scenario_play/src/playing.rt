@@ -75,7 +75,11 @@ impl Play {
     pub(crate) fn make(&mut self, alloc: Global, event: &Event) -> Result<Vec<u8>, AllocError>
         requires may { MayCome self.old.world event.now }
         requires light { IsLight (2 ^ 61) self.old }
-        ensures play { OnOk result (self.new ≡ record { world = (step self.old.world event.now).world; moment = self.old.moment }) }
+        ensures play { OnOk result (self.new ≡ record {
+          world =
+              (step self.old.world event.now).world;
+          moment = self.old.moment;
+        }) }
         ensures text { IfOk result (λ text. text.items ≡ turn_text (step self.old.world event.now).turn) }
     {
         let out = self.world.step(event)?;
@@ -88,8 +92,13 @@ impl Play {
     /// Messages are delivered until none is left: what that logged, and how many there were.
     pub(crate) fn drain(&mut self, alloc: Global) -> Result<Vec<u8>, AllocError>
         requires light { IsLight (2 ^ 61) self.old }
-        ensures play { OnOk result (self.new ≡ record { world = world_after self.old.world (draining self.old.world); moment = self.old.moment }) }
-        ensures text { IfOk result (λ text. text.items ≡ drained_text (turns_from self.old.world (draining self.old.world))) }
+        ensures play { OnOk result (self.new ≡ record {
+          world = world_after self.old.world
+              (draining self.old.world);
+          moment = self.old.moment;
+        }) }
+        ensures text { IfOk result (λ text. text.items
+            ≡ drained_text (turns_from self.old.world (draining self.old.world))) }
     {
         let mut text = Vec::new(alloc);
         let count = drain(alloc, &mut self.world, &mut text)?;

@@ -11,7 +11,8 @@ pub(crate) const LONGEST_SCRIPT: usize = 16_777_216;
 
 /// Reads the source to its end, or to the first byte above the limit.
 pub(crate) fn read_script<S: Source>(alloc: Global, source: &mut S) -> Result<Vec<u8>, Status>
-    ensures end { HasRead (S.input source.old) (S.input source.new) (S.faults source.old) (S.faults source.new) (bytes_in result) }
+    ensures end { HasRead (S.input source.old) (S.input source.new) (S.faults source.old) (S.faults source.new)
+        (bytes_in result) }
     ensures limit { IfOk result (λ text. length text.items ≤ LONGEST_SCRIPT) }
 {
     Ok(read_whole(alloc, source, LONGEST_SCRIPT)?)

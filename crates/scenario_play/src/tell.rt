@@ -10,7 +10,8 @@ use std::alloc::{AllocError, Global};
 /// there was no memory for it.
 pub fn tell<K: Sink>(alloc: Global, sink: &mut K, status: Status) -> Status
     ensures status { (result ≡ status) ⊎ (result ≡ Status.Want) }
-    ensures line { result ≡ status → result ≡ Status.Want ⊎ EndsWith (K.held sink.old) (K.held sink.new) (K.faults sink.old) (K.faults sink.new) [] (last_line status) }
+    ensures line { result ≡ status → result ≡ Status.Want
+        ⊎ EndsWith (K.held sink.old) (K.held sink.new) (K.faults sink.old) (K.faults sink.new) [] (last_line status) }
     ensures front { TellsFront (K.held sink.old) (K.held sink.new) result }
     ensures later { K.faults sink.old ≤ K.faults sink.new }
 {
@@ -28,7 +29,8 @@ pub fn tell<K: Sink>(alloc: Global, sink: &mut K, status: Status) -> Status
 fn write_line<K: Sink>(sink: &mut K, status: Status, line: &[u8]) -> Status
     requires { line.now ≡ last_line status }
     ensures status { (result ≡ status) ⊎ (result ≡ Status.Want) }
-    ensures line { (result ≡ Status.Want) ⊎ EndsWith (K.held sink.old) (K.held sink.new) (K.faults sink.old) (K.faults sink.new) [] (last_line status) }
+    ensures line { (result ≡ Status.Want) ⊎ EndsWith (K.held sink.old) (K.held sink.new) (K.faults sink.old)
+        (K.faults sink.new) [] (last_line status) }
     ensures front { TellsFront (K.held sink.old) (K.held sink.new) result }
     ensures later { K.faults sink.old ≤ K.faults sink.new }
 {

@@ -22,7 +22,8 @@ use std::alloc::Global;
 /// Plays the script that the number makes, and writes what came of it on a line: how many lines the script has, how
 /// many entries its group logged, and how many bytes its transcript has.
 pub fn trial<K: Sink>(alloc: Global, number: u64, sink: &mut K) -> Status
-    ensures { IsWritten (status_for (script_text number)) (trial_text number) (K.held sink.old) (K.held sink.new) (K.faults sink.old) (K.faults sink.new) result }
+    ensures { IsWritten (status_for (script_text number)) (trial_text number) (K.held sink.old) (K.held sink.new)
+        (K.faults sink.old) (K.faults sink.new) result }
 {
     match write_trial(alloc, number, sink) {
         Ok(()) => Status::Done,
@@ -47,7 +48,8 @@ fn write_trial<K: Sink>(alloc: Global, number: u64, sink: &mut K) -> Result<(), 
 fn trial_line(alloc: Global, number: u64, script: &[u8]) -> Result<String, Status>
     ensures ok { IfOk result (λ line. string_bytes line ≡ trial_of number script.now) }
     ensures told { OnOk result (status_for script.now ≡ Status.Done) }
-    ensures fault { IfErr result (λ status. (status ≡ Status.Want) ⊎ (TellsOfScript status × (status ≡ status_for script.now))) }
+    ensures fault { IfErr result (λ status. (status ≡ Status.Want)
+        ⊎ (TellsOfScript status × (status ≡ status_for script.now))) }
 {
     if LONGEST_SCRIPT < script.len() {
         return Err(Status::TooLong);

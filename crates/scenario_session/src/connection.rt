@@ -17,7 +17,8 @@ pub fn session<S: Source, K: Sink, T: Clock>(
     sink: &mut K,
     clock: &T,
 ) -> SessionEnd
-    ensures ended { HasEndedSession shape (T.moment clock.now) (S.input source.old) (S.input source.new) (K.held sink.old) (K.held sink.new) result }
+    ensures ended { HasEndedSession shape (T.moment clock.now) (S.input source.old) (S.input source.new)
+        (K.held sink.old) (K.held sink.new) result }
     ensures read { result ≡ SessionEnd.ReadFault → Rose (S.faults source.old) (S.faults source.new) }
     ensures write { result ≡ SessionEnd.WriteFault → Rose (K.faults sink.old) (K.faults sink.new) }
     ensures later { K.faults sink.old ≤ K.faults sink.new }
@@ -33,7 +34,8 @@ fn serve_fresh<S: Source, K: Sink, T: Clock>(
     sink: &mut K,
     clock: &T,
 ) -> Result<End, ConnectionFault>
-    ensures served { IsServed shape (T.moment clock.now) (S.input source.old) (S.input source.new) (K.held sink.old) (K.held sink.new) result }
+    ensures served { IsServed shape (T.moment clock.now) (S.input source.old) (S.input source.new) (K.held sink.old)
+        (K.held sink.new) result }
     ensures read { HasCauseOf (S.faults source.old) (S.faults source.new) result ConnectionFault.ReadFault }
     ensures write { HasCauseOf (K.faults sink.old) (K.faults sink.new) result ConnectionFault.WriteFault }
 {

@@ -22,7 +22,8 @@ pub(crate) fn collect(
     requires seat { IsOf stage.now seat.old }
     requires process { IsProcess (shape_of stage.now) at }
     ensures seat { IsOf stage.now seat.new }
-    ensures stepped { IfOk result (λ step. (op : Asked) → HasStepped (wish_of seat.old op) (Phase.Waits call) seat.old step seat.new) }
+    ensures stepped { IfOk result (λ step. (op : Asked)
+        → HasStepped (wish_of seat.old op) (Phase.Waits call) seat.old step seat.new) }
     ensures paused { OnErr result (IsIdle seat.old seat.new) }
 {
     let ended = stage.try_collect(seat, call, at)?;

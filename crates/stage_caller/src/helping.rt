@@ -26,7 +26,8 @@ pub(crate) fn help(
     requires to { IsProcess (shape_of stage.now) to }
     requires apart { from ≢ to }
     ensures seat { IsOf stage.now seat.new }
-    ensures stepped { IfOk result (λ step. (op : Asked) → HasStepped (wish_of seat.old op) phase seat.old step seat.new) }
+    ensures stepped { IfOk result (λ step. (op : Asked)
+        → HasStepped (wish_of seat.old op) phase seat.old step seat.new) }
     ensures paused { OnErr result (IsIdle seat.old seat.new) }
 {
     let ended = stage.try_deliver(seat, from, to)?;

@@ -25,7 +25,8 @@ pub(crate) fn trace(
     requires call { call < seat.old.asks }
     requires partition { partition.0 < (shape_of stage.now).k }
     ensures seat { IsOf stage.now seat.new }
-    ensures stepped { IfOk result (λ step. (op : Asked) → partition.0 ≡ (wish_of seat.old op).home → HasStepped (wish_of seat.old op) (Phase.Waits call) seat.old step seat.new) }
+    ensures stepped { IfOk result (λ step. (op : Asked) → partition.0 ≡ (wish_of seat.old op).home
+        → HasStepped (wish_of seat.old op) (Phase.Waits call) seat.old step seat.new) }
     ensures paused { OnErr result (IsIdle seat.old seat.new) }
 {
     let ended = stage.try_trace(seat, call, partition, at)?;

@@ -120,7 +120,8 @@ fn is_numbered(front: &[u8], line: &[u8]) -> bool
 }
 
 fn is_pending(line: &[u8]) -> bool
-    ensures { IsTrue result ↔ ((partition : Partition) × (number : ℕ) × FitsCause (Pending partition number) × (cause_text (Pending partition number) ≡ line.now)) }
+    ensures { IsTrue result ↔ ((partition : Partition) × (number : ℕ) × FitsCause (Pending partition number)
+        × (cause_text (Pending partition number) ≡ line.now)) }
 {
     match after(b"retry pending ", line) {
         Some(numbers) => match number_below_up_to(b' ', numbers, 1 << 32) {

@@ -55,7 +55,8 @@ impl ParityBytes {
     /// Closes all sessions.
     pub fn close_all(&mut self)
         ensures stays { Stays self.old self.new }
-        ensures process { self.new.process ≡ with_leader (record self.old.process.as_leader { sessions = [] }) self.old.process }
+        ensures process { self.new.process ≡ with_leader
+            (record self.old.process.as_leader { sessions = [] }) self.old.process }
     {
         self.sessions.close_all();
     }

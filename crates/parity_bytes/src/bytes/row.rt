@@ -48,7 +48,8 @@ impl ParityBytes {
         ensures stays { Stays self.old self.new }
         ensures process { self.new.process ≡ with_copies
             (marking self.old.shape d.0 n (copy_in self.old.process.as_row.copies leader number) self.old.process.as_row.copies).copies self.old.process }
-        ensures done { result ≡ (marking self.old.shape d.0 n (copy_in self.old.process.as_row.copies leader number) self.old.process.as_row.copies).done }
+        ensures done { result ≡ (marking self.old.shape d.0 n
+            (copy_in self.old.process.as_row.copies leader number) self.old.process.as_row.copies).done }
         ensures whole { IfSome result (IsWhole self.old.shape) }
         ensures machine { copy_marked self.old.shape d.0 n (copy_in self.old.process.as_row.copies leader number) self.old.process
             ≡ handed_on self.old.shape result self.new.process }
