@@ -8,8 +8,9 @@ use front_end::{Caller, Connection, ConnectionFault, End};
 use outbox::{Outbox, Reading, TryStream};
 use std::alloc::Global;
 
-/// The most bytes that one step reads, so that the requests in them hold up no other connection for long.
-const PIECE: usize = 16_384;
+/// The most bytes that one step reads: a value of 4 KiB with its line, and no more requests than hold up another
+/// connection shortly.
+const PIECE: usize = 4_608;
 
 /// What one step of a connection came to.
 #[derive(Clone, Copy, Debug, PartialEq, Eq)]

@@ -41,7 +41,7 @@ invariant_of-self-2 c =
     let whole : length c.make_room.new.rebuilt ≡ c.self.inside.rebuilt.len = omega (arith, c.make_room.auto.rebuilt, c.deref_mut.ensures.len) in
     let pushed : c.push.new.self.items ≡ sessions ++ g ∷ [] = c.in_ok-push.ensures.items in
     let none : AreRebuilt s 0 c.deref_mut.result.now = subst (AreRebuilt s 0) (sym c.deref_mut.ensures.value) (any_rooms s (length sessions) 0 c.self.inside.rebuilt.items (omega arith) c.self.invariant.rebuilt) in
-    let enough : length sessions + 1 ≤ c.in_ok-count.count = omega (arith, c.in_ok-count.ensures, ap length c.deref-2.ensures.value) in
+    let enough : length sessions + 1 ≤ c.len.result + 1 = omega (arith, c.len.ensures) in
     let last = c.self.inside.last in
     let is : gathering_of g ≡ new_session s (last + 1) c.args.block c.args.lost.items c.args.rows.items = c.in_ok-session.ensures.gathering ∙ ap (new_session s (last + 1) c.args.block c.args.lost.items) c.deref.ensures.value in
     subst (λ (gs : List OpenSession). AreParts s gs (last + 1) (take c.self.inside.rebuilt.len (c.make_room.new.rebuilt ++ drop (length c.make_room.new.rebuilt) c.self.inside.rebuilt.items))) (sym pushed)
