@@ -4,7 +4,7 @@ use Rattle.group_run.specs.Process.{Node}
 use Rattle.group_run.specs.World.{World, group_step, node_of}
 use Rattle.law_answers.specs.Steps.{waiting}
 use Rattle.group_core.proofs.Settles.{ask-settles, capped}
-use Rattle.group_core.proofs.calling.World.most_asked.Goals as goal
+use Rattle.group_core.proofs.world.World.most_asked.Goals as goal
 
 pub returns : goal.returns
 returns c caller op less =

@@ -1,13 +1,26 @@
-use Rattle.std.proofs.Common.{List, length, sym, ap, subst, ◌∙◌}
+use Rattle.std.proofs.Common.{◌≡◌, ◌≤◌, ℕ, suc, List, length, sym, ap, subst, ◌∙◌, arith}
 use Rattle.group_calls.specs.declared.entry.Entry.{Entry}
 use Rattle.group_calls.specs.declared.event.Event.{Event}
 use Rattle.group_calls.specs.declared.event.Event.TheVariants.{Ask}
 use Rattle.group_run.specs.Headline.{MayCome}
-use Rattle.group_run.specs.World.{World, step}
+use Rattle.group_run.specs.World.{GroupStep, World, group_step, step}
 use Rattle.group_ledger.specs.Books.{Books, call_in}
 use Rattle.group_core.specs.Runs.{HasRun, group_of}
 use Rattle.group_core.proofs.Stepped.{answer-is, once-logged, logged-is, run-on, settled-as, still-one, world-is}
-use Rattle.group_core.proofs.calling.World.ask.Goals as goal
+use Rattle.group_core.proofs.world.World.ask.Goals as goal
+
+pub record-logged-requires-clause-room : goal.record-logged-requires-clause-room
+record-logged-requires-clause-room c =
+    let v = c.self.inside.nodes in
+    let e : Event = Ask c.args.caller c.args.op.now c.args.at in
+    let b = c.reserve.new.self.books in
+    let t = c.in_ok-turn.turn in
+    let is = settled-as _ c.ask_next.new.self.nodes t.out.answer t.out.settled.items c.deref.result.now c.in_ok-turn.ensures.step c.deref.ensures.value in
+    let same = ap (group_of v) c.reserve.ensures.books ∙ c.self.view_is in
+    let few = c.most_asked-most.ensures c.args.caller c.args.op.now (omega (arith, c.in_ok-reserve.ensures.ok, c.in_ok-reserve.ensures.few)) in
+    let here = ap (λ (g : GroupStep). length g.settled) is in
+    let there = ap (λ (w : World). length (group_step w e).settled) same in
+    omega (arith, few, here, there, c.in_ok-reserve.ensures.ok)
 
 pub record-logged-requires-clause-once : goal.record-logged-requires-clause-once
 record-logged-requires-clause-once c =
