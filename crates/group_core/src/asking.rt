@@ -18,9 +18,11 @@ impl Members {
     pub(crate) fn ask(&mut self, at: ProcessId, call: Call, op: &Op) -> Result<NodeOut, AllocError>
         requires process { IsProcess self.old.shape at }
         requires caller { call.caller < callers }
-        requires numbers { (seat self.old at).down ≡ false → (seat self.old at).dead ≡ false → IsKnownLow (seat self.old at).process }
+        requires numbers { (seat self.old at).down ≡ false → (seat self.old at).dead ≡ false
+            → IsKnownLow (seat self.old at).process }
         ensures shape { self.new.shape ≡ self.old.shape }
-        ensures step { IfOk result (λ out. one_changed self.old at (ask_node self.old.shape (name_of call) op.now (seat self.old at)) ≡ made self.new out) }
+        ensures step { IfOk result (λ out. one_changed self.old at
+            (ask_node self.old.shape (name_of call) op.now (seat self.old at)) ≡ made self.new out) }
         ensures refusal { IfOk result (λ out. IsRefusal out.answer → self.new ≡ self.old) }
         ensures err { OnErr result (self.new ≡ self.old) }
     {
@@ -31,7 +33,8 @@ impl Members {
     pub(crate) fn collect(&mut self, at: ProcessId, caller: u32, call: u64) -> NodeOut
         requires process { IsProcess self.old.shape at }
         ensures shape { self.new.shape ≡ self.old.shape }
-        ensures step { one_changed self.old at (collect_node self.old.shape caller call (seat self.old at)) ≡ made self.new result }
+        ensures step { one_changed self.old at (collect_node self.old.shape caller call (seat self.old at))
+            ≡ made self.new result }
     {
         let at = index_of(self.shape, at) as usize;
         let answer = self.nodes[at].collect(caller, call);
@@ -41,7 +44,8 @@ impl Members {
     pub(crate) fn flush(&mut self, at: ProcessId) -> Result<NodeOut, AllocError>
         requires process { IsProcess self.old.shape at }
         ensures shape { self.new.shape ≡ self.old.shape }
-        ensures step { IfOk result (λ out. one_changed self.old at (flush_node self.old.shape (seat self.old at)) ≡ made self.new out) }
+        ensures step { IfOk result (λ out. one_changed self.old at (flush_node self.old.shape (seat self.old at))
+            ≡ made self.new out) }
         ensures err { OnErr result (self.new ≡ self.old) }
     {
         let at = index_of(self.shape, at) as usize;
@@ -58,7 +62,8 @@ impl Members {
         requires process { IsProcess self.now.shape at }
         requires caller { caller < callers }
         requires partition { partition.0 < self.now.shape.k }
-        ensures step { one_changed self.now at (trace_node self.now.shape caller call partition.0 (seat self.now at)) ≡ made self.now result }
+        ensures step { one_changed self.now at (trace_node self.now.shape caller call partition.0 (seat self.now at))
+            ≡ made self.now result }
     {
         let answer = self.node(at).trace(caller, call, partition);
         NodeOut::only(self.alloc, answer)

@@ -18,7 +18,8 @@ impl World {
         requires may { MayCome self.old (happens.Ask caller op.now at) }
         ensures world { IfOk result (λ _. self.new ≡ (step self.old (happens.Ask caller op.now at)).world) }
         ensures answer { IfOk result (λ out. out.answer ≡ (step self.old (happens.Ask caller op.now at)).turn.answer) }
-        ensures logged { IfOk result (λ out. out.logged ≡ length (step self.old (happens.Ask caller op.now at)).turn.logged) }
+        ensures logged { IfOk result (λ out. out.logged
+            ≡ length (step self.old (happens.Ask caller op.now at)).turn.logged) }
         ensures err { OnErr result (self.new ≡ self.old) }
     {
         let most = self.most_asked(at);

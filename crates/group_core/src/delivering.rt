@@ -24,7 +24,8 @@ impl Members {
         requires comes { (seat self.old to).down ≡ false → (seat self.old to).dead ≡ false → (m : told.Message) (rest : List told.Message)
             → at [] (seat self.old from).links (names.index_of self.old.shape to) ≡ m ∷ rest → Comes self.old.shape from m (seat self.old to).process }
         ensures shape { self.new.shape ≡ self.old.shape }
-        ensures step { IfOk result (λ out. two_changed self.old from to (deliver_nodes self.old.shape from to (seat self.old from) (seat self.old to)) ≡ made self.new out) }
+        ensures step { IfOk result (λ out. two_changed self.old from to
+            (deliver_nodes self.old.shape from to (seat self.old from) (seat self.old to)) ≡ made self.new out) }
         ensures err { OnErr result (self.new ≡ self.old) }
     {
         deliver_in(self.shape, &mut self.nodes, from, to)

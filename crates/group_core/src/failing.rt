@@ -42,7 +42,8 @@ fn kill(shape: Shape, nodes: &mut [Node], at: ProcessId, keep: u32) -> Answer
     requires process { IsProcess shape at }
     requires name { (seat (seats_of shape nodes.old) at).process.name ≡ at }
     ensures seated { AreSeated shape nodes.new }
-    ensures step { all_change (seat (seats_of shape nodes.old) at).dead shape (nodes_of nodes.old) at keep ≡ record { nodes = nodes_of nodes.new; answer = result; settled = [] } }
+    ensures step { all_change (seat (seats_of shape nodes.old) at).dead shape (nodes_of nodes.old) at keep
+        ≡ record { nodes = nodes_of nodes.new; answer = result; settled = [] } }
 {
     let at = index_of(shape, at) as usize;
     let most = shape.m();

@@ -67,7 +67,8 @@ pub(crate) fn nodes_at_start(
     count: u32,
 ) -> Result<Vec<Node>, AllocError>
     requires { count ≤ shape.k + shape.m }
-    ensures nodes { IfOk result (λ nodes. nodes_of nodes.items ≡ map (λ x. opening_node shape (names.process_at shape x)) (range_with_len 0 count)) }
+    ensures nodes { IfOk result (λ nodes. nodes_of nodes.items
+        ≡ map (λ x. opening_node shape (names.process_at shape x)) (range_with_len 0 count)) }
     ensures shapes { IfOk result (λ nodes. AreOf shape nodes.items) }
     ensures many { IfOk result (λ nodes. length nodes.items ≡ count) }
 {

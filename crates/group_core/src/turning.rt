@@ -33,7 +33,8 @@ impl Members {
         requires may { MayCome (group_of self.old ledger.now.books) event.now }
         requires no_call { call_of (group_of self.old ledger.now.books) event.now ≡ None }
         ensures shape { self.new.shape ≡ self.old.shape }
-        ensures step { IfOk result (λ out. group_step (group_of self.old ledger.now.books) event.now ≡ made self.new out) }
+        ensures step { IfOk result (λ out. group_step (group_of self.old ledger.now.books) event.now
+            ≡ made self.new out) }
         ensures err { OnErr result (self.new ≡ self.old) }
     {
         match event {
@@ -64,8 +65,10 @@ impl Members {
         requires caller { caller < callers }
         requires process { IsProcess self.old.shape at }
         ensures shape { self.new.shape ≡ self.old.shape }
-        ensures step { IfOk result (λ turn. group_step (group_of self.old ledger.now.books) (happens.Ask caller op.now at) ≡ made self.new turn.out) }
-        ensures call { IfOk result (λ turn. call_in ledger.now.books.asked turn.call ≡ call_of (group_of self.old ledger.now.books) (happens.Ask caller op.now at)) }
+        ensures step { IfOk result (λ turn. group_step (group_of self.old ledger.now.books)
+            (happens.Ask caller op.now at) ≡ made self.new turn.out) }
+        ensures call { IfOk result (λ turn. call_in ledger.now.books.asked turn.call
+            ≡ call_of (group_of self.old ledger.now.books) (happens.Ask caller op.now at)) }
         ensures caller { IfOk result (λ turn. IfSome turn.call (λ c. c.caller < callers)) }
         ensures refusal { IfOk result (λ turn. IfSome turn.call (λ c. c.refusal ≡ refusal_in turn.out.answer)) }
         ensures err { OnErr result (self.new ≡ self.old) }
@@ -79,7 +82,11 @@ impl Members {
 
 // The refusal of a call is copied for the log.
 fn new_call(caller: u32, op: Op, out: NodeOut) -> Result<Turn, AllocError>
-    ensures ok { IfOk result (λ turn. turn ≡ record { call = Some (record { caller = caller; op = op; refusal = refusal_in out.answer }); out = out }) }
+    ensures ok { IfOk result (λ turn. turn ≡ record {
+      call = Some
+          (record { caller = caller; op = op; refusal = refusal_in out.answer });
+      out = out;
+    }) }
     ensures err { OnErr result (IsRefusal out.answer) }
 {
     match refusal(&out.answer) {

@@ -17,10 +17,13 @@ impl Node {
     /// A call is asked. After want of memory nothing but room has changed.
     pub fn ask(&mut self, call: Call, op: &Op) -> Result<NodeOut, AllocError>
         requires caller { call.caller < callers }
-        requires numbers { self.old.node.down ≡ false → self.old.node.dead ≡ false → All (λ r. last_of r < 2 ^ 62) self.old.node.process.replicas }
-        requires sessions { self.old.node.down ≡ false → self.old.node.dead ≡ false → self.old.node.process.as_leader.last_session < 2 ^ 62 }
+        requires numbers { self.old.node.down ≡ false → self.old.node.dead ≡ false
+            → All (λ r. last_of r < 2 ^ 62) self.old.node.process.replicas }
+        requires sessions { self.old.node.down ≡ false → self.old.node.dead ≡ false
+            → self.old.node.process.as_leader.last_session < 2 ^ 62 }
         ensures shape { self.new.shape ≡ self.old.shape }
-        ensures step { IfOk result (λ out. ask_node self.old.shape (name_of call) op.now self.old.node ≡ made self.new.node out) }
+        ensures step { IfOk result (λ out. ask_node self.old.shape (name_of call) op.now self.old.node
+            ≡ made self.new.node out) }
         ensures refusal { IfOk result (λ out. IsRefusal out.answer → self.new ≡ self.old) }
         ensures wanted { OnErr result ((self.old.node.down ≡ false) × (self.old.node.dead ≡ false)) }
         ensures err { OnErr result (self.new ≡ self.old) }
@@ -80,7 +83,8 @@ impl Node {
 
     // The answer to what isn't treated: the group is down, or else the process is dead.
     fn refusal(&self) -> Option<Answer>
-        ensures some { IfSome result (λ answer. (step : NodeStep) → if_up self.now.node.down self.now.node.dead self.now.node step ≡ unchanged answer self.now.node) }
+        ensures some { IfSome result (λ answer. (step : NodeStep)
+            → if_up self.now.node.down self.now.node.dead self.now.node step ≡ unchanged answer self.now.node) }
         ensures none { IfNone result ((self.now.node.down ≡ false) × (self.now.node.dead ≡ false)) }
     {
         if self.down {

@@ -53,7 +53,8 @@ impl Node {
         requires lives { self.old.node.dead ≡ false }
         requires comes { Comes self.old.shape from message.now self.old.node.process }
         ensures shape { self.new.shape ≡ self.old.shape }
-        ensures step { IfOk result (λ out. receive_node self.old.shape from message.now self.old.node ≡ made self.new.node out) }
+        ensures step { IfOk result (λ out. receive_node self.old.shape from message.now self.old.node
+            ≡ made self.new.node out) }
         ensures err { OnErr result (self.new ≡ self.old) }
     {
         make_room(self.shape, &mut self.links)?;

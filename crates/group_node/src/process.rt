@@ -61,7 +61,8 @@ impl Process {
     /// The process of this name at the start.
     pub fn new(alloc: Global, shape: Shape, name: ProcessId) -> Result<Process, AllocError>
         requires { IsProcess shape name }
-        ensures { IfOk result (λ process. process ≡ record { shape = shape; process = opening_process shape name; made = [] }) }
+        ensures { IfOk result (λ process. process
+            ≡ record { shape = shape; process = opening_process shape name; made = [] }) }
     {
         let role = match name {
             ProcessId::DataNode(d) => Role::Data(DataProcess::new(alloc, shape, d)?),
@@ -73,12 +74,14 @@ impl Process {
     /// A call is asked. After want of memory nothing but room has changed.
     pub fn ask(&mut self, call: Call, op: &Op) -> Result<CallStep, AllocError>
         requires caller { call.caller < callers }
-        requires numbers { last_of (replica_of self.old.process (home_of (key_of op.now.act) self.old.shape.k)) < 2 ^ 62 }
+        requires numbers { last_of (replica_of self.old.process (home_of (key_of op.now.act) self.old.shape.k))
+            < 2 ^ 62 }
         requires sessions { self.old.process.as_leader.last_session < 2 ^ 62 }
         ensures shape { self.new.shape ≡ self.old.shape }
         ensures pages { MakesNoneOf (CallMisses self.old.shape op.now self.old.process) self.old.made self.new.made }
         ensures name { self.new.process.name ≡ self.old.process.name }
-        ensures step { IfOk result (λ step. ask_process self.old.shape (name_of call) op.now self.old.process ≡ called self.new.process step) }
+        ensures step { IfOk result (λ step. ask_process self.old.shape (name_of call) op.now self.old.process
+            ≡ called self.new.process step) }
         ensures err { OnErr result (self.new.process ≡ self.old.process) }
     {
         match &mut self.role {
@@ -92,7 +95,8 @@ impl Process {
         ensures shape { self.new.shape ≡ self.old.shape }
         ensures pages { self.new.made ≡ self.old.made }
         ensures name { self.new.process.name ≡ self.old.process.name }
-        ensures answer { collect_from caller call self.old.process (range_with_len 0 self.old.shape.k) ≡ only result self.new.process }
+        ensures answer { collect_from caller call self.old.process (range_with_len 0 self.old.shape.k)
+            ≡ only result self.new.process }
     {
         match &mut self.role {
             Role::Data(process) => process.collect(caller, call),
@@ -104,7 +108,8 @@ impl Process {
     pub fn fate(&self, caller: u32, call: u64, partition: Partition) -> Answer
         requires caller { caller < callers }
         requires partition { partition.0 < self.now.shape.k }
-        ensures { result ≡ fate_of self.now.shape caller call partition.0 self.now.process (head_at self.now.process partition.0) }
+        ensures { result ≡ fate_of self.now.shape caller call partition.0 self.now.process
+            (head_at self.now.process partition.0) }
     {
         match &self.role {
             Role::Data(process) => process.fate(caller, call, partition),
@@ -114,7 +119,8 @@ impl Process {
 
     /// The messages that tell how far the process has settled, which change nothing here.
     pub fn flush(&self) -> Result<Vec<Sent>, AllocError>
-        ensures { IfOk result (λ sent. (flush_process self.now.shape self.now.process).step ≡ sending sent.items self.now.process) }
+        ensures { IfOk result (λ sent. (flush_process self.now.shape self.now.process).step
+            ≡ sending sent.items self.now.process) }
     {
         match &self.role {
             Role::Data(process) => process.flush(),
@@ -128,7 +134,8 @@ impl Process {
         ensures shape { self.new.shape ≡ self.old.shape }
         ensures pages { MakesNoneOf (MessageMisses self.old.shape.block message.now) self.old.made self.new.made }
         ensures name { self.new.process.name ≡ self.old.process.name }
-        ensures step { IfOk result (λ step. machine.receive self.old.shape from message.now self.old.process ≡ stepped self.new.process step) }
+        ensures step { IfOk result (λ step. machine.receive self.old.shape from message.now self.old.process
+            ≡ stepped self.new.process step) }
         ensures err { OnErr result (self.new.process ≡ self.old.process) }
     {
         match &mut self.role {
@@ -169,7 +176,8 @@ impl Process {
     /// The numbers up to which it has settled or applied, where its group has `k` partitions.
     pub fn stamp(&self, alloc: Global, k: u32) -> Result<Vec<u64>, AllocError>
         requires { k ≡ self.now.shape.k }
-        ensures { IfOk result (λ stamp. stamp.items ≡ process_stamp self.now.shape self.now.process.name self.now.process) }
+        ensures { IfOk result (λ stamp. stamp.items
+            ≡ process_stamp self.now.shape self.now.process.name self.now.process) }
     {
         match &self.role {
             Role::Data(process) => Ok(vec![in alloc; process.stamp()]?),

@@ -15,7 +15,8 @@ impl Node {
     /// The numbers up to which it has settled or applied: its own partition's alone of a data process, one for each
     /// partition of a parity process.
     pub fn stamp(&self) -> Result<Vec<u64>, AllocError>
-        ensures { IfOk result (λ stamp. stamp.items ≡ process_stamp self.now.shape self.now.node.process.name self.now.node.process) }
+        ensures { IfOk result (λ stamp. stamp.items
+            ≡ process_stamp self.now.shape self.now.node.process.name self.now.node.process) }
     {
         self.process.stamp(self.alloc, self.shape.k())
     }

@@ -44,8 +44,10 @@ fn send(shape: Shape, known: Members, one: Sent, links: &mut Links<Message>)
     requires many { length links.old ≡ shape.k + shape.m }
     requires room { HasRoom 1 links.old }
     ensures many { length links.new ≡ length links.old }
-    ensures messages { (rest : List machine.Sent) → links_after shape known rest (messages links.new) ≡ links_after shape known (one ∷ rest) (messages links.old) }
-    ensures room { (rest : List machine.Sent) → HasRoomFor shape (one ∷ rest) links.old → HasRoomFor shape rest links.new }
+    ensures messages { (rest : List machine.Sent) → links_after shape known rest (messages links.new)
+        ≡ links_after shape known (one ∷ rest) (messages links.old) }
+    ensures room { (rest : List machine.Sent) → HasRoomFor shape (one ∷ rest) links.old
+        → HasRoomFor shape rest links.new }
 {
     match living_target(shape, known, one.to) {
         None => {}

@@ -75,7 +75,8 @@ fn collect(world: &mut World, caller: u32, call: u64, at: ProcessId) -> Result<N
     requires counted { world.old.events < most_events }
     requires due { due world.old ≡ None }
     requires ticketed { IsTicketed world.old caller call at }
-    ensures made { IfOk result (λ next. (op : Asked) → IsMade caller op world.old (Stage.Collects call at) world.new next) }
+    ensures made { IfOk result (λ next. (op : Asked)
+        → IsMade caller op world.old (Stage.Collects call at) world.new next) }
     ensures err { OnErr result (world.new ≡ world.old) }
 {
     world.run();

@@ -43,7 +43,8 @@ fn deliver(world: &mut World) -> Result<bool, AllocError>
 /// Delivers until nothing is left, or no further event can be counted, and says whether one can.
 pub(crate) fn drain(world: &mut World) -> Result<bool, AllocError>
     ensures delivered { AreDelivered world.old world.new }
-    ensures drained { IfOk result (λ counts. counts ≡ true → (world.new.events < most_events) × (due world.new ≡ None)) }
+    ensures drained { IfOk result (λ counts. counts ≡ true
+        → (world.new.events < most_events) × (due world.new ≡ None)) }
     ensures worn { IfOk result (λ counts. counts ≡ false → most_events ≤ world.new.events) }
 {
     world.run();
