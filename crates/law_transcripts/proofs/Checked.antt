@@ -1,5 +1,5 @@
 -- A transcript that is played is checked.
-use Rattle.std.proofs.Common.{ℕ, ◌≡◌, ◌≤◌, Bool, true, false, nat_lt, List, [], length, Option, Some, None, Ok, if◌then◌else◌, refl, sym, subst, arith}
+use Rattle.std.proofs.Common.{ℕ, ◌≡◌, ◌≤◌, Bool, true, false, nat_lt, List, [], length, Option, Some, None, if◌then◌else◌, refl, sym, subst, arith}
 use Rattle.std.proofs.lemmas.Bool.Decides.{nat_tests}
 use Rattle.scenario_text.specs.declared.line.LineFault.{LineFault}
 use Rattle.scenario_text.specs.declared.line.LineFault.TheVariants as line
@@ -10,9 +10,8 @@ use Rattle.scenario_run.proofs.Promises.{scripts_keep_promises}
 use Rattle.scenario_play.specs.Language.{group_scripts, told_in}
 use Rattle.scenario_play.specs.Status.{longest_script, told_at, told_of, verdict}
 use Rattle.scenario_play.specs.declared.status.Status.TheVariants.{Done, TooLong}
-use Rattle.run_verify.specs.Checked.{AreWellShown, IsChecked}
+use Rattle.run_verify.specs.Checked.{AreWellShown}
 use Rattle.run_verify.specs.Plain.{EndsPlacing}
-use Rattle.run_verify.specs.Steps.{Script, script_in}
 use Rattle.run_verify.specs.Told.{runs_told}
 use Rattle.run_verify.specs.declared.step.Step.{Step}
 use Rattle.run_verify.proofs.PlainScript.{ends-first}

@@ -7,7 +7,7 @@ mod ImpliedCourse
 mod ImpliedHeads
 mod ImpliedItems
 mod ImpliedPlaces
-mod ImpliedShadow
+pub mod ImpliedShadow
 mod ImpliedShown
 mod ImpliedStands
 mod ImpliedSteps
@@ -22,10 +22,10 @@ pub mod Duties
 pub mod Entering
 pub mod Exact
 mod ExactAhead
-mod ExactEntries
-mod ExactFits
+pub mod ExactEntries
+pub mod ExactFits
 mod ExactKnown
-mod ExactLimits
+pub mod ExactLimits
 mod ExactNext
 mod ExactOnce
 mod ExactPlaces
