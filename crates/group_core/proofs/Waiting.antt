@@ -25,6 +25,15 @@ module _ (w : World) where
   pub target-here : (x y n : ℕ) → y < n → is_waiting w x y ≡ true → next_target w x (range_with_len y (n - y)) ≡ Some y
   target-here x y n below is = ap (next_target w x) (unrolled y n below) ∙ ap (λ (b : Bool). if b then Some y else next_target w x (range_with_len (y + 1) (n - (y + 1)))) is
 
+  quiet : (dead : Bool) (link : List Message) → link ≡ [] → (not dead && some_message link) ≡ false
+  quiet true link is = refl
+  quiet false link is = ap some_message is
+
+  pub idle-target : (x : ℕ) → ((y : ℕ) → at [] (node_at w x).links y ≡ []) → (ys : List ℕ) → None ≡ next_target w x ys
+  idle-target x idle [] = refl
+  idle-target x idle (y ∷ ys) =
+      idle-target x idle ys ∙ sym (ap (λ (b : Bool). if b then Some y else next_target w x ys) (quiet (node_at w y).dead (at [] (node_at w x).links y) (idle y)))
+
   pub among-behind : (x n : ℕ) → x < n → None ≡ next_target w x (range_with_len 0 count) → next_among w (range_with_len x (n - x)) ≡ next_among w (range_with_len (x + 1) (n - (x + 1)))
   among-behind x n below is =
       ap (next_among w) (unrolled x n below) ∙ ap (λ (o : Option ℕ). event_or (next_from w x o) (next_among w (range_with_len (x + 1) (n - (x + 1))))) (sym is)

@@ -53,6 +53,9 @@ impl World {
         ensures within { IfSome result (λ to. to < self.now.shape.k + self.now.shape.m) }
     {
         let shape = self.shape();
+        if self.nodes.node(process_at(shape, from)).is_idle() {
+            return None;
+        }
         'targets: for to in 0..shape.k() + shape.m() {
             if self.is_waiting(from, to) {
                 return Some(to);
@@ -68,9 +71,9 @@ impl World {
     {
         let shape = self.shape();
         let target = process_at(shape, to);
-        if self.is_dead(target) {
+        if self.nodes.node(process_at(shape, from)).is_empty(target) {
             return false;
         }
-        !self.nodes.node(process_at(shape, from)).is_empty(target)
+        !self.is_dead(target)
     }
 }

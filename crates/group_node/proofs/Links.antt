@@ -1,5 +1,5 @@
 -- What is read of links after one of them changed.
-use Rattle.std.proofs.Common.{ℕ, zero, suc, ◌≡◌, ◌<◌, List, [], ◌∷◌, length, refl, ap, arith}
+use Rattle.std.proofs.Common.{ℕ, zero, suc, ◌≡◌, ◌<◌, List, [], ◌∷◌, length, All, refl, sym, ap, subst, ◌∙◌, arith}
 use Rattle.group_types.specs.Lists.{at, put}
 use Rattle.group_message.specs.declared.message.Message.{Message}
 use Rattle.link_core.specs.Outgoing.{Link, link_to, with_link}
@@ -37,3 +37,14 @@ messages-same (o ∷ os) (n ∷ ns) long same =
     let first : n.messages ≡ o.messages = same 0 in
     let rest : messages ns ≡ messages os = messages-same os ns (omega (arith, long)) (λ x. same (suc x)) in
     λ j. first j ∷ rest j
+
+-- no message waits in any link, told by the links and by their places
+pub idle-at : (links : List (Link Message)) → All (λ l. l.messages ≡ []) links → (x : ℕ) → at [] (messages links) x ≡ []
+idle-at [] idle x = refl
+idle-at (l ∷ ls) idle zero = idle zero l (omega arith)
+idle-at (l ∷ ls) idle (suc x) = idle-at ls (λ k d below. idle (suc k) d (omega (arith, below))) x
+
+pub all-idle : (links : List (Link Message)) → ((x : ℕ) → at [] (messages links) x ≡ []) → All (λ l. l.messages ≡ []) links
+all-idle [] idle k d below = absurd (omega (arith, below))
+all-idle (l ∷ ls) idle zero d below = idle zero
+all-idle (l ∷ ls) idle (suc k) d below = all-idle ls (λ x. idle (suc x)) k d (omega (arith, below))

@@ -1,4 +1,4 @@
-ghost use Rattle.std.specs.Prelude.{◌≡◌, ◌==◌, [], length, IfOk, ◌-◌, ◌^◌, min};
+ghost use Rattle.std.specs.Prelude.{◌≡◌, ◌↔◌, ◌==◌, ℕ, [], length, IsTrue, IfOk, ◌-◌, ◌^◌, min};
 ghost use Rattle.group_types.specs.Lists.{at};
 ghost use Rattle.group_types.specs.Names as names;
 ghost use Rattle.group_types.specs.Names.{IsProcess};
@@ -110,6 +110,13 @@ impl Node {
         ensures { result ≡ (length (at [] self.now.node.links (names.index_of self.now.shape to)) == 0) }
     {
         self.links.is_empty(index_of(self.shape, to))
+    }
+
+    /// Whether no message waits in any of its links.
+    pub fn is_idle(&self) -> bool
+        ensures { IsTrue result ↔ ((to : ℕ) → at [] self.now.node.links to ≡ []) }
+    {
+        self.links.is_idle()
     }
 
     /// How many updates wait in its logs.
