@@ -4,6 +4,7 @@
 #![tactic(auto)]
 
 mod asking;
+mod calling;
 mod coming;
 mod delivering;
 mod draining;

@@ -19,7 +19,7 @@ use head_service::Call;
 use memc_table::Op;
 use std::alloc::AllocError;
 
-/// The call that an event asks, if it asks one, and what the nodes make of the event.
+/// The call that is asked, and what its node makes of it.
 #[derive(Debug, Drop)]
 pub(crate) struct Turn {
     pub(crate) call: Option<NewCall>,
@@ -27,35 +27,32 @@ pub(crate) struct Turn {
 }
 
 impl Members {
-    /// What an event makes of the nodes. After want of memory nothing but room has changed.
-    pub(crate) fn turn(&mut self, ledger: &Ledger, event: &Event) -> Result<Turn, AllocError>
+    /// What an event that asks no call makes of the nodes. After want of memory nothing but room has changed.
+    pub(crate) fn pass(&mut self, ledger: &Ledger, event: &Event) -> Result<NodeOut, AllocError>
         requires run { HasRun (group_of self.old ledger.now.books) }
-        requires events { ledger.now.books.events < 2 ^ 62 }
         requires may { MayCome (group_of self.old ledger.now.books) event.now }
+        requires no_call { call_of (group_of self.old ledger.now.books) event.now ≡ None }
         ensures shape { self.new.shape ≡ self.old.shape }
-        ensures step { IfOk result (λ turn. group_step (group_of self.old ledger.now.books) event.now ≡ made self.new turn.out) }
-        ensures call { IfOk result (λ turn. call_in ledger.now.books.asked turn.call ≡ call_of (group_of self.old ledger.now.books) event.now) }
-        ensures caller { IfOk result (λ turn. IfSome turn.call (λ c. c.caller < callers)) }
-        ensures refusal { IfOk result (λ turn. IfSome turn.call (λ c. c.refusal ≡ refusal_in turn.out.answer)) }
+        ensures step { IfOk result (λ out. group_step (group_of self.old ledger.now.books) event.now ≡ made self.new out) }
         ensures err { OnErr result (self.new ≡ self.old) }
     {
         match event {
-            Event::Ask { caller, op, at } => self.ask_next(ledger, *caller, op, *at),
-            Event::Collect { caller, call, at } => Ok(no_call(self.collect(*at, *caller, *call))),
-            Event::Deliver { from, to } => Ok(no_call(self.deliver(*from, *to)?)),
-            Event::Fail { at, keep } => Ok(no_call(self.fail(*at, *keep))),
-            Event::Flush { at } => Ok(no_call(self.flush(*at)?)),
+            Event::Ask { .. } => unreachable!(),
+            Event::Collect { caller, call, at } => Ok(self.collect(*at, *caller, *call)),
+            Event::Deliver { from, to } => self.deliver(*from, *to),
+            Event::Fail { at, keep } => Ok(self.fail(*at, *keep)),
+            Event::Flush { at } => self.flush(*at),
             Event::Trace {
                 caller,
                 call,
                 partition,
                 at,
-            } => Ok(no_call(self.trace(*at, *caller, *call, *partition))),
+            } => Ok(self.trace(*at, *caller, *call, *partition)),
         }
     }
 
-    // A caller's next call. A refusal is copied for the log, and changes nothing.
-    fn ask_next(
+    /// A caller's next call. A refusal is copied for the log, and changes nothing.
+    pub(crate) fn ask_next(
         &mut self,
         ledger: &Ledger,
         caller: u32,
@@ -96,10 +93,4 @@ fn new_call(caller: u32, op: Op, out: NodeOut) -> Result<Turn, AllocError>
         }),
         Err(error) => Err(error),
     }
-}
-
-fn no_call(out: NodeOut) -> Turn
-    ensures { result ≡ record { call = None; out = out } }
-{
-    Turn { call: None, out }
 }

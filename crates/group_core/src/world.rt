@@ -1,6 +1,6 @@
-ghost use Rattle.std.specs.Prelude.{◌≡◌, ◌≤◌, ◌<◌, ◌-◌, ◌^◌, suc, length, IfOk, OnErr};
+ghost use Rattle.std.specs.Prelude.{◌≡◌, ◌≤◌, ◌<◌, ◌-◌, ◌^◌, suc, length, None, IfOk, OnErr};
 ghost use Rattle.group_run.specs.Headline.{MayCome};
-ghost use Rattle.group_run.specs.World.{group_step, opening, step};
+ghost use Rattle.group_run.specs.World.{call_of, group_step, opening, step};
 
 use crate::members::Members;
 use group_calls::{Event, Out};
@@ -47,14 +47,28 @@ impl World {
         ensures logged { IfOk result (λ out. out.logged ≡ length (step self.old event.now).turn.logged) }
         ensures err { OnErr result (self.new ≡ self.old) }
     {
+        match event {
+            Event::Ask { caller, op, at } => self.ask(*caller, op, *at),
+            _ => self.pass(event),
+        }
+    }
+
+    // What an event that asks no call makes of the group.
+    fn pass(&mut self, event: &Event) -> Result<Out, AllocError>
+        requires events { self.old.events < 2 ^ 62 }
+        requires may { MayCome self.old event.now }
+        requires no_call { call_of self.old event.now ≡ None }
+        ensures world { IfOk result (λ _. self.new ≡ (step self.old event.now).world) }
+        ensures answer { IfOk result (λ out. out.answer ≡ (step self.old event.now).turn.answer) }
+        ensures logged { IfOk result (λ out. out.logged ≡ length (step self.old event.now).turn.logged) }
+        ensures err { OnErr result (self.new ≡ self.old) }
+    {
         let most = self.settles(event);
         self.ledger.reserve(most)?;
-        let turn = self.nodes.turn(&self.ledger, event)?;
-        let logged = self
-            .ledger
-            .record(turn.call, &turn.out.answer, &turn.out.settled);
+        let out = self.nodes.pass(&self.ledger, event)?;
+        let logged = self.ledger.record(None, &out.answer, &out.settled);
         Ok(Out {
-            answer: turn.out.answer,
+            answer: out.answer,
             logged,
         })
     }
@@ -65,7 +79,7 @@ impl World {
         ensures { result < 2 ^ 64 - 1 → length (group_step self.now event.now).settled ≤ suc result }
     {
         match event {
-            Event::Ask { at, .. } => self.nodes.node(*at).waiting(),
+            Event::Ask { at, .. } => self.most_asked(*at),
             Event::Deliver { to, .. } => self.nodes.node(*to).waiting(),
             Event::Collect { .. } => 0,
             Event::Fail { .. } => 0,

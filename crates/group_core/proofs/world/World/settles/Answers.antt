@@ -3,7 +3,7 @@ use Rattle.group_calls.specs.declared.event.Event.{Event}
 use Rattle.group_run.specs.Process.{Node}
 use Rattle.group_run.specs.World.{World, group_step, node_of}
 use Rattle.law_answers.specs.Steps.{waiting}
-use Rattle.group_core.proofs.Settles.{ask-settles, capped, collect-settles, delivery-settles, fail-settles, flush-settles, trace-settles}
+use Rattle.group_core.proofs.Settles.{capped, collect-settles, delivery-settles, fail-settles, flush-settles, trace-settles}
 use Rattle.group_core.proofs.world.World.settles.Goals as goal
 
 -- none is at most one
@@ -12,21 +12,16 @@ none long is = omega (arith, is)
 
 pub returns-in-Ask : goal.returns-in-Ask
 returns-in-Ask c less =
-    let w = c.args.self.now in
-    let n : ℕ = waiting c.node.result.now.node.process.replicas in
-    let here = c.node.ensures.node ∙ ap (λ (v : World). node_of v c.in-Ask.at) c.self.view_is in
-    capped n c.waiting.result (length (group_step w c.args.event.now).settled) c.waiting.ensures
-    (subst (λ (e : Event). length (group_step w e).settled ≤ n + 1) (sym c.in-Ask.is)
-    (ask-settles w c.in-Ask.caller n c.in-Ask.op c.in-Ask.at (ap (λ (x : Node). waiting x.process.replicas) here))) less
+    subst (λ (e : Event). length (group_step c.args.self.now e).settled ≤ suc c.most_asked.result) (sym c.in-Ask.is) (c.most_asked.ensures c.in-Ask.caller c.in-Ask.op less)
 
 pub returns-in-Deliver : goal.returns-in-Deliver
 returns-in-Deliver c less =
     let w = c.args.self.now in
-    let n : ℕ = waiting c.node-in-Deliver.result.now.node.process.replicas in
-    let here = c.node-in-Deliver.ensures.node ∙ ap (λ (v : World). node_of v c.in-Deliver.to) c.self.view_is in
+    let n : ℕ = waiting c.node.result.now.node.process.replicas in
+    let here = c.node.ensures.node ∙ ap (λ (v : World). node_of v c.in-Deliver.to) c.self.view_is in
     let few = subst (λ (e : Event). length (group_step w e).settled ≤ n) (sym c.in-Deliver.is)
     (delivery-settles w n c.in-Deliver.from c.in-Deliver.to (ap (λ (x : Node). waiting x.process.replicas) here)) in
-    capped n c.waiting-in-Deliver.result (length (group_step w c.args.event.now).settled) c.waiting-in-Deliver.ensures (omega (arith, few)) less
+    capped n c.waiting.result (length (group_step w c.args.event.now).settled) c.waiting.ensures (omega (arith, few)) less
 
 pub returns-in-Collect : goal.returns-in-Collect
 returns-in-Collect c less =

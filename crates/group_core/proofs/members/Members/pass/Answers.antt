@@ -3,7 +3,7 @@ use Rattle.group_run.specs.Headline.{MayCome}
 use Rattle.group_core.specs.Runs.{group_of}
 use Rattle.group_core.proofs.Known.{first-comes}
 use Rattle.group_core.proofs.Runs.{named}
-use Rattle.group_core.proofs.members.Members.turn.Goals as goal
+use Rattle.group_core.proofs.members.Members.pass.Goals as goal
 
 pub deliver-requires-clause-from_name : goal.deliver-requires-clause-from_name
 deliver-requires-clause-from_name c =
