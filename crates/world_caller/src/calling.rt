@@ -6,7 +6,7 @@ ghost use Rattle.world_caller.specs.Laws.{IsTicketed, Stands};
 ghost use Rattle.world_caller.specs.Making.{IsMade};
 
 use crate::drain::drain;
-use crate::event::make;
+use crate::event::{make, make_ask};
 use crate::laws::{asks_are_few, asks_lead_on, collects_lead_on};
 use crate::serving::server;
 use crate::stage::{Next, Stage, after_ask, after_collect};
@@ -63,12 +63,7 @@ fn ask(world: &mut World, caller: u32, op: &Op) -> Result<Next, AllocError>
     values_are_bytes(op.act());
     let call = world.asks(caller);
     let at = server(world, home(op.act().key(), world.shape().k()));
-    let event = Event::Ask {
-        caller,
-        op: op.clone()?,
-        at,
-    };
-    match after_ask(call, at, make(world, event)?) {
+    match after_ask(call, at, make_ask(world, caller, op, at)?) {
         Some(next) => Ok(next),
         None => unreachable!(),
     }
@@ -85,7 +80,7 @@ fn collect(world: &mut World, caller: u32, call: u64, at: ProcessId) -> Result<N
 {
     world.run();
     collects_lead_on();
-    match after_collect(make(world, Event::Collect { caller, call, at })?) {
+    match after_collect(make(world, &Event::Collect { caller, call, at })?) {
         Some(next) => Ok(next),
         None => unreachable!(),
     }

@@ -34,7 +34,7 @@ fn deliver(world: &mut World) -> Result<bool, AllocError>
     match first_due(world) {
         None => Ok(false),
         Some(event) => {
-            make(world, event)?;
+            make(world, &event)?;
             Ok(true)
         }
     }

@@ -31,7 +31,7 @@ pub(crate) fn fail_one(world: &mut World, at: ProcessId, keep: u32) -> Result<Fa
     ensures end { IfOk result (λ end. failed_to (step world.old (happens.Fail at keep)).turn.answer ≡ Some end) }
     ensures err { OnErr result (world.new ≡ world.old) }
 {
-    match after_fail(make(world, Event::Fail { at, keep })?) {
+    match after_fail(make(world, &Event::Fail { at, keep })?) {
         Some(end) => Ok(end),
         None => unreachable!(),
     }
