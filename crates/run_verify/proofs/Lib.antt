@@ -23,9 +23,9 @@ pub mod Entering
 pub mod Exact
 mod ExactAhead
 mod ExactEntries
-mod ExactFits
+pub mod ExactFits
 mod ExactKnown
-mod ExactLimits
+pub mod ExactLimits
 mod ExactNext
 mod ExactOnce
 mod ExactPlaces
