@@ -16,6 +16,7 @@ use Rattle.scenario_text.specs.declared.line.LineFault.{LineFault}
 use Rattle.scenario_text.specs.declared.line.LineFault.TheVariants.{BadLine}
 use Rattle.scenario_run.specs.Course.{Ends, Goes, Refused, turns_in}
 use Rattle.scenario_run.specs.Playing.{Play, PlayNext, by_event, draining, first_by, next_by, next_of, shape_in, then_by}
+use Rattle.scenario_run.proofs.Following.{turns_after}
 use Rattle.run_verify.proofs.ExactFits.{FitsAct}
 use Rattle.run_verify.proofs.ExactLimits.{act-fits, read-limits}
 use Rattle.run_verify.specs.Told.{IsDelivery}
@@ -104,15 +105,12 @@ line-fine p line = by p (line_of (shape_in p) line) refl
     by None (Ok l) is = first-fine l
     by (Some q) (Ok l) is = then-fine q line l is
 
-abbrev turns_after : List (List ℕ) → PlayNext → List Turn
-turns_after lines next = elim next [ Goes q turns text ↦ turns ++ turns_in next_of q lines | Ends ↦ [] | Refused cause ↦ [] ]
-
 -- what a script asks is fine
 pub turns-fine : (p : Option Play) (lines : List (List ℕ)) → All FineTurn (turns_in next_of p lines)
 turns-fine p [] = All-nil FineTurn
 turns-fine p (line ∷ lines) = by (next_of p line) (line-fine p line) (λ q. turns-fine q lines)
   where
-    by : (next : PlayNext) → MakesFine next → ((q : Option Play) → All FineTurn (turns_in next_of q lines)) → All FineTurn (turns_after lines next)
+    by : (next : PlayNext) → MakesFine next → ((q : Option Play) → All FineTurn (turns_in next_of q lines)) → All FineTurn (turns_after next_of next lines)
     by Ends fine later = All-nil FineTurn
     by (Refused cause) fine later = All-nil FineTurn
     by (Goes q turns text) fine later = All-append FineTurn turns (turns_in next_of q lines) fine (later q)

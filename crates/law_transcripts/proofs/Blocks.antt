@@ -25,7 +25,7 @@ use Rattle.group_run.specs.World.{after}
 use Rattle.law_headline.proofs.Headlines.{headline_always}
 use Rattle.law_updates.proofs.Decides.{place-free}
 use Rattle.scenario_text.proofs.Read.{passed}
-use Rattle.run_verify.proofs.ExactEntries.{get-front}
+use Rattle.law_transcripts.proofs.Parts.{get-front}
 
 -- ---- the blocks that a run meets
 

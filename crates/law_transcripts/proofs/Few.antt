@@ -8,12 +8,10 @@ use Rattle.group_run.specs.World.{World, opening}
 use Rattle.scenario_run.specs.Course.{Ends, Goes, Refused, turns_in}
 use Rattle.scenario_run.specs.Playing.{Play, PlayNext, next_of}
 use Rattle.scenario_run.proofs.Draining.{burden, line_burden, load-opening}
+use Rattle.scenario_run.proofs.Following.{turns_after}
 use Rattle.scenario_run.proofs.Leading.{IsLedTo, Leads, led-on, opened}
 use Rattle.scenario_run.proofs.Running.{GoesOn, line-leads, line-opens}
 use Rattle.law_transcripts.proofs.Numbers.{events-long, turns-long}
-
-abbrev turns_after : List (List ℕ) → PlayNext → List Turn
-turns_after lines next = elim next [ Goes q turns text ↦ turns ++ turns_in next_of q lines | Ends ↦ [] | Refused cause ↦ [] ]
 
 leads-long : (w v : World) (turns : List Turn) → Leads w v turns → v.events ≡ w.events + length turns
 leads-long w v turns leads =
@@ -29,7 +27,7 @@ named-few s [] p led = omega arith
 named-few s (line ∷ lines) p led = by (next_of (Some p) line) refl (named-few s lines)
   where
     by : (next : PlayNext) → next_of (Some p) line ≡ next → Goal s lines
-        → p.world.events + length (turns_after lines next) ≤ burden p.world + suc (length lines) * line_burden
+        → p.world.events + length (turns_after next_of next lines) ≤ burden p.world + suc (length lines) * line_burden
     by Ends is later = omega arith
     by (Refused cause) is later = omega arith
     by (Goes next turns text) is later =
@@ -57,7 +55,7 @@ turns-few (line ∷ lines) = by (next_of None line) refl (turns-few lines)
         (named s limits)
 
     by : (next : PlayNext) → next_of None line ≡ next → length (turns_in next_of None lines) ≤ length lines * line_burden
-        → length (turns_after lines next) ≤ suc (length lines) * line_burden
+        → length (turns_after next_of next lines) ≤ suc (length lines) * line_burden
     by Ends is later = omega arith
     by (Refused cause) is later = omega arith
     by (Goes next turns text) is later =

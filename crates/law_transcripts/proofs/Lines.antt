@@ -23,10 +23,10 @@ use Rattle.scenario_text.specs.declared.line.LineFault.TheVariants.{BadLine}
 use Rattle.scenario_run.specs.Course.{Ends, Goes, Refused, text_in, turns_in}
 use Rattle.scenario_run.specs.Lines.{lines_of}
 use Rattle.scenario_run.specs.Playing.{Play, PlayNext, by_event, draining, first_by, next_by, next_of, shape_in, then_by}
-use Rattle.run_verify.proofs.ImpliedShadow.{log-append}
+use Rattle.scenario_run.proofs.Following.{turns_after}
 use Rattle.run_verify.specs.Told.{Down, Drained, Lost, Made, Placed, Shown, Told, count_placed, drained_line, lines_told, place_lines, placed_line, run_lines, told_lines}
 use Rattle.law_transcripts.proofs.Joining.{lines-joined}
-use Rattle.law_transcripts.proofs.Parts.{back-all, front-all}
+use Rattle.law_transcripts.proofs.Parts.{back-all, front-all, log-append}
 use Rattle.law_transcripts.proofs.Plain.{Plain, append, number}
 use Rattle.law_transcripts.proofs.PlainTexts as plain
 use Rattle.law_transcripts.proofs.Written.{lines-append, text-joined, told_from}
@@ -112,16 +112,13 @@ line-plain None (Ok l) = by (first_by l)
     by Ends = tt
     by (Refused cause) = tt
 
-abbrev turns_after : List (List ℕ) → PlayNext → List Turn
-turns_after lines next = elim next [ Goes q turns text ↦ turns ++ turns_in next_of q lines | Ends ↦ [] | Refused cause ↦ [] ]
-
 pub told-plain : (p : Option Play) (lines : List (List ℕ)) → All PlainKey (log_of (turns_in next_of p lines)) → All Plain (lines_told (told_along p lines))
 told-plain p [] keys = All-nil Plain
 told-plain p (line ∷ lines) keys = by (next_of p line) (line-plain p (line_of (shape_in p) line)) (λ q. told-plain q lines) keys
   where
     by : (next : PlayNext) → TellsPlainly next (told_on p (line_of (shape_in p) line))
         → ((q : Option Play) → All PlainKey (log_of (turns_in next_of q lines)) → All Plain (lines_told (told_along q lines)))
-        → All PlainKey (log_of (turns_after lines next)) → All Plain (lines_told (told_from p line lines next))
+        → All PlainKey (log_of (turns_after next_of next lines)) → All Plain (lines_told (told_from p line lines next))
     by Ends own later keys = All-nil Plain
     by (Refused cause) own later keys = All-nil Plain
     by (Goes q turns text) own later keys =

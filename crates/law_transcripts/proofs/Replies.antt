@@ -11,9 +11,8 @@ use Rattle.group_calls.specs.declared.event.Answer.TheVariants as answered
 use Rattle.group_calls.specs.declared.event.Event.{Event}
 use Rattle.group_calls.specs.declared.event.Event.TheVariants as happens
 use Rattle.transcript_text.specs.Forms.{FitsReply, MayAnswer, kind_of}
-use Rattle.run_verify.proofs.ExactEntries.{get-front}
-use Rattle.run_verify.proofs.ImpliedShadow.{log-append}
 use Rattle.law_transcripts.proofs.Logs.{FitsLogged, all-each, all-get, logged-there}
+use Rattle.law_transcripts.proofs.Parts.{get-front, log-append}
 
 -- a reply that the event can have is within its limits
 abbrev pub FitsIfReply : Turn → Type 0

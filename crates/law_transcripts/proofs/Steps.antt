@@ -23,7 +23,7 @@ abbrev pub IsScript : Option Play → List (List ℕ) → Script → Type 0
 IsScript p lines script = (script.steps ≡ steps_along p lines) × (shape_in (named_in next_of p lines) ≡ Some script.shape)
 
 -- the steps from a line on, by what it does
-abbrev steps_from : Option Play → List ℕ → List (List ℕ) → PlayNext → List Step
+abbrev pub steps_from : Option Play → List ℕ → List (List ℕ) → PlayNext → List Step
 steps_from p line lines next = elim next [ Goes q turns text ↦ steps_on p (line_of (shape_in p) line) ++ steps_along q lines | Ends ↦ [] | Refused cause ↦ [] ]
 
 abbrev Goal : List (List ℕ) → Type 0

@@ -24,6 +24,7 @@ use Rattle.scenario_text.specs.declared.line.LineFault.TheVariants.{BadLine}
 use Rattle.scenario_run.specs.Course.{Ends, Goes, Refused, turns_in}
 use Rattle.scenario_run.specs.Playing.{Play, PlayNext, by_event, draining, next_by, next_of, shape_in, then_by}
 use Rattle.scenario_run.proofs.Draining.{burden, drains, line_burden, load-opening}
+use Rattle.scenario_run.proofs.Following.{turns_after}
 use Rattle.scenario_run.proofs.Leading.{IsLedTo, led-on, opened}
 use Rattle.scenario_run.proofs.Running.{GoesOn, line-leads, line-opens}
 use Rattle.transcript_text.specs.Forms.{MayAnswer, kind_of}
@@ -35,7 +36,9 @@ use Rattle.law_transcripts.proofs.Deliveries.{draining-delivers}
 use Rattle.law_transcripts.proofs.Numbers.{answer-fits, events-long, turns-long}
 use Rattle.law_transcripts.proofs.Parts.{back-all, front-all}
 use Rattle.law_transcripts.proofs.Replies.{FitsIfReply}
+use Rattle.law_transcripts.proofs.Steps.{steps_from}
 use Rattle.law_transcripts.proofs.Telling.{looked, steps_along, steps_by, steps_on, told_along, told_by, told_on}
+use Rattle.law_transcripts.proofs.Written.{told_from}
 
 tells-append : (xs ys : List Step) (ts us : List Told) → TellAll xs ts → TellAll ys us → TellAll (xs ++ ys) (ts ++ us)
 tells-append [] ys [] us first more = more
@@ -119,15 +122,6 @@ module _ (s : Dimensions) where
 
 -- ---- along a script
 
-abbrev steps_from : Option Play → List ℕ → List (List ℕ) → PlayNext → List Step
-steps_from p line lines next = elim next [ Goes q turns text ↦ steps_on p (line_of (shape_in p) line) ++ steps_along q lines | Ends ↦ [] | Refused cause ↦ [] ]
-
-abbrev told_from : Option Play → List ℕ → List (List ℕ) → PlayNext → List Told
-told_from p line lines next = elim next [ Goes q turns text ↦ told_on p (line_of (shape_in p) line) ++ told_along q lines | Ends ↦ [] | Refused cause ↦ [] ]
-
-abbrev turns_after : List (List ℕ) → PlayNext → List Turn
-turns_after lines next = elim next [ Goes q turns text ↦ turns ++ turns_in next_of q lines | Ends ↦ [] | Refused cause ↦ [] ]
-
 -- what is told of lines is for their steps
 abbrev TellsAlong : Option Play → List (List ℕ) → Type 0
 TellsAlong p lines = All FitsIfReply (turns_in next_of p lines) → TellAll (steps_along p lines) (told_along p lines)
@@ -141,7 +135,7 @@ named-tells s (line ∷ lines) p led few fits = by (next_of (Some p) line) refl 
   where
     by : (next : PlayNext) → next_of (Some p) line ≡ next
         → TellsNext next (steps_on (Some p) (line_of (Some p.world.shape) line)) (told_on (Some p) (line_of (Some p.world.shape) line)) → Goal s lines
-        → All FitsIfReply (turns_after lines next) → TellAll (steps_from (Some p) line lines next) (told_from (Some p) line lines next)
+        → All FitsIfReply (turns_after next_of next lines) → TellAll (steps_from (Some p) line lines next) (told_from (Some p) line lines next)
     by Ends is own later fits = tt
     by (Refused cause) is own later fits = tt
     by (Goes next turns text) is own later fits =
@@ -166,7 +160,7 @@ script-tells (line ∷ lines) few fits = by (next_of None line) refl (script-tel
     either next (inl none) later = subst (λ (q : Option Play). TellsAlong q lines) (sym none) later
     either next (inr (s, limits, some)) later = subst (λ (q : Option Play). TellsAlong q lines) (sym some) (named s limits)
 
-    by : (next : PlayNext) → next_of None line ≡ next → TellsAlong None lines → All FitsIfReply (turns_after lines next)
+    by : (next : PlayNext) → next_of None line ≡ next → TellsAlong None lines → All FitsIfReply (turns_after next_of next lines)
         → TellAll (steps_from None line lines next) (told_from None line lines next)
     by Ends is later fits = tt
     by (Refused cause) is later fits = tt

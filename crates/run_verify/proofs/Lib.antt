@@ -7,7 +7,7 @@ mod ImpliedCourse
 mod ImpliedHeads
 mod ImpliedItems
 mod ImpliedPlaces
-pub mod ImpliedShadow
+mod ImpliedShadow
 mod ImpliedShown
 mod ImpliedStands
 mod ImpliedSteps
@@ -22,7 +22,7 @@ pub mod Duties
 pub mod Entering
 pub mod Exact
 mod ExactAhead
-pub mod ExactEntries
+mod ExactEntries
 pub mod ExactFits
 mod ExactKnown
 pub mod ExactLimits
