@@ -1,29 +1,67 @@
 #!/bin/sh
-# Memory that a group of four data processes and two parity processes holds for each byte of its values, of 4 KiB each, links drained and
-# its log left out, by hand: sh bench/memory.sh [PROGRAM]. It is the difference of two scripts that log as much: 8,000 sets on as many
-# keys, and 8,000 on half of them. Resident bytes at their most, as /usr/bin/time tells them.
+# Memory that a group holds, in all its processes, links drained and its log left out: bytes for each byte of values of 4 KiB at 4 2, and bytes for an
+# item of 100 bytes with a key of 20 at 1 0 and at 4 2; and what memcached, and redis with two replicas, hold for such an item, where they are installed.
+# By hand: sh bench/memory.sh [PROGRAM]. A group's is the difference of two scripts that log as much: sets on so many keys, and as many on half of them.
+# Resident bytes at their most, as /usr/bin/time tells them; a server's as /proc does, before and behind 500,000 items.
 set -eu
 top=$(cd "$(dirname "$0")/.." && pwd)
 program=${1:-$top/crates/cocytus_main/out/cocytus_main}
 work=$(mktemp -d)
-trap 'rm -rf "$work"' EXIT
+pids=
+trap 'for pid in $pids; do kill "$pid" 2> /dev/null || true; done; rm -rf "$work"' EXIT
 
+# A script of so many sets on so many keys, of values of so many bytes.
 sets() {
-    awk -v keys="$1" "$(cat "$top/bench/home.awk")"'
+    awk -v shape="$1" -v count="$2" -v keys="$3" -v len="$4" "$(cat "$top/bench/home.awk")"'
     BEGIN {
-        print "group 4 2 4096 4096"
-        for (n = 0; n < 8000; n++) {
-            key = "k" (n % keys)
-            printf "ask 0 d%d set %s 0 *4096*%02x\ndrain\n", home(key), key, n % 256
+        print "group " shape " 4096 4096"
+        for (n = 0; n < count; n++) {
+            key = sprintf("k%019d", n % keys)
+            printf "ask 0 d%d set %s 0 *%d*%02x\ndrain\n", shape == "1 0" ? 0 : home(key), key, len, n % 256
         }
     }'
 }
 
 kilobytes() {
-    sets "$1" > "$work/script"
+    sets "$@" > "$work/script"
     /usr/bin/time -f %M "$program" play < "$work/script" 2>&1 > "$work/out" | tail -1
 }
 
-half=$(kilobytes 4000)
-all=$(kilobytes 8000)
-echo "$half $all" | awk '{ printf "8,000 values: %d KB, 4,000 values set twice: %d KB, %.2f bytes a value byte\n", $2, $1, ($2 - $1) / (4000 * 4) }'
+half=$(kilobytes "4 2" 8000 4000 4096)
+all=$(kilobytes "4 2" 8000 8000 4096)
+echo "$half $all" | awk '{ printf "8,000 values of 4 KiB at 4 2: %d KB, 4,000 set twice: %d KB, %.2f bytes a value byte\n", $2, $1, ($2 - $1) / (4000 * 4) }'
+for shape in "1 0" "4 2"; do
+    half=$(kilobytes "$shape" 80000 40000 100)
+    all=$(kilobytes "$shape" 80000 80000 100)
+    echo "$half $all" | awk -v shape="$shape" '{ printf "80,000 items of 100 bytes at %s: %d KB, 40,000 set twice: %d KB, %.0f bytes an item\n", shape, $2, $1, ($2 - $1) * 1024 / 40000 }'
+done
+
+resident() {
+    for pid in $pids; do grep VmRSS "/proc/$pid/status"; done | awk '{ sum += $2 } END { print sum }'
+}
+
+# Fills a peer that was started, and tells what it holds for an item.
+filled() {
+    sleep 1
+    before=$(resident)
+    python3 "$top/bench/memory/fill.py" "$2" "$3" 500000
+    sleep 1
+    resident | awk -v name="$1" -v before="$before" '{ printf "%s: %.0f bytes an item\n", name, ($1 - before) * 1024 / 500000 }'
+    for pid in $pids; do kill "$pid"; done
+    pids=
+}
+
+if command -v memcached > /dev/null; then
+    memcached -u nobody -l 127.0.0.1 -p 21311 -m 1024 & pids=$!
+    filled memcached 21311 memcached
+fi
+if command -v redis-server > /dev/null; then
+    for port in 21312 21313 21314; do
+        set -- --port $port --bind 127.0.0.1 --save '' --dir "$work"
+        if [ $port != 21312 ]; then set -- "$@" --replicaof 127.0.0.1 21312; fi
+        redis-server "$@" > /dev/null & pids="$pids $!"
+        sleep 1
+    done
+    sleep 2
+    filled "redis with two replicas" 21312 redis
+fi

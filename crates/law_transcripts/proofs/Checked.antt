@@ -1,11 +1,11 @@
--- A transcript that is played is checked.
+-- A transcript that is played is checked, and so verified.
 use Rattle.std.proofs.Common.{ℕ, ◌≡◌, ◌≤◌, Bool, true, false, nat_lt, List, [], length, Option, Some, None, if◌then◌else◌, refl, sym, subst, arith}
 use Rattle.std.proofs.lemmas.Bool.Decides.{nat_tests}
 use Rattle.scenario_text.specs.declared.line.LineFault.{LineFault}
 use Rattle.scenario_text.specs.declared.line.LineFault.TheVariants as line
 use Rattle.scenario_run.specs.Course.{Fault}
 use Rattle.scenario_run.specs.Lines.{lines_of}
-use Rattle.scenario_run.specs.Script.{first_fault}
+use Rattle.scenario_run.specs.Script.{first_fault, transcript}
 use Rattle.scenario_run.proofs.Promises.{scripts_keep_promises}
 use Rattle.scenario_play.specs.Language.{group_scripts, told_in}
 use Rattle.scenario_play.specs.Status.{longest_script, told_at, told_of, verdict}
@@ -14,8 +14,11 @@ use Rattle.run_verify.specs.Checked.{AreWellShown}
 use Rattle.run_verify.specs.Plain.{EndsPlacing}
 use Rattle.run_verify.specs.Told.{runs_told}
 use Rattle.run_verify.specs.declared.step.Step.{Step}
+use Rattle.run_verify.specs.Sheet.{Sheet}
+use Rattle.run_verify.specs.declared.verdict.Verdict.TheVariants.{Verified, Refused}
+use Rattle.run_verify.proofs.Exact.{verdicts_are_exact}
 use Rattle.run_verify.proofs.PlainScript.{ends-first}
-use Rattle.law_transcripts.specs.Transcripts.{TranscriptsAreChecked}
+use Rattle.law_transcripts.specs.Transcripts.{TranscriptsAreChecked, TranscriptsAreVerified}
 use Rattle.law_transcripts.proofs.Half.{IsToldBy, told-by}
 use Rattle.law_transcripts.proofs.ShownTrue.{IsTold, told-true}
 use Rattle.law_transcripts.proofs.Telling.{steps_along, told_along}
@@ -66,3 +69,9 @@ transcripts_are_checked text script done ok = record {
 
     all : IsTold script.shape (steps_along None (lines_of text)) (told_along None (lines_of text))
     all = told-true text script.shape (scripts_keep_promises text fine) lines.shape ends
+
+pub transcripts_are_verified : TranscriptsAreVerified
+transcripts_are_verified text both script (Verified entries shown) done ok is short verdict = tt
+transcripts_are_verified text both script (Refused n) done ok is short verdict =
+    let sheet : Sheet = record { script = script; lines = lines_of (transcript text) } in
+    verdicts_are_exact both (Refused n) short verdict (sheet, is, transcripts_are_checked text script done ok)

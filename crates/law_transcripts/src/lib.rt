@@ -3,9 +3,14 @@
 //! the lines mean to `scenario_run`.
 #![tactic(auto)]
 
-ghost use Rattle.law_transcripts.specs.Transcripts.{TranscriptsAreChecked};
+ghost use Rattle.law_transcripts.specs.Transcripts.{TranscriptsAreChecked, TranscriptsAreVerified};
 
 /// Where `play` ends with `Done` and `verify` takes the script, the transcript is checked.
 pub fn transcripts_are_checked()
     ensures { TranscriptsAreChecked }
+{}
+
+/// So the verdict on the script, the line `====` and the transcript, in one text of at most 64 MiB, is a yes.
+pub fn transcripts_are_verified()
+    ensures { TranscriptsAreVerified }
 {}
