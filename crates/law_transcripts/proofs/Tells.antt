@@ -22,7 +22,7 @@ use Rattle.scenario_text.specs.declared.line.Line.TheVariants.{Skipped, Group, A
 use Rattle.scenario_text.specs.declared.line.LineFault.{LineFault}
 use Rattle.scenario_text.specs.declared.line.LineFault.TheVariants.{BadLine}
 use Rattle.scenario_run.specs.Course.{Ends, Goes, Refused, turns_in}
-use Rattle.scenario_run.specs.Playing.{Play, PlayNext, by_event, draining, next_by, next_of, shape_in, then_by}
+use Rattle.scenario_run.specs.Playing.{Play, PlayNext, by_event, draining, next_by, next_of, then_by}
 use Rattle.scenario_run.proofs.Draining.{burden, drains, line_burden, load-opening}
 use Rattle.scenario_run.proofs.Following.{turns_after}
 use Rattle.scenario_run.proofs.Leading.{IsLedTo, led-on, opened}

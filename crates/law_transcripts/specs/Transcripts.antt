@@ -1,5 +1,5 @@
 -- What is promised of the transcripts that are played.
-use Rattle.std.specs.Prelude.{ℕ, ◌≡◌, ◌≤◌, List, length, None, Ok, ⊤, ⊥}
+use Rattle.std.specs.Prelude.{ℕ, ◌≡◌, ◌≤◌, List, length, None, Ok, ⊤}
 use Rattle.scenario_run.specs.Lines.{lines_of}
 use Rattle.scenario_run.specs.Script.{transcript}
 use Rattle.scenario_play.specs.Language.{group_scripts, told_in}
