@@ -8,6 +8,7 @@ use std::alloc::Global;
 use std::process::Abort;
 use steps::{Step, adopted, empty, receive};
 
+mod coming;
 mod steps;
 
 // A step, with the longest place while its update waits, and what is there once it is settled.

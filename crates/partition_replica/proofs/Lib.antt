@@ -1,7 +1,12 @@
 pub mod Agree
+pub mod Behind
+pub mod Coming
+pub mod Covered
+pub mod Fits
 pub mod Indices
 pub mod Keys
 pub mod Listing
+pub mod Meeting
 pub mod Moving
 pub mod Owners
 pub mod Places

@@ -1,4 +1,5 @@
 pub mod State
 pub mod Sound
 pub mod Moves
+pub mod Coming
 pub mod Inside

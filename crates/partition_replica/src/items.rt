@@ -19,7 +19,8 @@ pub fn prepare(index: &mut Index<Key>, updates: &[Update]) -> Result<(), AllocEr
     ensures items { items_in index.new ≡ items_in index.old }
     ensures kept { (q : List ℕ) → is_among (ready_in index.old) q ≡ true → is_among (ready_in index.new) q ≡ true }
     ensures ready { OnOk result (All (λ u. is_among (ready_in index.new) u.key ≡ true) updates.now) }
-    ensures most { (q : List ℕ) → is_among (ready_in index.new) q ≡ true → (is_among (ready_in index.old) q || is_touched updates.now q) ≡ true }
+    ensures most { (q : List ℕ) → is_among (ready_in index.new) q ≡ true
+        → (is_among (ready_in index.old) q || is_touched updates.now q) ≡ true }
     ensures succeeds { All (λ u. is_among (ready_in index.old) u.key ≡ true) updates.now → IsOk result }
 {
     'updates: for update in updates {
@@ -57,7 +58,8 @@ pub fn settle(index: &mut Index<Key>, update: &Update)
 
 /// Gives the item on a key, if there is one, another end.
 fn touch(index: &mut Index<Key>, key: &Key, until: Option<u64>)
-    ensures items { (n : ℕ) → items_in index.new ≡ with_slot key.now (slot_after n (Touch until) (slot_in (items_in index.old) key.now)) (items_in index.old) }
+    ensures items { (n : ℕ) → items_in index.new
+        ≡ with_slot key.now (slot_after n (Touch until) (slot_in (items_in index.old) key.now)) (items_in index.old) }
     ensures ready { ready_in index.new ≡ ready_in index.old }
 {
     if let Some(slot) = index.get(key) {
@@ -70,7 +72,8 @@ fn touch(index: &mut Index<Key>, key: &Key, until: Option<u64>)
 pub fn tidy(index: &mut Index<Key>, log: &Log<Updates>, key: &Key)
     ensures items { items_in index.new ≡ items_in index.old }
     ensures ready { (q : List ℕ) → is_among (ready_in index.new) q
-        ≡ (is_among (ready_in index.old) q && (not (same_key key.now q) || is_needed (items_in index.old) log.now.updates q)) }
+        ≡ (is_among (ready_in index.old) q && (not (same_key key.now q) || is_needed (items_in index.old)
+        log.now.updates q)) }
 {
     if log.holds_key(key).is_none() {
         index.tidy(key);
@@ -81,7 +84,8 @@ pub fn tidy(index: &mut Index<Key>, log: &Log<Updates>, key: &Key)
 pub fn tidy_dropped(index: &mut Index<Key>, log: &Log<Updates>, dropped: &[Update])
     ensures items { items_in index.new ≡ items_in index.old }
     ensures ready { (q : List ℕ) → is_among (ready_in index.new) q
-        ≡ (is_among (ready_in index.old) q && (not (list_any (λ u. same_key u.key q) dropped.now) || is_needed (items_in index.old) log.now.updates q)) }
+        ≡ (is_among (ready_in index.old) q && (not (list_any (λ u. same_key u.key q) dropped.now) || is_needed
+        (items_in index.old) log.now.updates q)) }
 {
     'dropped: for update in dropped {
         tidy(index, log, &update.key);

@@ -4,8 +4,11 @@
 //! machine's free addresses is inside the type. The bytes of the values are left to the processes.
 #![tactic(auto)]
 
+mod clear;
 mod items;
+mod left;
 mod replica;
+mod returned;
 mod runs;
 mod updates;
 

@@ -18,6 +18,7 @@ use run_alloc::FreeRuns;
 use std::alloc::{AllocError, Global};
 use std::marker::Model;
 
+mod coming;
 mod listing;
 mod moves;
 mod room;
@@ -126,7 +127,8 @@ impl Replica {
     pub fn place(&self, len: u32) -> Option<Run>
         ensures place { result ≡ place_for (space_of self.now.shape) self.now.replica len }
         ensures run { IfSome result (λ run. IsRunOf (space_of self.now.shape) len run) }
-        ensures free { IfSome result (λ run. AllFree (is_free (space_of self.now.shape) self.now.replica) run.at run.len) }
+        ensures free { IfSome result (λ run. AllFree (is_free (space_of self.now.shape) self.now.replica) run.at
+            run.len) }
     {
         if len == 0 {
             return Some(Run { at: 0, len });

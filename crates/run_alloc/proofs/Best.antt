@@ -272,3 +272,35 @@ joined_by old mid last new run wide widest first second joined = record {
       joined.spread high (second.inside high (first.inside high inside spread) mid_spread) (second.spread high mid_spread);
   given = λ a. joined.given a ∙ second.given a ∙ first.given a;
 }
+
+-- where the last run that begins at or below an address ends, or at the address, none is free
+module _ (runs : List Run) (size : ℕ) (spread : IsSpread 0 runs (size + 1)) (at : ℕ) (run : Run) (last : IsLastBelow (λ (r : Run). r.at) runs (at + 1) run) where
+  there : Contains runs run
+  there = adds_has (last.before ++ last.after) runs run (record { before = last.before; after = last.after; was = refl; is = last.parts })
+
+  pub run_free_to : (to : ℕ) → to ≤ run.at + run.len → AllFree (in_runs runs) at (to - at)
+  run_free_to to ends a low high = contained runs run a there (in_run-inside run.at run.len a (omega (arith, last.below)) (omega arith))
+
+  pub end_taken : in_runs runs (run.at + run.len) ≡ false
+  end_taken = elim (cases_lt (run.at + run.len) size) [
+    | inl below ↦ (kept_is_free runs size spread run there).above below
+    | inr above ↦ in_runs-above runs 0 (size + 1) (run.at + run.len) spread (omega arith)
+  ]
+
+  pub behind_taken : run.at + run.len ≤ at → in_runs runs at ≡ false
+  behind_taken ends = elim (in_runs runs at) as (λ b. in_runs runs at ≡ b → b ≡ false) [
+    | false ↦ λ _. refl
+    | true ↦ λ is. absurd (omega (arith, last_holds runs size spread at 1 run (omega arith) (λ a low high. subst (λ (x : ℕ). in_runs runs x ≡ true) (omega arith) is) last, ends))
+  ] refl
+
+pub free_set_reads : (runs : List Run) (a : ℕ) → in_runs runs a ≡ false → set.contains (free_set runs) a ≡ false
+free_set_reads runs a is = contains-free_set runs a ∙ is
+
+pub all_free_in_set : (runs : List Run) (at len : ℕ) → AllFree (in_runs runs) at len → AllFree (λ a. set.contains (free_set runs) a) at len
+all_free_in_set runs at len free a low high = contains-free_set runs a ∙ free a low high
+
+pub not_free : (runs : List Run) (at : ℕ) → All (λ (r : Run). at + 1 ≤ r.at) runs → in_runs runs at ≡ false
+not_free runs at above = elim (in_runs runs at) as (λ b. in_runs runs at ≡ b → b ≡ false) [
+  | false ↦ λ _. refl
+  | true ↦ λ is. absurd (none_to runs at is above)
+] refl

@@ -3,7 +3,7 @@
 //! kept. What the addresses hold is left to the caller.
 #![tactic(auto)]
 
-ghost use Rattle.std.specs.Prelude.{◌≡◌, ℕ, ◌+◌, ◌<◌, ◌≤◌, ◌^◌, ◌||◌, ◌&&◌, Some, codes, max, nat_lt, not, IfOk, IsOk, OnOk, OnErr, MatchOption, MatchResult};
+ghost use Rattle.std.specs.Prelude.{◌≡◌, ℕ, ◌+◌, ◌-◌, ◌<◌, ◌≤◌, ◌^◌, ◌||◌, ◌&&◌, Some, codes, max, nat_lt, not, false, IfOk, IsOk, OnOk, OnErr, MatchOption, MatchResult};
 ghost use Rattle.run_alloc.specs.Free.{is_free, in_run, AllFree, NoneFree, IsPlace, NoPlace};
 
 use cuts::carve;
@@ -93,6 +93,19 @@ impl FreeRuns {
     {
         let run = self.kept.shortest(len)?;
         Some(run.at)
+    }
+
+    /// The end of the free run that an address is in, or the address itself where it isn't free.
+    pub fn free_to(&self, at: u32) -> u32
+        ensures reaches { at ≤ result }
+        ensures free { AllFree (is_free self.now) at (result - at) }
+        ensures ends { is_free self.now result ≡ false }
+    {
+        let Some(run) = self.kept.last_to(at) else {
+            return at;
+        };
+        let end = run.at + run.len;
+        if at < end { end } else { at }
     }
 
     /// Takes the first `len` addresses of the shortest free run that has as many, the lowest on a

@@ -40,7 +40,8 @@ impl Replica {
         ensures shape { self.new.shape ≡ self.old.shape }
         ensures replica { self.new.replica ≡ applied_to (self.old.replica.applied + 1) self.old.replica }
         ensures room { self.new.room ≡ self.old.room }
-        ensures owed { (owed : List ℕ → Bool) → IsTidyBut self.old owed → IsTidyBut self.new (λ q. owed q || is_touched (option_to_list result) q) }
+        ensures owed { (owed : List ℕ → Bool) → IsTidyBut self.old owed
+            → IsTidyBut self.new (λ q. owed q || is_touched (option_to_list result) q) }
     {
         let update = self.log.apply_next()?;
         items::settle(&mut self.index, &update);
@@ -60,7 +61,8 @@ impl Replica {
         requires base { base ≤ self.old.replica.applied }
         requires numbers { IsNumbered (λ u. u.number) base list }
         requires reach { self.old.replica.applied ≤ base + length list }
-        requires fits { AllCanCome (space_of self.old.shape) (with_log [] self.old.replica) (drop (self.old.replica.applied - base) list) }
+        requires fits { AllCanCome (space_of self.old.shape) (with_log [] self.old.replica)
+            (drop (self.old.replica.applied - base) list) }
         requires room { HasRoom self.old.room list }
         ensures shape { self.new.shape ≡ self.old.shape }
         ensures replica { self.new.replica ≡ with_log (drop (self.old.replica.applied - base) list) self.old.replica }

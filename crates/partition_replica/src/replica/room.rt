@@ -20,7 +20,8 @@ impl Replica {
         ensures ok { OnOk result (HasRoom self.new.room (update.now ∷ [])) }
         ensures kept { (us : List Update) → HasRoom self.old.room us → HasRoom self.new.room us }
         ensures most { GrowsFor self.old.room self.new.room (update.now ∷ []) }
-        ensures owed { (owed : List ℕ → Bool) → IsTidyBut self.old owed → IsTidyBut self.new (λ q. owed q || is_touched (update.now ∷ []) q) }
+        ensures owed { (owed : List ℕ → Bool) → IsTidyBut self.old owed
+            → IsTidyBut self.new (λ q. owed q || is_touched (update.now ∷ []) q) }
         ensures err { OnErr result (self.new.room.spare ≡ self.old.room.spare) }
         ensures succeeds { HasRoom self.old.room (update.now ∷ []) → IsOk result }
     {
@@ -35,7 +36,8 @@ impl Replica {
         ensures ok { OnOk result (HasRoom self.new.room list.now) }
         ensures kept { (us : List Update) → HasRoom self.old.room us → HasRoom self.new.room us }
         ensures most { GrowsFor self.old.room self.new.room list.now }
-        ensures owed { (owed : List ℕ → Bool) → IsTidyBut self.old owed → IsTidyBut self.new (λ q. owed q || is_touched list.now q) }
+        ensures owed { (owed : List ℕ → Bool) → IsTidyBut self.old owed
+            → IsTidyBut self.new (λ q. owed q || is_touched list.now q) }
         ensures err { OnErr result (self.new.room.spare ≡ self.old.room.spare) }
         ensures succeeds { HasRoom self.old.room list.now → IsOk result }
     {
@@ -84,7 +86,8 @@ impl Replica {
         ensures spare { self.new.room.spare ≡ self.old.room.spare }
         ensures ready { (q : List ℕ) → is_among self.new.room.ready q ≡ (is_among self.old.room.ready q
             && (not (same_key key.now q) || is_needed self.old.replica.items self.old.replica.log q)) }
-        ensures owed { (owed : List ℕ → Bool) → IsTidyBut self.old owed → IsTidyBut self.new (λ q. owed q && not (same_key key.now q)) }
+        ensures owed { (owed : List ℕ → Bool) → IsTidyBut self.old owed
+            → IsTidyBut self.new (λ q. owed q && not (same_key key.now q)) }
     {
         items::tidy(&mut self.index, &self.log, key);
     }
