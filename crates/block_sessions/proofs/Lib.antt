@@ -3,6 +3,7 @@ pub mod Blocks
 pub mod Arrived
 pub mod Places
 pub mod Walks
+pub mod Asking
 pub mod Lost
 pub mod Rooms
 pub mod Keeping

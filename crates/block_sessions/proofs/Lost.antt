@@ -44,7 +44,7 @@ range_below n i d below =
 pub known_below : (k : ℕ) (lost : List ℕ) → All (λ d. d < k) (known_of k lost)
 known_below k lost = All-filter (λ d. not (list_any (λ l. l == d) lost)) (λ d. d < k) (range_with_len 0 k) (range_below k)
 
-any_at : (lost : List ℕ) (d i : ℕ) → i < length lost → get_or lost i d ≡ d → list_any (λ l. l == d) lost ≡ true
+pub any_at : (lost : List ℕ) (d i : ℕ) → i < length lost → get_or lost i d ≡ d → list_any (λ l. l == d) lost ≡ true
 any_at [] d i below here = absurd (omega arith)
 any_at (l ∷ ls) d zero below here = ap (λ t. t || list_any (λ x. x == d) ls) (eq-eqb l d here)
 any_at (l ∷ ls) d (suc i) below here = by (any_at ls d i (omega arith) here) (l == d)

@@ -10,6 +10,8 @@ use group_types::{Piece, PieceList};
 use std::alloc::{AllocError, Global};
 use std::marker::Model;
 
+mod coming;
+
 /// Pieces that are awaited, and which of them came.
 #[derive(Debug, Drop)]
 pub(crate) struct Arrivals {

@@ -40,7 +40,8 @@ pub(crate) fn missing(shape: Shape, pages: &Pages, run: Run) -> Option<u32>
 pub(crate) fn read(shape: Shape, pages: &Pages, run: Run) -> Result<ByteList, AllocError>
     requires holds { HoldsBlocks shape 0 pages.now }
     requires within { LiesIn run shape }
-    ensures bytes { IfOk result (λ bytes. bytes ≡ map (byte_in_blocks shape.block (rebuilt_in pages.now)) (range_with_len run.at run.len)) }
+    ensures bytes { IfOk result (λ bytes. bytes
+        ≡ map (byte_in_blocks shape.block (rebuilt_in pages.now)) (range_with_len run.at run.len)) }
     ensures length { IfOk result (λ bytes. length bytes ≡ run.len) }
 {
     pages.range(run.at, run.len)
@@ -63,7 +64,8 @@ pub(crate) fn add(shape: Shape, d: Partition, update: &Update, pages: &mut Pages
 fn add_run(shape: Shape, at: u32, delta: &[u8], pages: &mut Pages)
     requires holds { HoldsBlocks shape 0 pages.old }
     requires within { at + length delta.now ≤ space_of shape }
-    ensures blocks { (b : ℕ) → page_in pages.new b ≡ option_map (area_added (b * shape.block) at delta.now) (page_in pages.old b) }
+    ensures blocks { (b : ℕ) → page_in pages.new b
+        ≡ option_map (area_added (b * shape.block) at delta.now) (page_in pages.old b) }
     ensures holds { (most : ℕ) → HoldsBlocks shape most pages.old → HoldsBlocks shape most pages.new }
 {
     if delta.is_empty() {
@@ -83,7 +85,8 @@ pub(crate) fn keep(shape: Shape, block: u32, bytes: ByteList, pages: &mut Pages)
     requires holds { HoldsBlocks shape 1 pages.old }
     requires below { block < shape.blocks }
     requires whole { length bytes ≡ shape.block }
-    ensures kept { rebuilt_in pages.new ≡ kept_unless (is_some (at None (rebuilt_in pages.old) block)) block bytes (rebuilt_in pages.old) }
+    ensures kept { rebuilt_in pages.new
+        ≡ kept_unless (is_some (at None (rebuilt_in pages.old) block)) block bytes (rebuilt_in pages.old) }
     ensures holds { (most : ℕ) → HoldsBlocks shape most pages.old → HoldsBlocks shape (most - 1) pages.new }
 {
     if !pages.has(block) {

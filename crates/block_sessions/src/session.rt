@@ -51,7 +51,8 @@ impl OpenSession {
     pub(crate) fn block(&mut self, d: u32, bytes: &ByteList)
         requires awaited { Contains self.old.known.numbers d }
         requires whole { length bytes.now ≡ self.old.known.block }
-        ensures gathering { gathering_of self.new ≡ record (gathering_of self.old) { blocks_in = put None self.old.known.parts d (Some bytes.now) } }
+        ensures gathering { gathering_of self.new
+            ≡ record (gathering_of self.old) { blocks_in = put None self.old.known.parts d (Some bytes.now) } }
         ensures sound { (s : Dimensions) → IsOpen s self.old → IsOpen s self.new }
     {
         self.known.put(d, bytes.bytes());
@@ -61,7 +62,8 @@ impl OpenSession {
     pub(crate) fn row(&mut self, i: u32, bytes: &[u8])
         requires awaited { Contains self.old.coded.numbers i }
         requires whole { length bytes.now ≡ self.old.coded.block }
-        ensures gathering { gathering_of self.new ≡ record (gathering_of self.old) { rows_in = put None self.old.coded.parts i (Some bytes.now) } }
+        ensures gathering { gathering_of self.new
+            ≡ record (gathering_of self.old) { rows_in = put None self.old.coded.parts i (Some bytes.now) } }
         ensures sound { (s : Dimensions) → IsOpen s self.old → IsOpen s self.new }
     {
         self.coded.put(i, bytes);

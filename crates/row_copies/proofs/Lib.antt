@@ -1,4 +1,5 @@
 pub mod Areas
+pub mod Awaiting
 pub mod Each
 pub mod Marked
 pub mod Added

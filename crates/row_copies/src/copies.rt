@@ -29,7 +29,8 @@ pub fn add(copies: &mut Vec<Copy>, shape: Shape, number: u32, d: Partition, upda
     requires partition { d.0 < shape.k }
     ensures len { vec_len copies.new ≡ vec_len copies.old }
     ensures capacity { vec_capacity copies.new ≡ vec_capacity copies.old }
-    ensures copies { copies.new.items ≡ map (copy_after shape (ParityNode number) d.0 (update.now ∷ [])) copies.old.items }
+    ensures copies { copies.new.items
+        ≡ map (copy_after shape (ParityNode number) d.0 (update.now ∷ [])) copies.old.items }
     ensures whole { All (IsWhole shape) copies.new.items }
 {
     'copies: for place in 0..copies.len() {
@@ -49,7 +50,8 @@ pub fn mark(
     requires whole { All (IsWhole shape) copies.old.items }
     requires each { HaveOneEach copies.old.items }
     requires partition { d.0 < shape.k }
-    ensures copies { copies.new.items ≡ (marking shape d.0 n (copy_in copies.old.items leader number) copies.old.items).copies }
+    ensures copies { copies.new.items
+        ≡ (marking shape d.0 n (copy_in copies.old.items leader number) copies.old.items).copies }
     ensures done { result ≡ (marking shape d.0 n (copy_in copies.old.items leader number) copies.old.items).done }
     ensures whole { IfSome result (IsWhole shape) }
     ensures len { vec_len copies.new ≤ vec_len copies.old }
@@ -64,7 +66,8 @@ pub fn mark(
 
 /// Drops the copies for a leader's sessions up to a number.
 pub fn cease(copies: &mut Vec<Copy>, leader: u32, upto: u64)
-    ensures copies { copies.new.items ≡ filter (λ c. not (c.leader == leader && nat_le c.number upto)) copies.old.items }
+    ensures copies { copies.new.items
+        ≡ filter (λ c. not (c.leader == leader && nat_le c.number upto)) copies.old.items }
     ensures len { vec_len copies.new ≤ vec_len copies.old }
     ensures capacity { vec_capacity copies.new ≡ vec_capacity copies.old }
 {

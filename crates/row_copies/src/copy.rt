@@ -11,6 +11,8 @@ use group_types::{ByteList, Partition, Shape};
 use std::marker::Model;
 use vector_stamp::Stamp;
 
+mod coming;
+
 /// A copy of a block for a session, with the number of each partition that is marked.
 #[derive(Debug, Drop)]
 pub struct Copy {

@@ -13,6 +13,8 @@ use group_types::{ByteList, Partition, ProcessId, Shape};
 use std::alloc::{AllocError, Global};
 use std::marker::Model;
 
+mod coming;
+
 /// What a row keeps for others' sessions: its copies, and the last session that each leader ceased.
 #[derive(Debug, Drop)]
 pub struct Rows {
@@ -101,7 +103,8 @@ impl Rows {
         ensures shape { self.new.shape ≡ self.old.shape }
         ensures number { self.new.number ≡ self.old.number }
         ensures room { self.new.room ≡ self.old.room - 1 }
-        ensures copies { self.new.state.copies ≡ self.old.state.copies ++ unmarked self.old.shape leader number block bytes ∷ [] }
+        ensures copies { self.new.state.copies ≡ self.old.state.copies
+            ++ unmarked self.old.shape leader number block bytes ∷ [] }
         ensures ceased { self.new.state.ceased ≡ self.old.state.ceased }
     {
         self.room -= 1;
@@ -119,8 +122,10 @@ impl Rows {
         ensures shape { self.new.shape ≡ self.old.shape }
         ensures number { self.new.number ≡ self.old.number }
         ensures room { self.new.room ≡ self.old.room }
-        ensures copies { self.new.state.copies ≡ (marking self.old.shape d.0 n (copy_in self.old.state.copies leader number) self.old.state.copies).copies }
-        ensures done { result ≡ (marking self.old.shape d.0 n (copy_in self.old.state.copies leader number) self.old.state.copies).done }
+        ensures copies { self.new.state.copies
+            ≡ (marking self.old.shape d.0 n (copy_in self.old.state.copies leader number) self.old.state.copies).copies }
+        ensures done { result ≡ (marking self.old.shape d.0 n (copy_in self.old.state.copies leader number)
+            self.old.state.copies).done }
         ensures whole { IfSome result (IsWhole self.old.shape) }
         ensures ceased { self.new.state.ceased ≡ self.old.state.ceased }
     {
@@ -133,7 +138,8 @@ impl Rows {
         ensures shape { self.new.shape ≡ self.old.shape }
         ensures number { self.new.number ≡ self.old.number }
         ensures room { self.new.room ≡ self.old.room }
-        ensures state { (p : Process) → p.as_row ≡ self.old.state → self.new.state ≡ (copies_ceased leader upto p).as_row }
+        ensures state { (p : Process) → p.as_row ≡ self.old.state → self.new.state
+            ≡ (copies_ceased leader upto p).as_row }
     {
         copies::cease(&mut self.copies, leader, upto);
         let last = self.ceased[leader as usize];
@@ -145,7 +151,8 @@ impl Rows {
         ensures shape { self.new.shape ≡ self.old.shape }
         ensures number { self.new.number ≡ self.old.number }
         ensures room { self.new.room ≡ self.old.room }
-        ensures state { (p : Process) → p.as_row ≡ self.old.state → self.new.state ≡ (leader_forgotten leader p).as_row }
+        ensures state { (p : Process) → p.as_row ≡ self.old.state → self.new.state
+            ≡ (leader_forgotten leader p).as_row }
     {
         match leader {
             ProcessId::DataNode(_) => {}
@@ -160,7 +167,8 @@ impl Rows {
         ensures shape { self.new.shape ≡ self.old.shape }
         ensures number { self.new.number ≡ self.old.number }
         ensures room { self.new.room ≡ self.old.room }
-        ensures copies { self.new.state.copies ≡ map (copy_after self.old.shape (ParityNode self.old.number) d.0 (update.now ∷ [])) self.old.state.copies }
+        ensures copies { self.new.state.copies
+            ≡ map (copy_after self.old.shape (ParityNode self.old.number) d.0 (update.now ∷ [])) self.old.state.copies }
         ensures ceased { self.new.state.ceased ≡ self.old.state.ceased }
     {
         copies::add(&mut self.copies, self.shape, self.number, d, update);

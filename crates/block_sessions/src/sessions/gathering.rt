@@ -14,6 +14,8 @@ use crate::session::OpenSession;
 use group_types::{ByteList, Shape};
 use page_map::Pages;
 
+mod coming;
+
 impl Sessions {
     /// A block of data process `d` comes in. It takes no memory.
     pub fn block(&mut self, number: u64, d: u32, bytes: &ByteList)
@@ -21,7 +23,8 @@ impl Sessions {
         requires whole { length bytes.now ≡ self.old.shape.block }
         requires known { IfSome (open_session self.old.state number) (λ g. ¬ (Contains g.lost d)) }
         ensures shape { self.new.shape ≡ self.old.shape }
-        ensures state { self.new.state ≡ block_gathered self.old.shape d bytes.now (open_session self.old.state number) self.old.state }
+        ensures state { self.new.state ≡ block_gathered self.old.shape d bytes.now (open_session self.old.state number)
+            self.old.state }
         ensures partitions { length self.new.state.rebuilt ≡ length self.old.state.rebuilt }
     {
         if let Some(place) = self.place_of(number) {
@@ -36,7 +39,8 @@ impl Sessions {
         requires whole { length bytes.now ≡ self.old.shape.block }
         requires awaited { IfSome (open_session self.old.state number) (λ g. Contains g.rows i) }
         ensures shape { self.new.shape ≡ self.old.shape }
-        ensures state { self.new.state ≡ row_gathered self.old.shape i bytes.now (open_session self.old.state number) self.old.state }
+        ensures state { self.new.state ≡ row_gathered self.old.shape i bytes.now (open_session self.old.state number)
+            self.old.state }
         ensures partitions { length self.new.state.rebuilt ≡ length self.old.state.rebuilt }
     {
         if let Some(place) = self.place_of(number) {
@@ -47,7 +51,8 @@ impl Sessions {
 
     // The place of the session of this number.
     fn place_of(&self, number: u64) -> Option<usize>
-        ensures found { open_session self.now.state number ≡ option_and_then (slice_get self.now.state.sessions) result }
+        ensures found { open_session self.now.state number
+            ≡ option_and_then (slice_get self.now.state.sessions) result }
         ensures within { IfSome result (λ place. place < length self.now.state.sessions) }
     {
         self.sessions
@@ -59,7 +64,8 @@ impl Sessions {
     fn gather(&mut self, place: usize)
         requires { place < length self.old.state.sessions }
         ensures shape { self.new.shape ≡ self.old.shape }
-        ensures state { (g : Gathering) → self.new.state ≡ gathered self.old.shape (slice_index_or self.old.state.sessions place g) self.old.state }
+        ensures state { (g : Gathering) → self.new.state
+            ≡ gathered self.old.shape (slice_index_or self.old.state.sessions place g) self.old.state }
         ensures partitions { length self.new.state.rebuilt ≡ length self.old.state.rebuilt }
     {
         if self.sessions[place].is_complete(self.shape) {

@@ -18,7 +18,8 @@ impl Sessions {
         requires numbers { self.old.state.last_session < 2 ^ 62 }
         ensures shape { self.new.shape ≡ self.old.shape }
         ensures number { IfOk result (λ n. n ≡ suc self.old.state.last_session) }
-        ensures state { OnOk result (self.new.state ≡ started self.old.shape block lost.items rows.items self.old.state) }
+        ensures state { OnOk result (self.new.state
+            ≡ started self.old.shape block lost.items rows.items self.old.state) }
         ensures err { OnErr result (self.new ≡ self.old) }
     {
         let number = self.last + 1;
@@ -35,7 +36,8 @@ impl Sessions {
 fn make_room(rebuilt: &mut [Pages], count: usize) -> Result<(), AllocError>
     ensures blocks { map rebuilt_in rebuilt.new ≡ map rebuilt_in rebuilt.old }
     ensures kept { (s : Dimensions) (most : ℕ) → AreRebuilt s most rebuilt.old → AreRebuilt s most rebuilt.new }
-    ensures room { OnOk result ((s : Dimensions) (most : ℕ) → most ≤ count → AreRebuilt s 0 rebuilt.old → AreRebuilt s most rebuilt.new) }
+    ensures room { OnOk result ((s : Dimensions) (most : ℕ) → most ≤ count → AreRebuilt s 0 rebuilt.old
+        → AreRebuilt s most rebuilt.new) }
 {
     'pages: for pages in rebuilt.iter_mut() {
         pages.make_room(count)?;
