@@ -1,3 +1,5 @@
 pub mod Adding
+mod Admitting
 pub mod Fitting
+mod Rows
 pub mod Standing

@@ -1,3 +1,4 @@
+pub mod Coming
 pub mod Values
 pub mod Reading
 pub mod Standing

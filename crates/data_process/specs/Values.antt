@@ -6,6 +6,7 @@ use Rattle.page_map.specs.Spaces.{AllMade}
 use Rattle.value_space.specs.Space.{Space}
 use Rattle.group_run.specs.Process.{Process, opening_process}
 use Rattle.group_run.specs.Replica.{run_of}
+use Rattle.head_service.specs.Storage.{Storage}
 
 -- the number of a data process, and its space
 pub record Holding : Type 0 where
@@ -19,3 +20,7 @@ process_of v = record (opening_process v.space.shape (DataNode v.number)) { spac
 -- an update of partition d can be added: d is one of the group, and the pages of what it writes are made
 abbrev pub IsReady : Holding → ℕ → Update → Type 0
 IsReady v d u = (d < v.space.shape.k) × IfSome (run_of u.body) (λ run. AllMade v.space.shape.block run v.space.made)
+
+-- the values as a head sees them
+abbrev pub storage_of : Holding → Storage
+storage_of v = record { shape = v.space.shape; process = process_of v; made = v.space.made; is_ready = IsReady v }

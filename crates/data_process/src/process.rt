@@ -30,13 +30,14 @@ use crate::values::Values;
 use group_calls::Answer;
 use group_message::{Message, Session};
 use group_types::{Partition, Payload, ProcessId, Rank, Run, Shape, home};
-use head_service::{Asked, Call, CallStep, Sent};
+use head_service::{Asking, Call, CallStep, Sent};
 use membership::Members;
 use memc_table::Op;
 use process_service::{Service, Step};
 use std::alloc::{AllocError, Global};
 use std::marker::Model;
 
+mod coming;
 mod replica;
 
 /// A data process: it heads its own partition, whose values stand in its space.
@@ -86,8 +87,8 @@ impl DataProcess {
         ensures err { OnErr result (self.new.process ≡ self.old.process) }
     {
         match self.service.ask(call, op, &mut self.values)? {
-            Asked::Done(step) => Ok(step),
-            Asked::Need(_) => unreachable!(),
+            Asking::Done(step) => Ok(step),
+            Asking::Need(_) => unreachable!(),
         }
     }
 
@@ -231,7 +232,8 @@ impl DataProcess {
 
     fn read(&self, session: Session, block: u32, rows: &[u32]) -> Result<Step, AllocError>
         requires { block < self.now.shape.blocks }
-        ensures { IfOk result (λ step. read_comes self.now.shape session block rows.now self.now.process self.now.process.name ≡ stepped self.now.process step) }
+        ensures { IfOk result (λ step. read_comes self.now.shape session block rows.now self.now.process
+            self.now.process.name ≡ stepped self.now.process step) }
     {
         Ok(Step {
             sent: read_block(self.alloc, &self.values, session, block, rows, self.stamp())?,

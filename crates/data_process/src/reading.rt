@@ -8,6 +8,8 @@ use group_types::{Partition, ProcessId, Rank};
 use head_service::Sent;
 use std::alloc::{AllocError, Global};
 
+pub mod coming;
+
 /// What is sent where a leader asks for a block: the block at the settled number to the leader, and then a
 /// mark of that number to each row of the session.
 pub fn read_block(

@@ -87,15 +87,9 @@ impl Values {
 }
 
 impl Beneath for Values {
-    ghost use Rattle.data_process.specs.Values.{IsReady, process_of};
+    ghost use Rattle.data_process.specs.Values.{storage_of};
 
-    ghost shape = { λ v. v.space.shape };
-
-    ghost process = { λ v. process_of v };
-
-    ghost made = { λ v. v.space.made };
-
-    ghost is_ready = { λ v d u. IsReady v d u };
+    ghost storage = { λ v. storage_of v };
 
     fn name(&self) -> ProcessId {
         ProcessId::DataNode(self.number)

@@ -1,5 +1,5 @@
 -- What following keeps and asks.
-use Rattle.std.proofs.Common.{ℕ, suc, ◌≡◌, ◌+◌, ◌-◌, ◌≤◌, Bool, ◌||◌, true, false, List, [], ◌∷◌, ◌++◌, length, take, All, is_some, refl, sym, ap, ◌∙◌, subst, arith}
+use Rattle.std.proofs.Common.{ℕ, suc, ◌≡◌, ◌+◌, ◌-◌, ◌≤◌, Bool, ◌||◌, true, false, List, [], ◌∷◌, ◌++◌, drop, length, take, All, is_some, refl, sym, ap, ◌∙◌, subst, arith}
 use Rattle.std.proofs.Math.Bool.{or-true}
 use Rattle.std.proofs.lemmas.List.{length-take-le}
 use Rattle.std.proofs.lemmas.List.Elements.{All-cons, All-nil}
@@ -8,10 +8,12 @@ use Rattle.group_message.specs.declared.update.Update.{Update}
 use Rattle.group_run.specs.Applying.{Settlement}
 use Rattle.group_run.specs.Fitting.{AllCanCome, NumberedFrom, Writes}
 use Rattle.group_run.specs.Heading.{settlements}
-use Rattle.group_run.specs.Replica.{Replica, applied_to, last_of, number_on, slot_in, with_update}
+use Rattle.group_run.specs.Replica.{Replica, applied_to, last_of, number_on, slot_in, with_log, with_update}
 use Rattle.request_log.specs.Logged.{IsNumbered}
 use Rattle.partition_replica.specs.State.{IsTidyBut, State, is_needed, is_touched}
+use Rattle.head_service.specs.Seat.{StandsOn}
 use Rattle.head_service.specs.Settling.{updates_of}
+use Rattle.head_service.specs.Storage.{Storage}
 use Rattle.head_service.proofs.Tidying.{number-last, updates-are}
 
 -- what is owed of the updates of a list that was empty before it was settled
@@ -53,3 +55,18 @@ pub owed-none : (needed owed : Bool) → (needed || (owed || false)) ≡ true �
 owed-none true owed is = refl
 owed-none false true is = refl
 owed-none false false is = is
+
+-- where a new head's list is adopted, of which all is ready
+pub stands-adopted : {d : ℕ} {r s : State} {b : Storage} (first : Replica) (base : ℕ) (list copy : List Update) → StandsOn d r b → base ≤ last_of first
+    → r.replica ≡ applied_to base first → copy ≡ list → s.shape ≡ r.shape → s.replica ≡ with_log (drop (r.replica.applied - base) copy) r.replica
+    → All (b.is_ready d) (drop (first.applied - base) list) → StandsOn d s b
+stands-adopted {d} {r} {s} {b} first base list copy stands reached settled copied shape adopted ready =
+    let same : r.replica.applied - base ≡ first.applied - base = ap (λ (x : Replica). x.applied - base) settled ∙ known base first reached in
+    record {
+      partition = stands.partition;
+      shape = stands.shape ∙ sym shape;
+      blocks = stands.blocks;
+      ready = subst (λ (x : Replica). All (b.is_ready d) x.log) (sym adopted)
+          (subst (λ (n : ℕ). All (b.is_ready d) (drop n copy)) (sym same)
+          (subst (λ (us : List Update). All (b.is_ready d) (drop (first.applied - base) us)) (sym copied) ready));
+    }

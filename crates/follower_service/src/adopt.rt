@@ -1,11 +1,11 @@
-ghost use Rattle.std.specs.Prelude.{◌≡◌, ◌<◌, ℕ, false, length, All, OnErr, OnOk};
-ghost use Rattle.group_message.specs.declared.update.Update.{Update};
+ghost use Rattle.std.specs.Prelude.{◌≡◌, OnErr, OnOk};
 ghost use Rattle.group_run.specs.Applying.{bytes_after};
 ghost use Rattle.group_run.specs.Fitting.{AdoptFits};
 ghost use Rattle.group_run.specs.Receiving.{adopting};
 ghost use Rattle.group_run.specs.Replica.{applied_to, up_to};
-ghost use Rattle.partition_replica.specs.State.{IsTidyBut};
-ghost use Rattle.head_service.specs.Paging.{AllMiss, MakesNoneOf};
+ghost use Rattle.head_service.specs.Paging.{AllMiss};
+ghost use Rattle.head_service.specs.Seat.{ChangesOnlyRoom, IsSeat};
+ghost use Rattle.head_service.specs.Storage.{MakesReady};
 
 use crate::keys::tidy_all;
 use crate::prepare::{Prepared, for_list};
@@ -26,23 +26,15 @@ pub fn adopt<B: Beneath>(
     replica: &mut Replica,
     below: &mut B,
 ) -> Result<(), AllocError>
-    requires partition { partition.0 < (B.shape below.old).k }
     requires fits { AdoptFits replica.old.shape replica.old.replica base list.now }
-    requires shape { B.shape below.old ≡ replica.old.shape }
-    requires ready { All (λ u. B.is_ready below.old partition.0 u) replica.old.replica.log }
-    requires blocks { partition.0 < length (B.process below.old).as_leader.rebuilt }
-    requires tidy { IsTidyBut replica.old (λ _. false) }
-    ensures shape { replica.new.shape ≡ replica.old.shape }
-    ensures tidy { IsTidyBut replica.new (λ _. false) }
-    ensures below { B.shape below.new ≡ B.shape below.old }
-    ensures pages { MakesNoneOf (AllMiss (B.shape below.old).block list.now) (B.made below.old) (B.made below.new) }
-    ensures kept { (d : ℕ) (u : Update) → B.is_ready below.old d u → B.is_ready below.new d u }
-    ensures ready { All (λ u. B.is_ready below.new partition.0 u) replica.new.replica.log }
+    requires seat { IsSeat partition.0 replica.old (B.storage below.old) }
+    ensures seat { IsSeat partition.0 replica.new (B.storage below.new) }
+    ensures makes { MakesReady (AllMiss (B.storage below.old).shape.block list.now) (B.storage below.old)
+        (B.storage below.new) }
     ensures replica { OnOk result (replica.new.replica ≡ adopting base list.now (applied_to base replica.old.replica)) }
-    ensures bytes { OnOk result (B.process below.new
-        ≡ bytes_after (B.shape below.old) partition.0 (up_to base replica.old.replica) (B.process below.old)) }
-    ensures replica_err { OnErr result (replica.new.replica ≡ replica.old.replica) }
-    ensures bytes_err { OnErr result (B.process below.new ≡ B.process below.old) }
+    ensures bytes { OnOk result ((B.storage below.new).process ≡ bytes_after (B.storage below.old).shape partition.0
+        (up_to base replica.old.replica) (B.storage below.old).process) }
+    ensures err { OnErr result (ChangesOnlyRoom replica.old replica.new (B.storage below.old) (B.storage below.new)) }
 {
     match for_list(alloc, partition, base, list, replica, below) {
         Ok(

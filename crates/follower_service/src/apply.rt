@@ -1,8 +1,8 @@
-ghost use Rattle.std.specs.Prelude.{◌≡◌, ◌<◌, ◌≤◌, ℕ, [], false, length, vec_capacity, All};
-ghost use Rattle.group_message.specs.declared.update.Update.{Update};
-ghost use Rattle.group_run.specs.Applying.{bytes_after};
-ghost use Rattle.group_run.specs.Replica.{applied_to, up_to};
-ghost use Rattle.partition_replica.specs.State.{IsTidyBut};
+ghost use Rattle.std.specs.Prelude.{length, vec_capacity};
+ghost use Rattle.group_run.specs.Replica.{up_to};
+ghost use Rattle.head_service.specs.Seat.{IsSeat};
+ghost use Rattle.head_service.specs.Settling.{HasApplied, IsRoomFor};
+ghost use Rattle.head_service.specs.Storage.{StaysReady};
 
 use group_types::Partition;
 use head_service::settle::{settle_to, tidy};
@@ -17,21 +17,12 @@ pub fn apply<B: Beneath>(
     replica: &mut Replica,
     below: &mut B,
 )
-    requires empty { room.items ≡ [] }
-    requires fits { length (up_to number replica.old.replica) ≤ vec_capacity room }
-    requires shape { B.shape below.old ≡ replica.old.shape }
-    requires ready { All (λ u. B.is_ready below.old partition.0 u) replica.old.replica.log }
-    requires blocks { partition.0 < length (B.process below.old).as_leader.rebuilt }
-    requires tidy { IsTidyBut replica.old (λ _. false) }
-    ensures shape { replica.new.shape ≡ replica.old.shape }
-    ensures replica { replica.new.replica ≡ applied_to number replica.old.replica }
-    ensures tidy { IsTidyBut replica.new (λ _. false) }
-    ensures below { B.shape below.new ≡ B.shape below.old }
-    ensures pages { B.made below.new ≡ B.made below.old }
-    ensures bytes { B.process below.new ≡ bytes_after (B.shape below.old) partition.0
-        (up_to number replica.old.replica) (B.process below.old) }
-    ensures kept { (d : ℕ) (u : Update) → B.is_ready below.old d u → B.is_ready below.new d u }
-    ensures ready { All (λ u. B.is_ready below.new partition.0 u) replica.new.replica.log }
+    requires room { IsRoomFor (length (up_to number replica.old.replica)) room.items (vec_capacity room) }
+    requires seat { IsSeat partition.0 replica.old (B.storage below.old) }
+    ensures seat { IsSeat partition.0 replica.new (B.storage below.new) }
+    ensures stays { StaysReady (B.storage below.old) (B.storage below.new) }
+    ensures applied { HasApplied partition.0 number replica.old.replica replica.new.replica (B.storage below.old)
+        (B.storage below.new) }
 {
     let mut settled = room;
     settle_to(partition, number, replica, below, &mut settled);

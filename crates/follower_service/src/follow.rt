@@ -1,10 +1,10 @@
-ghost use Rattle.std.specs.Prelude.{◌≡◌, ◌<◌, ℕ, false, length, All, OnErr, OnOk};
-ghost use Rattle.group_message.specs.declared.update.Update.{Update};
+ghost use Rattle.std.specs.Prelude.{◌≡◌, OnErr, OnOk};
 ghost use Rattle.group_run.specs.Applying.{bytes_after};
 ghost use Rattle.group_run.specs.Fitting.{UpdateFits};
 ghost use Rattle.group_run.specs.Replica.{applied_to, up_to, with_update};
-ghost use Rattle.partition_replica.specs.State.{IsTidyBut};
-ghost use Rattle.head_service.specs.Paging.{MakesNoneOf, Misses};
+ghost use Rattle.head_service.specs.Paging.{Misses};
+ghost use Rattle.head_service.specs.Seat.{ChangesOnlyRoom, IsSeat};
+ghost use Rattle.head_service.specs.Storage.{MakesReady};
 
 use crate::keys::tidy_all;
 use crate::prepare::{Prepared, for_update};
@@ -26,25 +26,16 @@ pub fn follow<B: Beneath>(
     replica: &mut Replica,
     below: &mut B,
 ) -> Result<(), AllocError>
-    requires partition { partition.0 < (B.shape below.old).k }
     requires fits { UpdateFits replica.old.shape replica.old.replica update.now stable }
-    requires shape { B.shape below.old ≡ replica.old.shape }
-    requires ready { All (λ u. B.is_ready below.old partition.0 u) replica.old.replica.log }
-    requires blocks { partition.0 < length (B.process below.old).as_leader.rebuilt }
-    requires tidy { IsTidyBut replica.old (λ _. false) }
-    ensures shape { replica.new.shape ≡ replica.old.shape }
-    ensures tidy { IsTidyBut replica.new (λ _. false) }
-    ensures below { B.shape below.new ≡ B.shape below.old }
-    ensures pages { MakesNoneOf (Misses (B.shape below.old).block update.now.body) (B.made below.old)
-        (B.made below.new) }
-    ensures kept { (d : ℕ) (u : Update) → B.is_ready below.old d u → B.is_ready below.new d u }
-    ensures ready { All (λ u. B.is_ready below.new partition.0 u) replica.new.replica.log }
+    requires seat { IsSeat partition.0 replica.old (B.storage below.old) }
+    ensures seat { IsSeat partition.0 replica.new (B.storage below.new) }
+    ensures makes { MakesReady (Misses (B.storage below.old).shape.block update.now.body) (B.storage below.old)
+        (B.storage below.new) }
     ensures replica { OnOk result (replica.new.replica
         ≡ with_update update.now (applied_to stable replica.old.replica)) }
-    ensures bytes { OnOk result (B.process below.new
-        ≡ bytes_after (B.shape below.old) partition.0 (up_to stable replica.old.replica) (B.process below.old)) }
-    ensures replica_err { OnErr result (replica.new.replica ≡ replica.old.replica) }
-    ensures bytes_err { OnErr result (B.process below.new ≡ B.process below.old) }
+    ensures bytes { OnOk result ((B.storage below.new).process ≡ bytes_after (B.storage below.old).shape partition.0
+        (up_to stable replica.old.replica) (B.storage below.old).process) }
+    ensures err { OnErr result (ChangesOnlyRoom replica.old replica.new (B.storage below.old) (B.storage below.new)) }
 {
     match for_update(alloc, partition, update, stable, replica, below) {
         Ok(

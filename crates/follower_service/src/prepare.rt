@@ -1,12 +1,13 @@
 // What a step takes of memory, made before it changes anything.
-ghost use Rattle.std.specs.Prelude.{◌≡◌, ◌+◌, ◌-◌, ◌<◌, ◌≤◌, ◌||◌, ℕ, Bool, List, [], ◌∷◌, drop, length, vec_capacity, All, IfOk, OnOk};
+ghost use Rattle.std.specs.Prelude.{◌≡◌, ◌-◌, ◌<◌, [], ◌∷◌, drop, length, vec_capacity, All, IfOk, OnOk};
 ghost use Rattle.group_types.specs.Dimensions.{space_of};
-ghost use Rattle.group_message.specs.declared.update.Update.{Update};
-ghost use Rattle.group_run.specs.Deciding.{window};
-ghost use Rattle.group_run.specs.Fitting.{Writes};
+ghost use Rattle.group_run.specs.Fitting.{AdoptFits, Writes};
 ghost use Rattle.group_run.specs.Replica.{up_to};
-ghost use Rattle.partition_replica.specs.State.{HasRoom, IsTidyBut, is_touched};
-ghost use Rattle.head_service.specs.Paging.{AllMiss, MakesNoneOf, Misses};
+ghost use Rattle.partition_replica.specs.State.{HasRoom, is_touched};
+ghost use Rattle.head_service.specs.Paging.{AllMiss, Misses};
+ghost use Rattle.head_service.specs.Seat.{ChangesOnlyRoom, IsSeat, IsSeatBut};
+ghost use Rattle.head_service.specs.Settling.{IsRoomFor};
+ghost use Rattle.head_service.specs.Storage.{MakesReady};
 
 use group_message::{Update, UpdateList};
 use group_types::Partition;
@@ -31,22 +32,17 @@ pub fn for_update<B: Beneath>(
     replica: &mut Replica,
     below: &mut B,
 ) -> Result<Prepared<Update>, AllocError>
-    requires partition { partition.0 < (B.shape below.old).k }
-    requires writes { Writes (space_of (B.shape below.old)) update.now.body }
-    ensures shape { replica.new.shape ≡ replica.old.shape }
-    ensures replica { replica.new.replica ≡ replica.old.replica }
-    ensures owed { (owed : List ℕ → Bool) → IsTidyBut replica.old owed
-        → IsTidyBut replica.new (λ q. owed q || is_touched (update.now ∷ []) q) }
-    ensures below { B.shape below.new ≡ B.shape below.old }
-    ensures pages { MakesNoneOf (Misses (B.shape below.old).block update.now.body) (B.made below.old)
-        (B.made below.new) }
-    ensures bytes { B.process below.new ≡ B.process below.old }
-    ensures kept { (d : ℕ) (u : Update) → B.is_ready below.old d u → B.is_ready below.new d u }
+    requires writes { Writes (space_of (B.storage below.old).shape) update.now.body }
+    requires seat { IsSeat partition.0 replica.old (B.storage below.old) }
+    ensures seat { IsSeatBut (is_touched (update.now ∷ [])) partition.0 replica.new (B.storage below.new) }
+    ensures makes { MakesReady (Misses (B.storage below.old).shape.block update.now.body) (B.storage below.old)
+        (B.storage below.new) }
+    ensures same { ChangesOnlyRoom replica.old replica.new (B.storage below.old) (B.storage below.new) }
+    ensures ready { OnOk result (HasRoom replica.new.room (update.now ∷ [])
+        × (B.storage below.new).is_ready partition.0 update.now) }
     ensures copy { IfOk result (λ p. p.copy ≡ update.now) }
-    ensures room { OnOk result (HasRoom replica.new.room (update.now ∷ [])) }
-    ensures ready { OnOk result (B.is_ready below.new partition.0 update.now) }
-    ensures empty { IfOk result (λ p. p.room.items ≡ []) }
-    ensures fits { IfOk result (λ p. vec_capacity p.room ≡ length (up_to stable replica.old.replica)) }
+    ensures room { IfOk result (λ p. IsRoomFor (length (up_to stable replica.old.replica)) p.room.items
+        (vec_capacity p.room)) }
 {
     replica.reserve(update)?;
     below.reserve(partition, update)?;
@@ -65,25 +61,18 @@ pub fn for_list<B: Beneath>(
     replica: &mut Replica,
     below: &mut B,
 ) -> Result<Prepared<UpdateList>, AllocError>
-    requires partition { partition.0 < (B.shape below.old).k }
-    requires writes { All (λ u. Writes (space_of (B.shape below.old)) u.body)
-        (drop (replica.old.replica.applied - base) list.now) }
-    requires reaches { replica.old.replica.applied ≤ base + length list.now }
-    requires few { length list.now ≤ window }
-    ensures shape { replica.new.shape ≡ replica.old.shape }
-    ensures replica { replica.new.replica ≡ replica.old.replica }
-    ensures owed { (owed : List ℕ → Bool) → IsTidyBut replica.old owed
-        → IsTidyBut replica.new (λ q. owed q || is_touched list.now q) }
-    ensures below { B.shape below.new ≡ B.shape below.old }
-    ensures pages { MakesNoneOf (AllMiss (B.shape below.old).block list.now) (B.made below.old) (B.made below.new) }
-    ensures bytes { B.process below.new ≡ B.process below.old }
-    ensures kept { (d : ℕ) (u : Update) → B.is_ready below.old d u → B.is_ready below.new d u }
-    ensures copy { IfOk result (λ p. p.copy ≡ list.now) }
-    ensures room { OnOk result (HasRoom replica.new.room list.now) }
-    ensures ready { OnOk result (All (λ u. B.is_ready below.new partition.0 u)
+    requires fits { AdoptFits replica.old.shape replica.old.replica base list.now }
+    requires seat { IsSeat partition.0 replica.old (B.storage below.old) }
+    ensures seat { IsSeatBut (is_touched list.now) partition.0 replica.new (B.storage below.new) }
+    ensures makes { MakesReady (AllMiss (B.storage below.old).shape.block list.now) (B.storage below.old)
+        (B.storage below.new) }
+    ensures same { ChangesOnlyRoom replica.old replica.new (B.storage below.old) (B.storage below.new) }
+    ensures ready { OnOk result (HasRoom replica.new.room list.now
+        × All (λ u. (B.storage below.new).is_ready partition.0 u)
         (drop (replica.old.replica.applied - base) list.now)) }
-    ensures empty { IfOk result (λ p. p.room.items ≡ []) }
-    ensures fits { IfOk result (λ p. vec_capacity p.room ≡ length (up_to base replica.old.replica)) }
+    ensures copy { IfOk result (λ p. p.copy ≡ list.now) }
+    ensures room { IfOk result (λ p. IsRoomFor (length (up_to base replica.old.replica)) p.room.items
+        (vec_capacity p.room)) }
 {
     replica.reserve_list(list)?;
     let known = replica.applied().saturating_sub(base) as usize;
@@ -99,13 +88,12 @@ fn reserve_all<B: Beneath>(
     updates: &[Update],
     below: &mut B,
 ) -> Result<(), AllocError>
-    requires partition { partition.0 < (B.shape below.old).k }
-    requires writes { All (λ u. Writes (space_of (B.shape below.old)) u.body) updates.now }
-    ensures below { B.shape below.new ≡ B.shape below.old }
-    ensures pages { MakesNoneOf (AllMiss (B.shape below.old).block updates.now) (B.made below.old) (B.made below.new) }
-    ensures bytes { B.process below.new ≡ B.process below.old }
-    ensures kept { (d : ℕ) (u : Update) → B.is_ready below.old d u → B.is_ready below.new d u }
-    ensures ready { OnOk result (All (λ u. B.is_ready below.new partition.0 u) updates.now) }
+    requires partition { partition.0 < (B.storage below.old).shape.k }
+    requires writes { All (λ u. Writes (space_of (B.storage below.old).shape) u.body) updates.now }
+    ensures makes { MakesReady (AllMiss (B.storage below.old).shape.block updates.now) (B.storage below.old)
+        (B.storage below.new) }
+    ensures bytes { (B.storage below.new).process ≡ (B.storage below.old).process }
+    ensures ready { OnOk result (All (λ u. (B.storage below.new).is_ready partition.0 u) updates.now) }
 {
     'updates: for update in updates {
         below.reserve(partition, update)?;

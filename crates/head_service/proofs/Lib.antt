@@ -1,3 +1,4 @@
+pub mod Seat
 pub mod Settling
 pub mod Least
 pub mod Tidying

@@ -1,6 +1,7 @@
 -- Settling one update after the other is settling them at once.
-use Rattle.std.proofs.Common.{ℕ, zero, suc, ◌≡◌, ◌+◌, ◌-◌, ◌<◌, ◌≤◌, Bool, ◌||◌, true, false, List, [], ◌∷◌, length, map, take, drop, Option, Some, None, is_some, if◌then◌else◌, refl, sym, ap, ◌∙◌, subst, All, arith}
+use Rattle.std.proofs.Common.{ℕ, zero, suc, ◌≡◌, ◌+◌, ◌-◌, ◌<◌, ◌≤◌, Bool, ◌||◌, true, false, List, [], ◌∷◌, ◌++◌, length, map, take, drop, Option, Some, None, is_some, if◌then◌else◌, refl, sym, ap, ◌∙◌, subst, All, arith}
 use Rattle.std.specs.List.{slice_get}
+use Rattle.std.proofs.lemmas.List.{append-nil}
 use Rattle.group_types.specs.Dimensions.{Dimensions}
 use Rattle.std.proofs.Math.Bool.{or-true}
 use Rattle.group_types.specs.Lists.{at, put, same_key}
@@ -8,10 +9,13 @@ use Rattle.group_types.specs.declared.process.ProcessId.TheVariants.{DataNode}
 use Rattle.group_types.proofs.Lists.{at-put, length-put, put-at, put-put}
 use Rattle.group_message.specs.declared.kept.Kept.{Kept}
 use Rattle.group_message.specs.declared.update.Update.{Update}
-use Rattle.group_run.specs.Applying.{block_after, bytes_after, copy_after, rebuilt_after, space_after}
+use Rattle.group_run.specs.Applying.{Settlement, block_after, bytes_after, copy_after, rebuilt_after, space_after}
+use Rattle.group_run.specs.Heading.{settlements}
 use Rattle.group_run.specs.Process.{Copy, Process}
 use Rattle.partition_replica.specs.State.{is_touched}
 use Rattle.group_run.specs.Replica.{Items, Replica, applied_to, items_after, kept_after, up_to}
+use Rattle.head_service.specs.Settling.{HasSettled}
+use Rattle.head_service.specs.Storage.{Storage}
 
 -- the first update of a log that isn't empty
 first-is : {X : Type 0} (xs : List X) (x : X) → slice_get xs 0 ≡ Some x → xs ≡ x ∷ drop 1 xs
@@ -177,3 +181,15 @@ touched-front u us q is = ap (λ (b : Bool). b || is_touched us q) is
 -- what holds of all holds behind the first
 pub all-behind : {X : Type 0} (P : X → Type 0) (x : X) (xs ys : List X) → ys ≡ x ∷ xs → All P ys → All P xs
 all-behind P x xs ys is all = let whole : All P (x ∷ xs) = subst (All P) is all in λ k d lt. whole (suc k) d (omega (arith, lt))
+
+-- where nothing is left that could be settled, all of it is
+pub nothing-left : (d n : ℕ) (r first : Replica) (b c : Storage) (before now : List Settlement) → up_to n r ≡ [] → d < length c.process.as_leader.rebuilt
+    → applied_to n r ≡ applied_to n first → bytes_after b.shape d (up_to n r) c.process ≡ bytes_after b.shape d (up_to n first) b.process
+    → now ++ settlements d (up_to n r) ≡ before ++ settlements d (up_to n first) → HasSettled d n first r b c before now
+nothing-left d n r first b c before now none blocks replica bytes settled = record {
+  applied = record {
+    replica = sym (applied-none n r none) ∙ replica;
+    process = sym (ap (λ (us : List Update). bytes_after b.shape d us c.process) none ∙ bytes-none b.shape d c.process blocks) ∙ bytes;
+  };
+  settled = sym (ap (λ (us : List Update). now ++ settlements d us) none ∙ append-nil now) ∙ settled;
+}

@@ -1,4 +1,6 @@
 pub mod Beneath
+pub mod Storage
+pub mod Seat
 pub mod Paging
 pub mod Peers
 pub mod Issuing

@@ -1,19 +1,17 @@
-ghost use Rattle.std.specs.Prelude.{[], ◌≡◌, ◌<◌, ◌^◌, ℕ, suc, false, length, All, IfOk, OnErr, OnOk, option_copied};
+ghost use Rattle.std.specs.Prelude.{[], ◌≡◌, ◌<◌, ◌^◌, IfOk, OnErr, option_copied};
 ghost use Rattle.group_types.specs.Dimensions.{space_of};
-ghost use Rattle.group_message.specs.declared.update.Update.{Update};
 ghost use Rattle.memc_table.specs.Act.{key_of};
 ghost use Rattle.group_calls.specs.declared.decision.Decision.{Decision};
-ghost use Rattle.group_run.specs.Deciding.{decide};
 ghost use Rattle.group_run.specs.Replica.{callers, freed_by, last_of};
-ghost use Rattle.item_index.specs.declared.slot.Slot.{Slot};
-ghost use Rattle.partition_replica.specs.State.{IsTidyBut};
-ghost use Rattle.head_service.specs.Acting.{IsMade, NeedsOf, acts, name_of, next_update};
+ghost use Rattle.head_service.specs.Acting.{IsMade, acts, decision_of, name_of, next_update};
+ghost use Rattle.head_service.specs.Beneath.{found_by};
 ghost use Rattle.head_service.specs.Issuing.{CanFollow};
-ghost use Rattle.head_service.specs.Paging.{DecisionMisses, MakesNoneOf};
+ghost use Rattle.head_service.specs.Paging.{DecisionMisses};
+ghost use Rattle.head_service.specs.Seat.{ChangesOnlyRoom, IsHeadSeat, IsSeat};
+ghost use Rattle.head_service.specs.Storage.{MakesReady};
 ghost use Rattle.head_service.specs.Wanting.{IsIssued, MayWant};
-ghost use Rattle.head_service.specs.declared.ask.Asked.TheVariants.{Done};
+ghost use Rattle.head_service.specs.declared.ask.Asking.TheVariants.{Done};
 ghost use Rattle.head_service.specs.declared.step.CallStep.{CallStep};
-ghost use Rattle.head_service.specs.Beneath.{found_in};
 
 use crate::beneath::Beneath;
 use crate::decide::decide;
@@ -39,7 +37,7 @@ pub struct Call {
 
 /// What the head of a partition makes of a call: a step, or a block that has to be rebuilt first.
 #[derive(Debug, Drop)]
-pub enum Asked {
+pub enum Asking {
     Done(CallStep),
     Need(u32),
 }
@@ -54,35 +52,23 @@ pub fn ask<B: Beneath>(
     replica: &mut Replica,
     held: &mut Vec<Held>,
     below: &mut B,
-) -> Result<Asked, AllocError>
-    requires partition { partition.0 < (B.shape below.old).k }
-    requires acks { length head.now.acks ≡ peers.now.m }
+) -> Result<Asking, AllocError>
     requires caller { call.caller < callers }
     requires numbers { last_of replica.old.replica < 2 ^ 62 }
-    requires shape { B.shape below.old ≡ replica.old.shape }
-    requires ready { All (λ u. B.is_ready below.old partition.0 u) replica.old.replica.log }
-    requires blocks { partition.0 < length (B.process below.old).as_leader.rebuilt }
-    requires tidy { IsTidyBut replica.old (λ _. false) }
-    ensures shape { replica.new.shape ≡ replica.old.shape }
-    ensures below { B.shape below.new ≡ B.shape below.old }
-    ensures pages { MakesNoneOf (DecisionMisses (B.shape below.old).block
-        (decide (space_of replica.old.shape) head.now.inherited replica.old.replica op.now (found_in (B.shape below.old) partition.0 (B.process below.old))))
-        (B.made below.old) (B.made below.new) }
-    ensures kept { (d : ℕ) (u : Update) → B.is_ready below.old d u → B.is_ready below.new d u }
-    ensures ready { All (λ u. B.is_ready below.new partition.0 u) replica.new.replica.log }
-    ensures tidy { IsTidyBut replica.new (λ _. false) }
+    requires seat { IsHeadSeat partition.0 peers.now head.now replica.old (B.storage below.old) }
+    ensures seat { IsSeat partition.0 replica.new (B.storage below.new) }
+    ensures makes { MakesReady (DecisionMisses (B.storage below.old).shape.block
+        (decision_of partition.0 head.now op.now replica.old (B.storage below.old)))
+        (B.storage below.old) (B.storage below.new) }
     ensures made { IfOk result (λ asked.
-        let decision : Decision = decide (space_of replica.old.shape) head.now.inherited replica.old.replica op.now
-        (found_in (B.shape below.old) partition.0 (B.process below.old)) in
-        IsMade decision (acts (B.shape below.old) partition.0 peers.now head.now (name_of call) op.now replica.old.replica held.old.items
-        (B.process below.old) decision)
-        asked replica.new.replica held.new.items (B.process below.new)) }
-    ensures block { IfOk result (NeedsOf replica.old.shape) }
+        let decision : Decision = decision_of partition.0 head.now op.now replica.old (B.storage below.old) in
+        IsMade replica.old.shape decision (acts (B.storage below.old).shape partition.0 peers.now head.now
+        (name_of call) op.now replica.old.replica held.old.items (B.storage below.old).process decision)
+        asked replica.new.replica held.new.items (B.storage below.new).process) }
     ensures wanted { OnErr result (MayWant (space_of replica.old.shape) head.now.inherited replica.old.replica op.now
-        (found_in (B.shape below.old) partition.0 (B.process below.old))) }
-    ensures replica_err { OnErr result (replica.new.replica ≡ replica.old.replica) }
-    ensures bytes_err { OnErr result (B.process below.new ≡ B.process below.old) }
-    ensures held_err { OnErr result (held.new.items ≡ held.old.items) }
+        (found_by partition.0 (B.storage below.old))) }
+    ensures err { OnErr result ((held.new.items ≡ held.old.items)
+        × ChangesOnlyRoom replica.old replica.new (B.storage below.old) (B.storage below.new)) }
 {
     let alloc = *held.allocator();
     let decision = decide(alloc, partition, head.inherited(), replica, op, below)?;
@@ -101,32 +87,21 @@ fn act<B: Beneath>(
     replica: &mut Replica,
     held: &mut Vec<Held>,
     below: &mut B,
-) -> Result<Asked, AllocError>
-    requires partition { partition.0 < (B.shape below.old).k }
-    requires acks { length head.now.acks ≡ peers.now.m }
+) -> Result<Asking, AllocError>
     requires caller { call.caller < callers }
     requires numbers { last_of replica.old.replica < 2 ^ 62 }
     requires follows { CanFollow replica.old.shape replica.old.replica (key_of op.now.act) decision }
-    requires shape { B.shape below.old ≡ replica.old.shape }
-    requires ready { All (λ u. B.is_ready below.old partition.0 u) replica.old.replica.log }
-    requires blocks { partition.0 < length (B.process below.old).as_leader.rebuilt }
-    requires tidy { IsTidyBut replica.old (λ _. false) }
-    ensures shape { replica.new.shape ≡ replica.old.shape }
-    ensures below { B.shape below.new ≡ B.shape below.old }
-    ensures pages { MakesNoneOf (DecisionMisses (B.shape below.old).block decision) (B.made below.old)
-        (B.made below.new) }
-    ensures kept { (d : ℕ) (u : Update) → B.is_ready below.old d u → B.is_ready below.new d u }
-    ensures ready { All (λ u. B.is_ready below.new partition.0 u) replica.new.replica.log }
-    ensures tidy { IsTidyBut replica.new (λ _. false) }
-    ensures made { IfOk result (λ asked.
-        IsMade decision (acts (B.shape below.old) partition.0 peers.now head.now (name_of call) op.now replica.old.replica held.old.items
-        (B.process below.old) decision)
-        asked replica.new.replica held.new.items (B.process below.new)) }
-    ensures block { IfOk result (NeedsOf replica.old.shape) }
+    requires seat { IsHeadSeat partition.0 peers.now head.now replica.old (B.storage below.old) }
+    ensures seat { IsSeat partition.0 replica.new (B.storage below.new) }
+    ensures makes { MakesReady (DecisionMisses (B.storage below.old).shape.block decision) (B.storage below.old)
+        (B.storage below.new) }
+    ensures made { IfOk result (λ asked. IsMade replica.old.shape decision
+        (acts (B.storage below.old).shape partition.0 peers.now head.now (name_of call) op.now
+        replica.old.replica held.old.items (B.storage below.old).process decision)
+        asked replica.new.replica held.new.items (B.storage below.new).process) }
     ensures wanted { OnErr result (IsIssued decision) }
-    ensures replica_err { OnErr result (replica.new.replica ≡ replica.old.replica) }
-    ensures bytes_err { OnErr result (B.process below.new ≡ B.process below.old) }
-    ensures held_err { OnErr result (held.new.items ≡ held.old.items) }
+    ensures err { OnErr result ((held.new.items ≡ held.old.items)
+        × ChangesOnlyRoom replica.old replica.new (B.storage below.old) (B.storage below.new)) }
 {
     let alloc = *held.allocator();
     match decision {
@@ -136,20 +111,20 @@ fn act<B: Beneath>(
             Ok(only(alloc, Answer::Retry(cause)))
         }
         Decision::NoSpace => Ok(only(alloc, Answer::NoSpace)),
-        Decision::NeedBlock(block) => Ok(Asked::Need(block)),
+        Decision::NeedBlock(block) => Ok(Asking::Need(block)),
         Decision::Issue { body, outcome } => {
             let update = next(call, op, body, outcome, replica)?;
             let step = issue(partition, head, peers, update, replica, held, below)?;
-            Ok(Asked::Done(step))
+            Ok(Asking::Done(step))
         }
     }
 }
 
-fn only(alloc: Global, answer: Answer) -> Asked
+fn only(alloc: Global, answer: Answer) -> Asking
     ensures { (step : CallStep) × (result ≡ Done step) × (step.answer ≡ answer) × (step.sent.items ≡ [])
         × (step.settled.items ≡ []) }
 {
-    Asked::Done(CallStep::only(alloc, answer))
+    Asking::Done(CallStep::only(alloc, answer))
 }
 
 /// The next update of the partition.

@@ -4,7 +4,7 @@ ghost use Rattle.group_types.specs.Dimensions.{space_of};
 ghost use Rattle.group_run.specs.Deciding.{decide_left, decide_placed, decide_written};
 ghost use Rattle.group_run.specs.Fitting.{IsRunOf};
 ghost use Rattle.group_run.specs.Free.{place_for};
-ghost use Rattle.head_service.specs.Beneath.{found_in};
+ghost use Rattle.head_service.specs.Beneath.{found_by};
 ghost use Rattle.head_service.specs.Issuing.{IsWhole};
 
 use crate::beneath::Beneath;
@@ -25,10 +25,10 @@ pub fn decide_left<B: Beneath>(
     touch: bool,
     leaves: Option<Holding>,
 ) -> Result<Decision, AllocError>
-    requires partition { partition.0 < (B.shape below.now).k }
-    requires shape { B.shape below.now ≡ replica.now.shape }
+    requires partition { partition.0 < (B.storage below.now).shape.k }
+    requires shape { (B.storage below.now).shape ≡ replica.now.shape }
     ensures decision { IfOk result (λ d. d ≡ decide_left (space_of replica.now.shape) replica.now.replica
-        (found_in (B.shape below.now) partition.0 (B.process below.now)) outcome touch leaves) }
+        (found_by partition.0 (B.storage below.now)) outcome touch leaves) }
     ensures whole { IfOk result (IsWhole replica.now.shape) }
     ensures wanted { OnErr result (IsSome leaves) }
 {
@@ -49,9 +49,9 @@ fn decide_placed<B: Beneath>(
     outcome: Outcome,
     holding: Holding,
 ) -> Result<Decision, AllocError>
-    requires partition { partition.0 < (B.shape below.now).k }
-    requires shape { B.shape below.now ≡ replica.now.shape }
-    ensures decision { IfOk result (λ d. d ≡ decide_placed (found_in (B.shape below.now) partition.0 (B.process below.now)) outcome holding
+    requires partition { partition.0 < (B.storage below.now).shape.k }
+    requires shape { (B.storage below.now).shape ≡ replica.now.shape }
+    ensures decision { IfOk result (λ d. d ≡ decide_placed (found_by partition.0 (B.storage below.now)) outcome holding
         (place_for (space_of replica.now.shape) replica.now.replica (length holding.item.value))) }
     ensures whole { IfOk result (IsWhole replica.now.shape) }
 {
@@ -80,11 +80,11 @@ fn decide_written<B: Beneath>(
     holding: &Holding,
     run: Run,
 ) -> Result<Decision, AllocError>
-    requires partition { partition.0 < (B.shape below.now).k }
-    requires run { IsRunOf (space_of (B.shape below.now)) (length holding.now.item.value) run }
+    requires partition { partition.0 < (B.storage below.now).shape.k }
+    requires run { IsRunOf (space_of (B.storage below.now).shape) (length holding.now.item.value) run }
     ensures decision { IfOk result (λ d. d ≡ decide_written outcome holding.now run
-        (found_in (B.shape below.now) partition.0 (B.process below.now) run)) }
-    ensures whole { IfOk result (IsWhole (B.shape below.now)) }
+        (found_by partition.0 (B.storage below.now) run)) }
+    ensures whole { IfOk result (IsWhole (B.storage below.now).shape) }
 {
     match below.find(partition, run)? {
         Found::Missing(block) => Ok(Decision::NeedBlock(block)),

@@ -4,7 +4,7 @@ ghost use Rattle.memc_table.specs.Act.{key_of};
 ghost use Rattle.memc_table.specs.Ruling.{HoldsItem};
 ghost use Rattle.group_run.specs.Deciding.{decide, decide_ruled, decide_waiting, ruling_with, run_needed, waits_for};
 ghost use Rattle.group_run.specs.Replica.{last_of, number_on, run_in, slot_in};
-ghost use Rattle.head_service.specs.Beneath.{found_in};
+ghost use Rattle.head_service.specs.Beneath.{found_by};
 ghost use Rattle.head_service.specs.Issuing.{CanFollow, IsWhole};
 ghost use Rattle.head_service.specs.Wanting.{IsThere, MayTake, TakesItem};
 
@@ -31,14 +31,15 @@ pub fn decide<B: Beneath>(
     op: &Op,
     below: &B,
 ) -> Result<Decision, AllocError>
-    requires partition { partition.0 < (B.shape below.now).k }
+    requires partition { partition.0 < (B.storage below.now).shape.k }
     requires numbers { last_of replica.now.replica < 2 ^ 62 }
-    requires shape { B.shape below.now ≡ replica.now.shape }
+    requires shape { (B.storage below.now).shape ≡ replica.now.shape }
     ensures decision { IfOk result (λ d. d ≡ decide (space_of replica.now.shape) inherited replica.now.replica op.now
-        (found_in (B.shape below.now) partition.0 (B.process below.now))) }
+        (found_by partition.0 (B.storage below.now))) }
     ensures follows { IfOk result (λ d. CanFollow replica.now.shape replica.now.replica (key_of op.now.act) d) }
-    ensures wanted { OnErr result (MayTake replica.now.replica op.now (slot_in replica.now.replica.items (key_of op.now.act))
-        (found_in (B.shape below.now) partition.0 (B.process below.now))
+    ensures wanted { OnErr result (MayTake replica.now.replica op.now
+        (slot_in replica.now.replica.items (key_of op.now.act))
+        (found_by partition.0 (B.storage below.now))
         (waits_for inherited op.now.act (number_on replica.now.replica.log (key_of op.now.act)))) }
 {
     let last = replica.unfinished(op.act().key());
@@ -56,14 +57,15 @@ fn decide_settled<B: Beneath>(
     op: &Op,
     below: &B,
 ) -> Result<Decision, AllocError>
-    requires partition { partition.0 < (B.shape below.now).k }
+    requires partition { partition.0 < (B.storage below.now).shape.k }
     requires numbers { last_of replica.now.replica < 2 ^ 62 }
-    requires shape { B.shape below.now ≡ replica.now.shape }
+    requires shape { (B.storage below.now).shape ≡ replica.now.shape }
     ensures decision { IfOk result (λ d. d ≡ decide_waiting (space_of replica.now.shape) replica.now.replica op.now
-        (found_in (B.shape below.now) partition.0 (B.process below.now)) (slot_in replica.now.replica.items (key_of op.now.act)) None) }
+        (found_by partition.0 (B.storage below.now)) (slot_in replica.now.replica.items (key_of op.now.act)) None) }
     ensures whole { IfOk result (IsWhole replica.now.shape) }
-    ensures wanted { OnErr result (TakesItem replica.now.replica op.now (slot_in replica.now.replica.items (key_of op.now.act))
-        (found_in (B.shape below.now) partition.0 (B.process below.now))) }
+    ensures wanted { OnErr result (TakesItem replica.now.replica op.now
+        (slot_in replica.now.replica.items (key_of op.now.act))
+        (found_by partition.0 (B.storage below.now))) }
 {
     let slot = item(replica, op);
     match slot {
@@ -91,12 +93,12 @@ fn decide_unread<B: Beneath>(
     below: &B,
     slot: Option<Slot>,
 ) -> Result<Decision, AllocError>
-    requires partition { partition.0 < (B.shape below.now).k }
+    requires partition { partition.0 < (B.storage below.now).shape.k }
     requires numbers { last_of replica.now.replica < 2 ^ 62 }
-    requires shape { B.shape below.now ≡ replica.now.shape }
+    requires shape { (B.storage below.now).shape ≡ replica.now.shape }
     requires needed { run_needed op.now slot ≡ None }
     ensures decision { IfOk result (λ d. d ≡ decide_waiting (space_of replica.now.shape) replica.now.replica op.now
-        (found_in (B.shape below.now) partition.0 (B.process below.now)) slot None) }
+        (found_by partition.0 (B.storage below.now)) slot None) }
     ensures whole { IfOk result (IsWhole replica.now.shape) }
     ensures wanted { OnErr result ((bytes : List ℕ) × HoldsItem (ruling_with replica.now.replica op.now slot bytes)) }
 {
@@ -113,15 +115,15 @@ fn decide_read<B: Beneath>(
     below: &B,
     slot: Slot,
 ) -> Result<Decision, AllocError>
-    requires partition { partition.0 < (B.shape below.now).k }
+    requires partition { partition.0 < (B.storage below.now).shape.k }
     requires numbers { last_of replica.now.replica < 2 ^ 62 }
-    requires shape { B.shape below.now ≡ replica.now.shape }
+    requires shape { (B.storage below.now).shape ≡ replica.now.shape }
     requires needed { run_needed op.now (Some slot) ≡ Some (run_in slot) }
     requires inside { slot.at + slot.len ≤ space_of replica.now.shape }
     ensures decision { IfOk result (λ d. d ≡ decide_waiting (space_of replica.now.shape) replica.now.replica op.now
-        (found_in (B.shape below.now) partition.0 (B.process below.now)) (Some slot) None) }
+        (found_by partition.0 (B.storage below.now)) (Some slot) None) }
     ensures whole { IfOk result (IsWhole replica.now.shape) }
-    ensures wanted { OnErr result (IsThere (found_in (B.shape below.now) partition.0 (B.process below.now)
+    ensures wanted { OnErr result (IsThere (found_by partition.0 (B.storage below.now)
         (run_in slot))) }
 {
     if let Some(reply) = blind_reply(op, slot) {
@@ -148,10 +150,10 @@ fn decide_ruled<B: Beneath>(
     below: &B,
     ruling: Ruling,
 ) -> Result<Decision, AllocError>
-    requires partition { partition.0 < (B.shape below.now).k }
-    requires shape { B.shape below.now ≡ replica.now.shape }
+    requires partition { partition.0 < (B.storage below.now).shape.k }
+    requires shape { (B.storage below.now).shape ≡ replica.now.shape }
     ensures decision { IfOk result (λ d. d ≡ decide_ruled (space_of replica.now.shape) replica.now.replica op.now
-        (found_in (B.shape below.now) partition.0 (B.process below.now)) ruling) }
+        (found_by partition.0 (B.storage below.now)) ruling) }
     ensures whole { IfOk result (IsWhole replica.now.shape) }
     ensures wanted { OnErr result (HoldsItem ruling) }
 {

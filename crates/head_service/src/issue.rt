@@ -1,19 +1,16 @@
-ghost use Rattle.std.specs.Prelude.{◌≡◌, ◌+◌, ◌-◌, ◌<◌, ◌≤◌, ◌||◌, nat_le, ℕ, Bool, false, List, [], ◌∷◌, ◌++◌, length, vec_len, vec_capacity, All, IfOk, OnOk, OnErr};
+ghost use Rattle.std.specs.Prelude.{◌≡◌, ◌+◌, ◌-◌, ◌<◌, ◌≤◌, [], ◌∷◌, ◌++◌, length, vec_len, vec_capacity, IfOk, OnOk, OnErr};
 ghost use Rattle.group_types.specs.Dimensions.{space_of};
-ghost use Rattle.group_message.specs.declared.update.Update.{Update};
-ghost use Rattle.group_run.specs.Applying.{bytes_after};
-ghost use Rattle.group_run.specs.Fitting.{CanCome, Writes};
-ghost use Rattle.group_run.specs.Heading.{settlements};
-ghost use Rattle.group_run.specs.Replica.{applied_to, last_of, up_to, with_update};
-ghost use Rattle.partition_replica.specs.State.{HasRoom, IsTidyBut, is_touched};
 ghost use Rattle.group_calls.specs.declared.event.Answer.TheVariants as says;
 ghost use Rattle.group_run.specs.Asking.{reply_from};
-ghost use Rattle.head_service.specs.Answering.{answer_to, held_then};
-ghost use Rattle.head_service.specs.Paging.{MakesNoneOf, Misses};
-ghost use Rattle.head_service.specs.Peers.{settles, to_all};
-ghost use Rattle.head_service.specs.Settling.{updates_of};
-ghost use Rattle.head_service.specs.Telling.{message_of};
-ghost use Rattle.head_service.specs.declared.news.News.TheVariants.{Issued};
+ghost use Rattle.group_run.specs.Fitting.{CanCome, Writes};
+ghost use Rattle.group_run.specs.Replica.{last_of};
+ghost use Rattle.partition_replica.specs.State.{is_touched};
+ghost use Rattle.head_service.specs.Acting.{IsStep, issued_up_to, issues};
+ghost use Rattle.head_service.specs.Issuing.{IsReadyToIssue};
+ghost use Rattle.head_service.specs.Paging.{Misses};
+ghost use Rattle.head_service.specs.Seat.{ChangesOnlyRoom, HasRoomFor, IsHeadSeat, IsSeat, IsSeatBut, OwesOnly};
+ghost use Rattle.head_service.specs.Settling.{IsRoomFor};
+ghost use Rattle.head_service.specs.Storage.{MakesReady, StaysReady};
 
 use crate::beneath::Beneath;
 use crate::head::Head;
@@ -39,35 +36,17 @@ pub fn issue<B: Beneath>(
     held: &mut Vec<Held>,
     below: &mut B,
 ) -> Result<CallStep, AllocError>
-    requires partition { partition.0 < (B.shape below.old).k }
-    requires acks { length head.now.acks ≡ peers.now.m }
     requires next { update.number ≡ last_of replica.old.replica + 1 }
     requires comes { CanCome (space_of replica.old.shape) replica.old.replica update }
-    requires shape { B.shape below.old ≡ replica.old.shape }
-    requires ready { All (λ u. B.is_ready below.old partition.0 u) replica.old.replica.log }
-    requires blocks { partition.0 < length (B.process below.old).as_leader.rebuilt }
-    requires tidy { IsTidyBut replica.old (λ _. false) }
-    ensures shape { replica.new.shape ≡ replica.old.shape }
-    ensures below { B.shape below.new ≡ B.shape below.old }
-    ensures pages { MakesNoneOf (Misses (B.shape below.old).block update.body) (B.made below.old) (B.made below.new) }
-    ensures kept { (d : ℕ) (u : Update) → B.is_ready below.old d u → B.is_ready below.new d u }
-    ensures ready { All (λ u. B.is_ready below.new partition.0 u) replica.new.replica.log }
-    ensures tidy { IsTidyBut replica.new (λ _. false) }
-    ensures replica { OnOk result (replica.new.replica ≡ applied_to (settles peers.now head.now update.number)
-        (with_update update replica.old.replica)) }
-    ensures bytes { OnOk result (B.process below.new ≡ bytes_after (B.shape below.old) partition.0
-        (up_to (settles peers.now head.now update.number) (with_update update replica.old.replica)) (B.process below.old)) }
-    ensures sent { IfOk result (λ step. step.sent.items
-        ≡ to_all peers.now (message_of (record { 0 = head.now.rank }) partition (Issued update replica.old.replica.applied))) }
-    ensures settled { IfOk result (λ step. step.settled.items ≡ settlements partition.0
-        (up_to (settles peers.now head.now update.number) (with_update update replica.old.replica))) }
-    ensures answer { IfOk result (λ step. step.answer
-        ≡ answer_to (nat_le update.number replica.new.replica.applied) update) }
-    ensures held { OnOk result (held.new.items ≡ held_then
-        (nat_le update.number replica.new.replica.applied) update held.old.items) }
-    ensures replica_err { OnErr result (replica.new.replica ≡ replica.old.replica) }
-    ensures bytes_err { OnErr result (B.process below.new ≡ B.process below.old) }
-    ensures held_err { OnErr result (held.new.items ≡ held.old.items) }
+    requires seat { IsHeadSeat partition.0 peers.now head.now replica.old (B.storage below.old) }
+    ensures seat { IsSeat partition.0 replica.new (B.storage below.new) }
+    ensures makes { MakesReady (Misses (B.storage below.old).shape.block update.body) (B.storage below.old)
+        (B.storage below.new) }
+    ensures made { IfOk result (λ step. IsStep (issues (B.storage below.old).shape partition.0 peers.now head.now update
+        replica.old.replica held.old.items (B.storage below.old).process)
+        step replica.new.replica held.new.items (B.storage below.new).process) }
+    ensures err { OnErr result ((held.new.items ≡ held.old.items)
+        × ChangesOnlyRoom replica.old replica.new (B.storage below.old) (B.storage below.new)) }
 {
     match prepare(partition, head, peers, &update, replica, held, below) {
         Ok(prepared) => Ok(carry_out(partition, prepared, update, replica, held, below)),
@@ -94,27 +73,18 @@ fn prepare<B: Beneath>(
     held: &mut Vec<Held>,
     below: &mut B,
 ) -> Result<Prepared, AllocError>
-    requires partition { partition.0 < (B.shape below.old).k }
-    requires acks { length head.now.acks ≡ peers.now.m }
-    requires writes { Writes (space_of (B.shape below.old)) update.now.body }
-    ensures shape { replica.new.shape ≡ replica.old.shape }
-    ensures replica { replica.new.replica ≡ replica.old.replica }
+    requires writes { Writes (space_of (B.storage below.old).shape) update.now.body }
+    requires seat { IsHeadSeat partition.0 peers.now head.now replica.old (B.storage below.old) }
+    ensures seat { IsSeatBut (is_touched (update.now ∷ [])) partition.0 replica.new (B.storage below.new) }
+    ensures makes { MakesReady (Misses (B.storage below.old).shape.block update.now.body) (B.storage below.old)
+        (B.storage below.new) }
+    ensures same { ChangesOnlyRoom replica.old replica.new (B.storage below.old) (B.storage below.new) }
     ensures held { held.new.items ≡ held.old.items }
-    ensures below { B.shape below.new ≡ B.shape below.old }
-    ensures pages { MakesNoneOf (Misses (B.shape below.old).block update.now.body) (B.made below.old)
-        (B.made below.new) }
-    ensures bytes { B.process below.new ≡ B.process below.old }
-    ensures kept { (d : ℕ) (u : Update) → B.is_ready below.old d u → B.is_ready below.new d u }
-    ensures owed { (owed : List ℕ → Bool) → IsTidyBut replica.old owed
-        → IsTidyBut replica.new (λ q. owed q || is_touched (update.now ∷ []) q) }
-    ensures room { OnOk result (HasRoom replica.new.room (update.now ∷ [])) }
-    ensures place { OnOk result (vec_len held.new < vec_capacity held.new) }
-    ensures ready { OnOk result (B.is_ready below.new partition.0 update.now) }
-    ensures number { IfOk result (λ p. p.number ≡ settles peers.now head.now update.now.number) }
-    ensures sent { IfOk result (λ p. p.sent.items
-        ≡ to_all peers.now (message_of (record { 0 = head.now.rank }) partition (Issued update.now replica.old.replica.applied))) }
-    ensures settled { IfOk result (λ p. p.settled.items ≡ []) }
-    ensures fits { IfOk result (λ p. vec_capacity p.settled ≡ p.number - replica.old.replica.applied) }
+    ensures room { OnOk result (HasRoomFor partition.0 update.now replica.new (vec_len held.new)
+        (vec_capacity held.new) (B.storage below.new)) }
+    ensures prepared { IfOk result (λ p. IsReadyToIssue peers.now head.now partition.0 update.now
+        replica.old.replica.applied
+        p.number p.sent.items p.settled.items (vec_capacity p.settled)) }
 {
     make_room(partition, update, replica, held, below)?;
     Prepared::of(
@@ -135,21 +105,16 @@ fn make_room<B: Beneath>(
     held: &mut Vec<Held>,
     below: &mut B,
 ) -> Result<(), AllocError>
-    requires partition { partition.0 < (B.shape below.old).k }
-    requires writes { Writes (space_of (B.shape below.old)) update.now.body }
-    ensures shape { replica.new.shape ≡ replica.old.shape }
-    ensures replica { replica.new.replica ≡ replica.old.replica }
+    requires partition { partition.0 < (B.storage below.old).shape.k }
+    requires writes { Writes (space_of (B.storage below.old).shape) update.now.body }
+    ensures makes { MakesReady (Misses (B.storage below.old).shape.block update.now.body) (B.storage below.old)
+        (B.storage below.new) }
+    ensures same { ChangesOnlyRoom replica.old replica.new (B.storage below.old) (B.storage below.new) }
     ensures held { held.new.items ≡ held.old.items }
-    ensures below { B.shape below.new ≡ B.shape below.old }
-    ensures pages { MakesNoneOf (Misses (B.shape below.old).block update.now.body) (B.made below.old)
-        (B.made below.new) }
-    ensures bytes { B.process below.new ≡ B.process below.old }
-    ensures kept { (d : ℕ) (u : Update) → B.is_ready below.old d u → B.is_ready below.new d u }
-    ensures owed { (owed : List ℕ → Bool) → IsTidyBut replica.old owed
-        → IsTidyBut replica.new (λ q. owed q || is_touched (update.now ∷ []) q) }
-    ensures room { OnOk result (HasRoom replica.new.room (update.now ∷ [])) }
-    ensures place { OnOk result (vec_len held.new < vec_capacity held.new) }
-    ensures ready { OnOk result (B.is_ready below.new partition.0 update.now) }
+    ensures shape { replica.new.shape ≡ replica.old.shape }
+    ensures owed { OwesOnly (update.now ∷ []) replica.old replica.new }
+    ensures room { OnOk result (HasRoomFor partition.0 update.now replica.new (vec_len held.new)
+        (vec_capacity held.new) (B.storage below.new)) }
 {
     replica.reserve(update)?;
     below.reserve(partition, update)?;
@@ -167,11 +132,8 @@ impl Prepared {
         applied: u64,
     ) -> Result<Prepared, AllocError>
         requires acks { length head.now.acks ≡ peers.now.m }
-        ensures number { IfOk result (λ p. p.number ≡ settles peers.now head.now update.now.number) }
-        ensures sent { IfOk result (λ p. p.sent.items
-            ≡ to_all peers.now (message_of (record { 0 = head.now.rank }) partition (Issued update.now applied))) }
-        ensures settled { IfOk result (λ p. p.settled.items ≡ []) }
-        ensures fits { IfOk result (λ p. vec_capacity p.settled ≡ p.number - applied) }
+        ensures { IfOk result (λ p. IsReadyToIssue peers.now head.now partition.0 update.now applied
+            p.number p.sent.items p.settled.items (vec_capacity p.settled)) }
     {
         let number = peers.least_acked(head, update.number);
         let settled = Vec::with_capacity(alloc, number.saturating_sub(applied) as usize)?;
@@ -200,29 +162,16 @@ fn carry_out<B: Beneath>(
 ) -> CallStep
     requires next { update.number ≡ last_of replica.old.replica + 1 }
     requires comes { CanCome (space_of replica.old.shape) replica.old.replica update }
-    requires room { HasRoom replica.old.room (update ∷ []) }
-    requires place { vec_len held.old < vec_capacity held.old }
-    requires shape { B.shape below.old ≡ replica.old.shape }
-    requires logged { All (λ u. B.is_ready below.old partition.0 u) replica.old.replica.log }
-    requires ready { B.is_ready below.old partition.0 update }
-    requires blocks { partition.0 < length (B.process below.old).as_leader.rebuilt }
-    requires empty { prepared.settled.items ≡ [] }
-    requires fits { prepared.number - replica.old.replica.applied ≤ vec_capacity prepared.settled }
-    requires tidy { IsTidyBut replica.old (λ q. false || is_touched (update ∷ []) q) }
-    ensures shape { replica.new.shape ≡ replica.old.shape }
-    ensures replica { replica.new.replica ≡ applied_to prepared.number (with_update update replica.old.replica) }
-    ensures tidy { IsTidyBut replica.new (λ _. false) }
-    ensures below { B.shape below.new ≡ B.shape below.old }
-    ensures pages { B.made below.new ≡ B.made below.old }
-    ensures bytes { B.process below.new ≡ bytes_after (B.shape below.old) partition.0
-        (up_to prepared.number (with_update update replica.old.replica)) (B.process below.old) }
-    ensures kept { (d : ℕ) (u : Update) → B.is_ready below.old d u → B.is_ready below.new d u }
-    ensures ready { All (λ u. B.is_ready below.new partition.0 u) replica.new.replica.log }
-    ensures sent { result.sent ≡ prepared.sent }
-    ensures settled { result.settled.items ≡ settlements partition.0
-        (up_to prepared.number (with_update update replica.old.replica)) }
-    ensures answer { result.answer ≡ answer_to (nat_le update.number replica.new.replica.applied) update }
-    ensures held { held.new.items ≡ held_then (nat_le update.number replica.new.replica.applied) update held.old.items }
+    requires seat { IsSeatBut (is_touched (update ∷ [])) partition.0 replica.old (B.storage below.old) }
+    requires room { HasRoomFor partition.0 update replica.old (vec_len held.old) (vec_capacity held.old)
+        (B.storage below.old) }
+    requires settled { IsRoomFor (prepared.number - replica.old.replica.applied) prepared.settled.items
+        (vec_capacity prepared.settled) }
+    ensures seat { IsSeat partition.0 replica.new (B.storage below.new) }
+    ensures stays { StaysReady (B.storage below.old) (B.storage below.new) }
+    ensures made { IsStep (issued_up_to prepared.number prepared.sent.items (B.storage below.old).shape partition.0
+        update replica.old.replica held.old.items (B.storage below.old).process)
+        result replica.new.replica held.new.items (B.storage below.new).process }
 {
     let Prepared {
         sent,

@@ -22,7 +22,7 @@ pub mod settle;
 pub mod step;
 pub mod take_over;
 
-pub use ask::{Asked, Call};
+pub use ask::{Asking, Call};
 pub use beneath::Beneath;
 pub use head::Head;
 pub use held::Held;

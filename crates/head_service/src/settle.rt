@@ -1,10 +1,9 @@
-ghost use Rattle.std.specs.Prelude.{◌≡◌, ◌+◌, ◌≤◌, ◌||◌, ℕ, ◌<◌, Bool, List, [], ◌++◌, length, vec_len, vec_capacity, All, IfOk};
-ghost use Rattle.group_message.specs.declared.update.Update.{Update};
-ghost use Rattle.group_run.specs.Applying.{bytes_after};
-ghost use Rattle.group_run.specs.Heading.{settlements};
-ghost use Rattle.group_run.specs.Replica.{applied_to, up_to};
+ghost use Rattle.std.specs.Prelude.{◌≡◌, ◌+◌, ◌≤◌, ◌||◌, ℕ, Bool, List, [], length, vec_len, vec_capacity, IfOk};
+ghost use Rattle.group_run.specs.Replica.{up_to};
 ghost use Rattle.partition_replica.specs.State.{IsTidyBut, is_touched};
-ghost use Rattle.head_service.specs.Settling.{updates_of};
+ghost use Rattle.head_service.specs.Seat.{OwesOnly, StandsOn};
+ghost use Rattle.head_service.specs.Settling.{HasSettled, updates_of};
+ghost use Rattle.head_service.specs.Storage.{StaysReady};
 
 use crate::beneath::Beneath;
 use crate::step::Settlement;
@@ -30,23 +29,15 @@ pub fn settle_to<B: Beneath>(
     below: &mut B,
     settled: &mut Vec<Settlement>,
 )
-    requires shape { B.shape below.old ≡ replica.old.shape }
-    requires ready { All (λ u. B.is_ready below.old partition.0 u) replica.old.replica.log }
-    requires blocks { partition.0 < length (B.process below.old).as_leader.rebuilt }
+    requires stands { StandsOn partition.0 replica.old (B.storage below.old) }
     requires room { vec_len settled.old + length (up_to number replica.old.replica) ≤ vec_capacity settled.old }
-    ensures shape { replica.new.shape ≡ replica.old.shape }
-    ensures replica { replica.new.replica ≡ applied_to number replica.old.replica }
-    ensures below { B.shape below.new ≡ B.shape below.old }
-    ensures pages { B.made below.new ≡ B.made below.old }
-    ensures bytes { B.process below.new ≡ bytes_after (B.shape below.old) partition.0
-        (up_to number replica.old.replica) (B.process below.old) }
-    ensures settled { settled.new.items ≡ settled.old.items
-        ++ settlements partition.0 (up_to number replica.old.replica) }
+    ensures stands { StandsOn partition.0 replica.new (B.storage below.new) }
+    ensures stays { StaysReady (B.storage below.old) (B.storage below.new) }
+    ensures settled { HasSettled partition.0 number replica.old.replica replica.new.replica (B.storage below.old)
+        (B.storage below.new) settled.old.items settled.new.items }
     ensures capacity { vec_capacity settled.old ≤ vec_capacity settled.new }
     ensures room { replica.new.room ≡ replica.old.room }
-    ensures ready { (d : ℕ) (u : Update) → B.is_ready below.old d u → B.is_ready below.new d u }
-    ensures owed { (owed : List ℕ → Bool) → IsTidyBut replica.old owed
-        → IsTidyBut replica.new (λ q. owed q || is_touched (up_to number replica.old.replica) q) }
+    ensures owed { OwesOnly (up_to number replica.old.replica) replica.old replica.new }
 {
     'updates: while replica.applied() < number {
         let Some(update) = replica.settle_next() else {

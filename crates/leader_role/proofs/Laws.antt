@@ -32,7 +32,7 @@ use Rattle.group_run.specs.Replica.{with_update}
 use Rattle.group_run.specs.Rows.{copy_in, is_copy, parity_number}
 use Rattle.block_sessions.specs.Opened.{AreLost}
 use Rattle.leader_role.specs.Laws.{SoundCanStart, StaysSound}
-use Rattle.leader_role.specs.Sound.{IsOfGroup, IsSound, IsVacant}
+use Rattle.leader_role.specs.Sound.{IsOfGroup, CanLead, IsVacant}
 use Rattle.leader_role.proofs.Coming.{block-stays, cease-stays, mark-stays, row-stays}
 use Rattle.leader_role.proofs.Finding.{none-found}
 use Rattle.leader_role.proofs.Noticed.{noticed-sound}
@@ -40,7 +40,7 @@ use Rattle.leader_role.proofs.Opening.{itself-a-row, lost-and-rows, retried-soun
 use Rattle.leader_role.proofs.Steps.{Stays, acknowledge-stays, applied-stays, judge-stays, sound-stays, stays-alike, stays-self, stays-then, stays-when}
 
 module _ (s : Dimensions) where
-  pub opening : (i : ℕ) → IsShape s → i < s.m → IsSound s (opening_process s (ParityNode i))
+  pub opening : (i : ℕ) → IsShape s → i < s.m → CanLead s (opening_process s (ParityNode i))
   opening i limits inside = record {
     limits = limits;
     named = (i, refl, inside);
@@ -54,7 +54,7 @@ module _ (s : Dimensions) where
     nobody : (d : ℕ) → is_some (head_at (opening_process s (ParityNode i)) d) ≡ true → ⊥
     nobody d heads = cc (sym (ap is_some (at-replicate None s.k d)) ∙ heads)
 
-  module _ (p : Process) (d : ℕ) (h : Head) (sound : IsSound s p) (there : head_at p d ≡ Some h) (inside : d < s.k) where
+  module _ (p : Process) (d : ℕ) (h : Head) (sound : CanLead s p) (there : head_at p d ≡ Some h) (inside : d < s.k) where
     vacant : IsVacant p.known d (parity_number p.name)
     vacant = sound.heads d (ap is_some there)
 
@@ -65,7 +65,7 @@ module _ (s : Dimensions) where
     among-rows = itself-a-row s p sound d vacant inside
 
   -- a leader has no copy for its next session
-  pub none-next : (p : Process) → IsSound s p → copy_in p.as_row.copies (parity_number p.name) (suc p.as_leader.last_session) ≡ None
+  pub none-next : (p : Process) → CanLead s p → copy_in p.as_row.copies (parity_number p.name) (suc p.as_leader.last_session) ≡ None
   none-next p sound =
       none-found (λ c. c.leader ≡ leader → c.number ≤ p.as_leader.last_session) (is_copy leader next) p.as_row.copies
       (λ c started same. high c started (and_parts (c.leader == leader) (c.number == next) same)) sound.copies
@@ -92,8 +92,8 @@ module _ (s : Dimensions) where
   ticketed-stays true d u p step stays = stays
   ticketed-stays false d u p step stays = stays-then p step.process _ stays (stays-alike step.process _ refl refl refl refl (λ own. own))
 
-  acted-sound : (name : CallName) (op : Asked) (d : ℕ) (h : Head) (p : Process) (decision : Decision) → IsSound s p → Contains (rows_of s p) (parity_number p.name)
-      → IsSound s (act_on s name op d h p decision).step.process
+  acted-sound : (name : CallName) (op : Asked) (d : ℕ) (h : Head) (p : Process) (decision : Decision) → CanLead s p → Contains (rows_of s p) (parity_number p.name)
+      → CanLead s (act_on s name op d h p decision).step.process
   acted-sound name op d h p (decides.Answer r) sound mine = sound
   acted-sound name op d h p (decides.Retry n) sound mine = sound
   acted-sound name op d h p decides.NoSpace sound mine = sound
@@ -104,26 +104,26 @@ module _ (s : Dimensions) where
       let at_once : Bool = nat_le u.number (replica_of step.process d).applied in
       sound-stays s p (ticketed at_once d u step).step.process (ticketed-stays at_once d u p step (issued-stays d h u p)) sound
 
-  head-asked : (name : CallName) (op : Asked) (d : ℕ) (p : Process) (o : Option Head) → head_at p d ≡ o → d < s.k → IsSound s p
-      → IsSound s (ask_head s name op d p o).step.process
+  head-asked : (name : CallName) (op : Asked) (d : ℕ) (p : Process) (o : Option Head) → head_at p d ≡ o → d < s.k → CanLead s p
+      → CanLead s (ask_head s name op d p o).step.process
   head-asked name op d p None there inside sound = sound
   head-asked name op d p (Some h) there inside sound =
       acted-sound name op d h p (decide (space_of s) h.inherited (replica_of p d) op (found_at s d p p.name)) sound (among-rows p d h sound there inside)
 
-  pub asked-sound : (name : CallName) (op : Asked) (p : Process) → IsSound s p → IsSound s (ask_process s name op p).step.process
+  pub asked-sound : (name : CallName) (op : Asked) (p : Process) → CanLead s p → CanLead s (ask_process s name op p).step.process
   asked-sound name op p sound =
       let d : ℕ = home_of (key_of op.act) s.k in
       head-asked name op d p (head_at p d) refl (omega (arith, sound.limits.k.0)) sound
 
   -- a call that is handed out
-  pub collected-sound : (caller call : ℕ) (p : Process) (ds : List ℕ) → IsSound s p → IsSound s (collect_from caller call p ds).step.process
+  pub collected-sound : (caller call : ℕ) (p : Process) (ds : List ℕ) → CanLead s p → CanLead s (collect_from caller call p ds).step.process
   collected-sound caller call p [] sound = sound
   collected-sound caller call p (d ∷ ds) sound = by (find (is_call caller call) (held_at p d)) (collected-sound caller call p ds sound) where
     handed : (now : Bool) (h : Held) → Stays p (handed_out now d h p).step.process
     handed true h = stays-alike p _ refl refl refl refl (λ own. own)
     handed false h = stays-self p
 
-    by : (o : Option Held) → IsSound s (collect_from caller call p ds).step.process → IsSound s (collect_held d o p (collect_from caller call p ds)).step.process
+    by : (o : Option Held) → CanLead s (collect_from caller call p ds).step.process → CanLead s (collect_held d o p (collect_from caller call p ds)).step.process
     by None rest = rest
     by (Some h) rest = sound-stays s p _ (handed (nat_le h.number (replica_of p d).applied) h) sound
 
@@ -145,8 +145,8 @@ module _ (s : Dimensions) where
       (stays-alike q _ refl refl refl refl (λ own. own))
 
   -- a message that comes
-  pub received-sound : (from : ProcessId) (message : Message) (p : Process) → IsSound s p → Fits s from message p → IsOfGroup s message p
-      → IsSound s (receive s from message p).process
+  pub received-sound : (from : ProcessId) (message : Message) (p : Process) → CanLead s p → Fits s from message p → IsOfGroup s message p
+      → CanLead s (receive s from message p).process
   received-sound from (tells.Update r d u stable) p sound fits of_group =
       let step : ProcessStep = ack_to from r.0 d.0 u.number (update_taken s d.0 u stable p) in
       sound-stays s p _ (stays-when (nat_le (at 0 p.ranks d.0) r.0) p step (updated-stays d.0 u stable p)) sound

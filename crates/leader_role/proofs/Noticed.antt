@@ -14,7 +14,7 @@ use Rattle.group_run.specs.Leaders.{close_sessions}
 use Rattle.group_run.specs.Process.{Gathering, Head, Process}
 use Rattle.group_run.specs.Receiving.{death_known, notice_comes, take_over_if}
 use Rattle.group_run.specs.Rows.{parity_number}
-use Rattle.leader_role.specs.Sound.{IsSound, IsVacant}
+use Rattle.leader_role.specs.Sound.{CanLead, IsVacant}
 use Rattle.leader_role.proofs.Coming.{cease-stays, filtered-stays}
 use Rattle.leader_role.proofs.Dead.{knows-other, shape-stays, vacant-still}
 use Rattle.leader_role.proofs.Steps.{OwnStarted, each-sound, judge-stays, sound-stays, stays-each, takes-sound}
@@ -28,7 +28,7 @@ module _ (s : Dimensions) where
     pub sessions : q.as_leader.sessions ≡ []
     pub copies : OwnStarted p → OwnStarted q
 
-  bereaved-sound : (dead : ProcessId) (p q : Process) → IsBereaved dead p q → NoticeFits s p dead → lost_of (with_dead p.known dead) ≤ s.m → IsSound s p → IsSound s q
+  bereaved-sound : (dead : ProcessId) (p q : Process) → IsBereaved dead p q → NoticeFits s p dead → lost_of (with_dead p.known dead) ≤ s.m → CanLead s p → CanLead s q
   bereaved-sound dead p q is fits few sound = record {
     limits = sound.limits;
     named = (sound.named.0, is.name ∙ sound.named.1, sound.named.2);
@@ -63,8 +63,8 @@ module _ (s : Dimensions) where
   death-bereaved (ParityNode i) p = closed-bereaved (ParityNode i) p (death_known (ParityNode i) p) p.as_leader.sessions refl refl refl refl
       (filtered-stays s (λ c. not (c.leader == i)) p).copies
 
-  pub noticed-sound : (dead : ProcessId) (p : Process) → IsSound s p → NoticeFits s p dead → lost_of (with_dead p.known dead) ≤ s.m
-      → IsSound s (notice_comes s dead p).process
+  pub noticed-sound : (dead : ProcessId) (p : Process) → CanLead s p → NoticeFits s p dead → lost_of (with_dead p.known dead) ≤ s.m
+      → CanLead s (notice_comes s dead p).process
   noticed-sound dead p sound fits few =
       let q : Process = death_known dead p in
       let closed : Process = (close_sessions s q.as_leader.sessions q).process in

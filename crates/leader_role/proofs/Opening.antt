@@ -13,12 +13,12 @@ use Rattle.group_run.specs.Leaders.{lost_of, new_session, own_mark, rows_of, ses
 use Rattle.group_run.specs.Process.{Process}
 use Rattle.group_run.specs.Rows.{parity_number}
 use Rattle.block_sessions.specs.Opened.{AreLost}
-use Rattle.leader_role.specs.Sound.{IsSound, IsVacant}
+use Rattle.leader_role.specs.Sound.{CanLead, IsVacant}
 use Rattle.leader_role.proofs.Counting.{below-filter, enough, first-left, front-taken, rising-filter, rising-take, some-found}
 use Rattle.leader_role.proofs.Coming.{mark-stays}
 use Rattle.leader_role.proofs.Steps.{Stays, sound-stays, stays-self, stays-then}
 
-module _ (s : Dimensions) (p : Process) (sound : IsSound s p) where
+module _ (s : Dimensions) (p : Process) (sound : CanLead s p) where
   abbrev left : List ℕ
   left = filter (λ i. not (knows_dead p.known (ParityNode i))) (range_with_len 0 s.m)
 
@@ -45,7 +45,7 @@ module _ (s : Dimensions) (p : Process) (sound : IsSound s p) where
       front-taken (length (lost_of s p)) i left front.0 (some-lost d vacant inside) front.1
 
   -- with a session more
-  opened-sound : (number block : ℕ) → p.as_leader.last_session ≤ number → Contains (rows_of s p) (parity_number p.name) → IsSound s (session_opened s number block p)
+  opened-sound : (number block : ℕ) → p.as_leader.last_session ≤ number → Contains (rows_of s p) (parity_number p.name) → CanLead s (session_opened s number block p)
   opened-sound number block later mine = record {
     limits = sound.limits;
     named = sound.named;
@@ -69,7 +69,7 @@ module _ (s : Dimensions) (p : Process) (sound : IsSound s p) where
       stays-then q marked (for_each ls (own_mark s leader number block) marked).process one
       (own-marks-stay leader number block ls marked (omega (arith, started, last)))
 
-  started-sound : (block : ℕ) → Contains (rows_of s p) (parity_number p.name) → IsSound s (start_session s block p).process
+  started-sound : (block : ℕ) → Contains (rows_of s p) (parity_number p.name) → CanLead s (start_session s block p).process
   started-sound block mine =
       let number : ℕ = suc p.as_leader.last_session in
       let leader : ℕ = parity_number p.name in
@@ -79,9 +79,9 @@ module _ (s : Dimensions) (p : Process) (sound : IsSound s p) where
       (opened-sound number block (omega arith) mine)
 
   -- a block that is missing is waited for, or a session is opened for it
-  pub retried-sound : (block : ℕ) (o : Option Oldest) → Contains (rows_of s p) (parity_number p.name) → IsSound s (retry_block s block o p).step.process
+  pub retried-sound : (block : ℕ) (o : Option Oldest) → Contains (rows_of s p) (parity_number p.name) → CanLead s (retry_block s block o p).step.process
   retried-sound block (Some o) mine = sound
   retried-sound block None mine = by (not (list_any (λ g. g.block == block) p.as_leader.sessions)) where
-    by : (b : Bool) → IsSound s (when b p (start_session s block p)).process
+    by : (b : Bool) → CanLead s (when b p (start_session s block p)).process
     by true = started-sound block mine
     by false = sound

@@ -15,7 +15,7 @@ use Rattle.group_run.specs.Process.{Copy, Gathering, Head, LeaderState, Process}
 use Rattle.group_run.specs.Receiving.{enthroned, take_over_if, taken_over, takes_over}
 use Rattle.group_run.specs.Replica.{last_of, up_to}
 use Rattle.group_run.specs.Rows.{parity_number}
-use Rattle.leader_role.specs.Sound.{AreStarted, IsSound, IsVacant}
+use Rattle.leader_role.specs.Sound.{AreStarted, CanLead, IsVacant}
 use Rattle.leader_role.proofs.Dead.{taken-vacant}
 
 -- each session has a parity process as a row
@@ -70,7 +70,7 @@ stays-when false p step stays = stays-self p
 
 module _ (s : Dimensions) where
   -- what stays lets it lead
-  pub sound-stays : (p q : Process) → Stays p q → IsSound s p → IsSound s q
+  pub sound-stays : (p q : Process) → Stays p q → CanLead s p → CanLead s q
   sound-stays p q stays sound = record {
     limits = sound.limits;
     named = (sound.named.0, stays.name ∙ sound.named.1, sound.named.2);
@@ -146,7 +146,7 @@ module _ (s : Dimensions) where
       stays-when (r == h.rank) p (judge s d q) (stays-then p q (judge s d q).process (head-stays d h (acknowledged i n h) p there) (judge-stays d q))
 
   -- a partition is taken over where it is vacant
-  enthroned-sound : (r d : ℕ) (p : Process) → IsVacant p.known d (parity_number p.name) → IsSound s p → IsSound s (enthroned s r d p)
+  enthroned-sound : (r d : ℕ) (p : Process) → IsVacant p.known d (parity_number p.name) → CanLead s p → CanLead s (enthroned s r d p)
   enthroned-sound r d p vacant sound = record {
     limits = sound.limits;
     named = sound.named;
@@ -161,16 +161,16 @@ module _ (s : Dimensions) where
     by e (inl same) heads = subst (λ (x : ℕ). IsVacant p.known x (parity_number p.name)) (sym same) vacant
     by e (inr other) heads = sound.heads e (ap is_some (sym (at-put-other None p.heads d e _ other)) ∙ heads)
 
-  pub takes-sound : (d : ℕ) (p : Process) → IsSound s p → IsSound s (take_over_if s d p).process
+  pub takes-sound : (d : ℕ) (p : Process) → CanLead s p → CanLead s (take_over_if s d p).process
   takes-sound d p sound = by (takes_over p d p.name) refl where
     q : Process
     q = enthroned s (suc (parity_number p.name)) d p
 
-    by : (b : Bool) → takes_over p d p.name ≡ b → IsSound s (when b p (taken_over s d p)).process
+    by : (b : Bool) → takes_over p d p.name ≡ b → CanLead s (when b p (taken_over s d p)).process
     by true takes = sound-stays q (judge s d q).process (judge-stays d q) (enthroned-sound (suc (parity_number p.name)) d p (taken-vacant p d p.name takes) sound)
     by false takes = sound
 
-  pub each-sound : (f : ℕ → Process → ProcessStep) → ((x : ℕ) (q : Process) → IsSound s q → IsSound s (f x q).process) → (xs : List ℕ) (p : Process) → IsSound s p
-      → IsSound s (for_each xs f p).process
+  pub each-sound : (f : ℕ → Process → ProcessStep) → ((x : ℕ) (q : Process) → CanLead s q → CanLead s (f x q).process) → (xs : List ℕ) (p : Process) → CanLead s p
+      → CanLead s (for_each xs f p).process
   each-sound f each [] p sound = sound
   each-sound f each (x ∷ xs) p sound = each-sound f each xs (f x p).process (each x p sound)

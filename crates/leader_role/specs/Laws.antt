@@ -15,15 +15,15 @@ use Rattle.group_run.specs.Process.{Head, Process, opening_process}
 use Rattle.group_run.specs.Receiving.{receive}
 use Rattle.group_run.specs.Rows.{parity_number}
 use Rattle.block_sessions.specs.Opened.{AreLost}
-use Rattle.leader_role.specs.Sound.{IsOfGroup, IsSound}
+use Rattle.leader_role.specs.Sound.{IsOfGroup, CanLead}
 
 -- a parity process is sound at the start, and stays so
 pub record StaysSound (s : Dimensions) : Type 0 where
-  pub opening : (i : ℕ) → IsShape s → i < s.m → IsSound s (opening_process s (ParityNode i))
-  pub asked : (name : CallName) (op : Asked) (p : Process) → IsSound s p → IsSound s (ask_process s name op p).step.process
-  pub collected : (caller call : ℕ) (p : Process) (ds : List ℕ) → IsSound s p → IsSound s (collect_from caller call p ds).step.process
-  pub received : (from : ProcessId) (message : Message) (p : Process) → IsSound s p → Fits s from message p → IsOfGroup s message p
-      → IsSound s (receive s from message p).process
+  pub opening : (i : ℕ) → IsShape s → i < s.m → CanLead s (opening_process s (ParityNode i))
+  pub asked : (name : CallName) (op : Asked) (p : Process) → CanLead s p → CanLead s (ask_process s name op p).step.process
+  pub collected : (caller call : ℕ) (p : Process) (ds : List ℕ) → CanLead s p → CanLead s (collect_from caller call p ds).step.process
+  pub received : (from : ProcessId) (message : Message) (p : Process) → CanLead s p → Fits s from message p → IsOfGroup s message p
+      → CanLead s (receive s from message p).process
 
 -- where it heads a partition, a session has as many rows as partitions are lost, and it is one of the rows
 pub record CanStart (s : Dimensions) (p : Process) : Type 0 where
@@ -31,4 +31,4 @@ pub record CanStart (s : Dimensions) (p : Process) : Type 0 where
   pub itself : Contains (rows_of s p) (parity_number p.name)
 
 abbrev pub SoundCanStart : Type 0
-SoundCanStart = (s : Dimensions) (p : Process) (d : ℕ) (h : Head) → IsSound s p → head_at p d ≡ Some h → d < s.k → CanStart s p
+SoundCanStart = (s : Dimensions) (p : Process) (d : ℕ) (h : Head) → CanLead s p → head_at p d ≡ Some h → d < s.k → CanStart s p

@@ -22,7 +22,7 @@ AreStarted leader number copies = All (λ c. c.leader ≡ leader → c.number �
 
 -- a parity process that can lead: it lives, in a group that isn't down; what it heads was vacant, it is a row of each
 -- session that it opened, and a copy for a session of its own is for one that it started
-pub record IsSound (s : Dimensions) (p : Process) : Type 0 where
+pub record CanLead (s : Dimensions) (p : Process) : Type 0 where
   pub limits : IsShape s
   pub named : (i : ℕ) × (p.name ≡ ParityNode i) × (i < s.m)
   pub shape : p.known.shape ≡ s

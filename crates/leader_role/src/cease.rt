@@ -8,6 +8,8 @@ use head_service::{Peers, Sent};
 use std::alloc::AllocError;
 
 /// Tells the other parity processes that the leader's sessions up to a number are closed.
+///
+/// `AllocError`: what was in the list still stands at its front.
 pub fn ceases(peers: &Peers, last: u64, sent: &mut Vec<Sent>) -> Result<(), AllocError>
     ensures told { OnOk result (sent.new.items ≡ sent.old.items ++ to_all peers.now (tells.Cease last)) }
     ensures before { take (length sent.old.items) sent.new.items ≡ sent.old.items }

@@ -33,7 +33,8 @@ impl Start {
     ) -> Result<Vec<Sent>, AllocError>
         requires ranks { length ranks.now ≡ shape.k }
         requires replicas { length replicas.now ≡ shape.k }
-        ensures { IfOk result (λ sent. (p : Process) → HasParts shape known.now rows.now ranks.now (map (λ r. r.replica) replicas.now) p
+        ensures { IfOk result (λ sent. (p : Process)
+            → HasParts shape known.now rows.now ranks.now (map (λ r. r.replica) replicas.now) p
             → sent.items ≡ session_starts shape self.now.leader self.now.number self.now.block p) }
     {
         let mut sent = Vec::new(alloc);

@@ -4,6 +4,7 @@ use Rattle.group_types.specs.Dimensions.{Dimensions}
 use Rattle.group_types.specs.declared.process.ProcessId.TheVariants.{ParityNode}
 use Rattle.group_message.specs.declared.update.Update.{Update}
 use Rattle.group_run.specs.Process.{LeaderState, Process, RowState, opening_process}
+use Rattle.head_service.specs.Storage.{Storage}
 use Rattle.parity_space.specs.Space.{CanBeAdded, Space}
 use Rattle.row_copies.specs.Row.{Row}
 use Rattle.block_sessions.specs.Leading.{Leading}
@@ -29,6 +30,10 @@ pub record Stays (old new : Holding) : Type 0 where
 -- an update of partition d can be added: d is one of the group, and the pages of what it writes are made
 abbrev pub IsReady : Holding → ℕ → Update → Type 0
 IsReady b d u = (d < b.shape.k) × CanBeAdded b.shape b.made u.body
+
+-- the bytes as a head sees them
+abbrev pub storage_of : Holding → Storage
+storage_of b = record { shape = b.shape; process = b.process; made = b.made; is_ready = IsReady b }
 
 -- the parts of one parity process
 pub record AreOf (s : Dimensions) (number : ℕ) (space : Space) (row : Row) (leading : Leading) : Type 0 where

@@ -18,6 +18,7 @@ use row_copies::Rows;
 use std::alloc::{AllocError, Global};
 use std::marker::Model;
 
+mod coming;
 mod leader;
 mod row;
 
@@ -94,15 +95,9 @@ impl ParityBytes {
 }
 
 impl Beneath for ParityBytes {
-    ghost use Rattle.parity_bytes.specs.Bytes.{IsReady};
+    ghost use Rattle.parity_bytes.specs.Bytes.{storage_of};
 
-    ghost shape = { λ b. b.shape };
-
-    ghost process = { λ b. b.process };
-
-    ghost made = { λ b. b.made };
-
-    ghost is_ready = { λ b d u. IsReady b d u };
+    ghost storage = { λ b. storage_of b };
 
     fn name(&self) -> ProcessId {
         ProcessId::ParityNode(self.number)
@@ -135,9 +130,11 @@ fn rebuilt(sessions: &Sessions, partition: Partition, run: Run) -> Result<Found,
     requires partition { partition.0 < sessions.now.shape.k }
     requires within { LiesIn run sessions.now.shape }
     ensures found { IfOk result (λ found. found ≡ found_unless
-        (missing_block sessions.now.shape partition.0 run sessions.now.state) (rebuilt_bytes sessions.now.shape partition.0 run sessions.now.state)) }
+        (missing_block sessions.now.shape partition.0 run sessions.now.state)
+        (rebuilt_bytes sessions.now.shape partition.0 run sessions.now.state)) }
     ensures whole { IfOk result (IsFound sessions.now.shape run.len) }
-    ensures wanted { OnErr result (IsThere (found_unless (missing_block sessions.now.shape partition.0 run sessions.now.state)
+    ensures wanted { OnErr result (IsThere (found_unless (missing_block sessions.now.shape partition.0 run
+        sessions.now.state)
         (rebuilt_bytes sessions.now.shape partition.0 run sessions.now.state))) }
 {
     if let Some(block) = sessions.missing(partition, run) {

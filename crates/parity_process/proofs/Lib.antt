@@ -3,3 +3,4 @@ pub mod Marks
 pub mod Standing
 pub mod Waiting
 pub mod Starting
+mod Fitting

@@ -25,11 +25,11 @@ use Rattle.group_run.specs.Process.{Head, Process, opening_process}
 use Rattle.group_run.specs.Replica.{Replica, empty_replica}
 use Rattle.head_service.specs.Serving.{Serving, serving}
 use Rattle.process_service.specs.Standing.{at_start}
-use Rattle.head_service.specs.declared.ask.Asked.TheVariants.{Need}
+use Rattle.head_service.specs.declared.ask.Asking.TheVariants.{Need}
 use Rattle.head_service.specs.declared.step.CallStep as answered
 use Rattle.process_service.specs.Steps.{IsAsked, called, stepped}
 use Rattle.process_service.specs.declared.step.Step.{Step}
-use Rattle.leader_role.specs.Sound.{IsOfGroup, IsSound}
+use Rattle.leader_role.specs.Sound.{IsOfGroup, CanLead}
 use Rattle.leader_role.proofs.Laws.{asked-sound, collected-sound, opening, received-sound}
 use Rattle.parity_bytes.specs.Bytes.{Holding, IsReady}
 use Rattle.parity_process.specs.Opening.{HeadsOne}
@@ -67,10 +67,10 @@ same-replicas v w h shape name replicas over = record {
 }
 
 -- a process that this one became, over bytes that are beneath it
-pub became : (v w : Serving) (g h : Holding) (q : Process) → w.shape ≡ v.shape → IsOver w h → q ≡ serving w h.process → IsSound v.shape q → IsReadyFor w h
+pub became : (v w : Serving) (g h : Holding) (q : Process) → w.shape ≡ v.shape → IsOver w h → q ≡ serving w h.process → CanLead v.shape q → IsReadyFor w h
 became v w g h q shape over is sound = record {
   over = over;
-  sound = subst (λ (s : Dimensions). IsSound s (serving w h.process)) (sym shape) (subst (IsSound v.shape) is sound);
+  sound = subst (λ (s : Dimensions). CanLead s (serving w h.process)) (sym shape) (subst (CanLead v.shape) is sound);
 }
 
 pub collected-ready : (v w : Serving) (h : Holding) (caller call : ℕ) (answer : Answer) → w.shape ≡ v.shape → w.name ≡ v.name → w.replicas ≡ v.replicas

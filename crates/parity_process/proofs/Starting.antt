@@ -19,7 +19,7 @@ use Rattle.group_run.specs.Rows.{begin_copy, copy_begun, copy_in, is_copy, new_c
 use Rattle.block_sessions.specs.Leading.{started}
 use Rattle.block_sessions.specs.Opened.{AreLost}
 use Rattle.head_service.specs.Serving.{Serving, serving}
-use Rattle.leader_role.specs.Sound.{IsSound}
+use Rattle.leader_role.specs.Sound.{CanLead}
 use Rattle.leader_role.proofs.Laws.{among-rows, can-start, none-next}
 use Rattle.parity_bytes.specs.Bytes.{Holding}
 use Rattle.parity_bytes.specs.Starting.{begun_if, session_begun, takes_next}
@@ -33,7 +33,7 @@ a-head : (o : Option Head) → is_some o ≡ true → (h : Head) × (o ≡ Some 
 a-head None none = absurd (cc none)
 a-head (Some h) some = (h, refl)
 
-module _ (s : Dimensions) (p : Process) (sound : IsSound s p) (d : ℕ) (inside : d < s.k) (heads : is_some (head_at p d) ≡ true) where
+module _ (s : Dimensions) (p : Process) (sound : CanLead s p) (d : ℕ) (inside : d < s.k) (heads : is_some (head_at p d) ≡ true) where
   pub are-lost : AreLost s (lost_of s p) (rows_of s p)
   are-lost = let h = a-head (head_at p d) heads in can-start s p d h.0 sound h.1 inside
 

@@ -1,3 +1,4 @@
+pub mod Coming
 pub mod Standing
 pub mod Marking
 pub mod Opening

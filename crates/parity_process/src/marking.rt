@@ -22,6 +22,8 @@ use row_copies::Copy;
 use std::alloc::{AllocError, Global};
 use vector_stamp::Stamp;
 
+pub mod coming;
+
 /// A mark of a partition, which a leader or a data process sends to a row of a session.
 #[derive(Clone, Copy)]
 pub struct Mark {
@@ -40,14 +42,17 @@ pub fn receive_mark(
     service: &mut Service,
     bytes: &mut ParityBytes,
 ) -> Result<Step, AllocError>
-    requires fits { accepts_mark (serving service.old bytes.old.process) (parity_number mark.session.leader) mark.session.number mark.rank.0 mark.partition.0 ≡ true
-        → MarkFits service.old.shape (serving service.old bytes.old.process) mark.session mark.block mark.partition.0 mark.number }
+    requires fits { accepts_mark (serving service.old bytes.old.process) (parity_number mark.session.leader)
+        mark.session.number mark.rank.0 mark.partition.0 ≡ true
+        → MarkFits service.old.shape (serving service.old bytes.old.process) mark.session mark.block mark.partition.0
+        mark.number }
     requires over { IsOver service.old bytes.old }
     requires own { WaitForOwnRow bytes.old.process }
     ensures shape { service.new.shape ≡ service.old.shape }
     ensures over { IsOver service.new bytes.new }
     ensures pages { bytes.new.made ≡ bytes.old.made }
-    ensures step { IfOk result (λ step. mark_comes service.old.shape (parity_number mark.session.leader) mark.session.number mark.rank.0 mark.block
+    ensures step { IfOk result (λ step. mark_comes service.old.shape (parity_number mark.session.leader)
+        mark.session.number mark.rank.0 mark.block
         mark.partition.0 mark.number (serving service.old bytes.old.process) ≡ stepped (serving service.new bytes.new.process) step) }
     ensures service_err { OnErr result (service.new ≡ service.old) }
     ensures bytes_err { OnErr result (bytes.new.process ≡ bytes.old.process) }
@@ -66,10 +71,12 @@ pub fn receive_mark(
 // Whether the row takes a mark.
 fn accepts(leader: u32, mark: Mark, service: &Service, bytes: &ParityBytes) -> bool
     requires leader { leader ≡ parity_number mark.session.leader }
-    requires fits { accepts_mark (serving service.now bytes.now.process) leader mark.session.number mark.rank.0 mark.partition.0 ≡ true
+    requires fits { accepts_mark (serving service.now bytes.now.process) leader mark.session.number mark.rank.0
+        mark.partition.0 ≡ true
         → (leader < service.now.shape.m) × (mark.partition.0 < service.now.shape.k) }
     requires over { IsOver service.now bytes.now }
-    ensures value { result ≡ accepts_mark (serving service.now bytes.now.process) leader mark.session.number mark.rank.0 mark.partition.0 }
+    ensures value { result ≡ accepts_mark (serving service.now bytes.now.process) leader mark.session.number mark.rank.0
+        mark.partition.0 }
 {
     let shape = service.shape();
     if shape.m() <= leader || shape.k() <= mark.partition.0 {
@@ -111,7 +118,8 @@ pub fn take(
     ensures own { WaitForOwnRow bytes.old.process → WaitForOwnRow bytes.new.process }
     ensures whole { IfSome result (IsWhole service.old.shape) }
     ensures leader { IfSome result (λ copy. copy.leader ≡ leader) }
-    ensures taken { copy_taken service.old.shape leader mark.session.number mark.partition.0 mark.number (serving service.old bytes.old.process)
+    ensures taken { copy_taken service.old.shape leader mark.session.number mark.partition.0 mark.number
+        (serving service.old bytes.old.process)
         ≡ handed_on service.old.shape result (serving service.new bytes.new.process) }
 {
     service.apply(mark.partition, mark.number, room, bytes);
@@ -166,7 +174,8 @@ pub fn finish_own(copy: Copy, bytes: &mut ParityBytes)
     requires leader { bytes.old.process.name ≡ ParityNode copy.leader }
     requires own { WaitForOwnRow bytes.old.process }
     ensures stays { Stays bytes.old bytes.new }
-    ensures process { bytes.new.process ≡ row_comes bytes.old.shape copy.number copy.leader copy.bytes bytes.old.process }
+    ensures process { bytes.new.process
+        ≡ row_comes bytes.old.shape copy.number copy.leader copy.bytes bytes.old.process }
 {
     let leader = copy.leader();
     let number = copy.number();

@@ -40,7 +40,8 @@ pub fn retry(
     ensures over { IsOver service.new bytes.new }
     ensures pages { bytes.new.made ≡ bytes.old.made }
     ensures step { IfOk result (λ step. retry_block service.old.shape block
-        (oldest_inherited (serving service.old bytes.old.process) (range_with_len 0 service.old.shape.k)) (serving service.old bytes.old.process)
+        (oldest_inherited (serving service.old bytes.old.process) (range_with_len 0 service.old.shape.k))
+        (serving service.old bytes.old.process)
         ≡ called (serving service.new bytes.new.process) step) }
     ensures wanted { OnErr result (Opens service.old.shape block (serving service.old bytes.old.process)) }
     ensures service_err { OnErr result (service.new ≡ service.old) }
@@ -160,7 +161,8 @@ fn mark_own(
     ensures shape { service.new.shape ≡ service.old.shape }
     ensures over { IsOver service.new bytes.new }
     ensures pages { bytes.new.made ≡ bytes.old.made }
-    ensures step { for_each lost.now (own_mark service.old.shape leader number block) (serving service.old bytes.old.process)
+    ensures step { for_each lost.now (own_mark service.old.shape leader number block)
+        (serving service.old bytes.old.process)
         ≡ quiet (serving service.new bytes.new.process) }
 {
     if !bytes.accepts(leader, number) {

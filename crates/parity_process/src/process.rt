@@ -27,7 +27,7 @@ use crate::receiving::receive;
 use group_calls::Answer;
 use group_message::Message;
 use group_types::{Partition, Payload, ProcessId, Run, Shape};
-use head_service::{Asked, Call, CallStep, Sent};
+use head_service::{Asking, Call, CallStep, Sent};
 use membership::Members;
 use memc_table::Op;
 use parity_bytes::ParityBytes;
@@ -36,6 +36,7 @@ use std::alloc::{AllocError, Global};
 use std::marker::Model;
 use vector_stamp::Stamp;
 
+mod coming;
 mod replica;
 
 /// A parity process: it has a replica of each partition, and heads those whose other heads it knows to be dead.
@@ -87,8 +88,8 @@ impl ParityProcess {
         ensures err { OnErr result (self.new.process ≡ self.old.process) }
     {
         match self.service.ask(call, op, &mut self.bytes)? {
-            Asked::Done(step) => Ok(step),
-            Asked::Need(block) => retry(self.alloc, block, &mut self.service, &mut self.bytes),
+            Asking::Done(step) => Ok(step),
+            Asking::Need(block) => retry(self.alloc, block, &mut self.service, &mut self.bytes),
         }
     }
 

@@ -35,7 +35,8 @@ pub fn receive(
     ensures shape { service.new.shape ≡ service.old.shape }
     ensures over { IsOver service.new bytes.new }
     ensures pages { MakesNoneOf (MessageMisses service.old.shape.block message.now) bytes.old.made bytes.new.made }
-    ensures step { IfOk result (λ step. machine.receive service.old.shape from message.now (serving service.old bytes.old.process)
+    ensures step { IfOk result (λ step. machine.receive service.old.shape from message.now
+        (serving service.old bytes.old.process)
         ≡ stepped (serving service.new bytes.new.process) step) }
     ensures wanted { OnErr result (is_current (serving service.old bytes.old.process) message.now ≡ true) }
     ensures service_err { OnErr result (service.new ≡ service.old) }
@@ -120,7 +121,8 @@ fn acknowledge(
     ensures shape { service.new.shape ≡ service.old.shape }
     ensures over { IsOver service.new bytes.new }
     ensures pages { bytes.new.made ≡ bytes.old.made }
-    ensures step { IfOk result (λ step. machine.receive service.old.shape from (tells.Ack rank partition number) (serving service.old bytes.old.process)
+    ensures step { IfOk result (λ step. machine.receive service.old.shape from (tells.Ack rank partition number)
+        (serving service.old bytes.old.process)
         ≡ stepped (serving service.new bytes.new.process) step) }
     ensures wanted { OnErr result (is_under rank.0 (at None service.old.heads partition.0) ≡ true) }
     ensures service_err { OnErr result (service.new ≡ service.old) }
@@ -139,7 +141,8 @@ fn acknowledge(
 fn gather_block(from: ProcessId, session: Session, block: &ByteList, bytes: &mut ParityBytes)
     requires fits { BlockFits bytes.old.shape from bytes.old.process session.number block.now }
     ensures stays { Stays bytes.old bytes.new }
-    ensures process { (v : Serving) (n : ℕ) → machine.receive bytes.old.shape from (tells.Block session block.now n) (serving v bytes.old.process)
+    ensures process { (v : Serving) (n : ℕ)
+        → machine.receive bytes.old.shape from (tells.Block session block.now n) (serving v bytes.old.process)
         ≡ quiet (serving v bytes.new.process) }
 {
     match from {
@@ -152,7 +155,8 @@ fn gather_block(from: ProcessId, session: Session, block: &ByteList, bytes: &mut
 fn gather_row(from: ProcessId, session: Session, block: &ByteList, bytes: &mut ParityBytes)
     requires fits { RowFits bytes.old.shape from bytes.old.process session.number block.now }
     ensures stays { Stays bytes.old bytes.new }
-    ensures process { (v : Serving) (stamp : List ℕ) → machine.receive bytes.old.shape from (tells.Row session block.now stamp) (serving v bytes.old.process)
+    ensures process { (v : Serving) (stamp : List ℕ)
+        → machine.receive bytes.old.shape from (tells.Row session block.now stamp) (serving v bytes.old.process)
         ≡ quiet (serving v bytes.new.process) }
 {
     match from {

@@ -1,5 +1,5 @@
 -- What a process keeps of one partition, as its contracts see it, and what it keeps once the partition's part changed.
-use Rattle.std.proofs.Common.{ℕ, ◌≡◌, ◌<◌, ◌≤◌, ◌+◌, ◌-◌, List, ◌++◌, Option, None, Some, length, map, take, drop, slice_index_or, All, refl, sym, ap, subst, ◌∙◌, arith}
+use Rattle.std.proofs.Common.{ℕ, ◌≡◌, ◌<◌, ◌≤◌, ◌+◌, ◌-◌, false, List, ◌++◌, Option, None, Some, length, map, take, drop, slice_index_or, All, IfSome, refl, sym, ap, subst, ◌∙◌, arith}
 use Rattle.std.proofs.lemmas.List.{length-append, take-append-drop}
 use Rattle.std.specs.Prelude.{set}
 use Rattle.group_types.specs.Dimensions.{Dimensions}
@@ -9,18 +9,20 @@ use Rattle.group_types.specs.declared.process.Rank.{Rank}
 use Rattle.group_message.specs.declared.update.Update.{Update}
 use Rattle.group_run.specs.Applying.{Settlement, bytes_after}
 use Rattle.group_run.specs.Heading.{settlements}
-use Rattle.group_run.specs.Process.{Head, Process}
+use Rattle.group_run.specs.Process.{Head}
 use Rattle.group_run.specs.Replica.{Replica, applied_to, empty_replica, up_to}
-use Rattle.partition_replica.specs.State.{State}
+use Rattle.partition_replica.specs.State.{IsTidyBut, State}
 use Rattle.head_service.specs.Laws.{Heads}
+use Rattle.head_service.specs.Seat.{IsSeat}
 use Rattle.head_service.specs.Serving.{Serving}
+use Rattle.head_service.specs.Storage.{MakesReady, StaysReady, Storage}
 use Rattle.process_service.specs.Noticing.{waiting}
-use Rattle.process_service.specs.Standing.{IsBeneath, IsKept}
+use Rattle.process_service.specs.Standing.{GrowsOver, IsBeneath, IsKept, StaysOver}
 use Rattle.process_service.specs.contracts.service.Service.{the_view}
 use Rattle.process_service.specs.declared.service.Service.TheInside.{Inside}
 use Rattle.process_service.proofs.Judged.{one-waits, room-kept, settled-long}
 use Rattle.process_service.proofs.Lists.{entry-at, long-map, part-at, part-put}
-use Rattle.process_service.proofs.Standing.{AreKept, after-as, same-as, standing-next}
+use Rattle.process_service.proofs.Standing.{AreKept, after-as, standing-next}
 
 -- each list that the process keeps has a place for the partition
 pub record HasPlace (inside : Inside) (now : Serving) (d : ℕ) : Type 0 where
@@ -42,6 +44,11 @@ module _ {inside : Inside} {now : Serving} {d : ℕ} (place : HasPlace inside no
 
   pub head-at : (x : Option Head) → x ≡ slice_index_or inside.heads.items d x → at None now.heads d ≡ x
   head-at x is = ap (λ (w : Serving). at None w.heads d) (sym place.view) ∙ entry-at None inside.heads.items d x has-head is
+
+  -- the head that is there counts the acknowledgements of m parity processes
+  pub counts : (x : Option Head) → x ≡ slice_index_or inside.heads.items d x → (h : Head) → x ≡ Some h → length h.acks ≡ now.shape.m
+  counts x entry h is = subst (λ (o : Option Head). IfSome o (λ y. length y.acks ≡ inside.shape.m)) (sym entry ∙ is) (place.kept.acks d x has-head)
+      ∙ ap (λ (w : Serving). w.shape.m) place.view
 
   pub heads-put : (x : Option Head) → set inside.heads.items d x ≡ put None now.heads d x
   heads-put x = set_put None inside.heads.items d x has-head ∙ ap (λ (w : Serving). put None w.heads d x) place.view
@@ -71,8 +78,24 @@ module _ {inside : Inside} {now : Serving} {d : ℕ} {state : State} (lent : IsL
   lends P is = subst (λ (s : Dimensions). P s state.replica) (sym (same-shape ∙ ap (λ (w : Serving). w.shape) lent.place.view))
       (subst (P now.shape) here is)
 
-  pub ready-of : {s : Dimensions} {b : Process} {ready : ℕ → Update → Type 0} → IsBeneath now s b ready → All (ready d) state.replica.log
-  ready-of {ready = ready} is = subst (λ (x : Replica). All (ready d) x.log) here (is.ready d lent.place.below)
+  view-shape : inside.shape ≡ now.shape
+  view-shape = ap (λ (w : Serving). w.shape) lent.place.view
+
+  -- so it is a head's seat
+  pub seat-of : {b : Storage} → IsBeneath now b → IsSeat d state b
+  seat-of {b} is = record {
+    stands = record {
+      partition = subst (λ (x : Dimensions). d < x.k) (sym is.shape) lent.place.below;
+      shape = is.shape ∙ sym (same-shape ∙ view-shape);
+      blocks = omega (arith, lent.place.below, is.blocks);
+      ready = subst (λ (x : Replica). All (b.is_ready d) x.log) here (is.ready d lent.place.below);
+    };
+    tidy = subst (λ (x : State). IsTidyBut x (λ _. false)) (sym lent.entry) (lent.place.kept.tidy d state within);
+  }
+
+  -- and what sits there after a step is of the shape that is kept
+  pub shape-after : {b c : Storage} → IsBeneath now b → (t : State) → IsSeat d t c → c.shape ≡ b.shape → t.shape ≡ inside.shape
+  shape-after is t seat same = sym seat.stands.shape ∙ same ∙ is.shape ∙ sym view-shape
 
   pub heads-as : (h : Head) → at None now.heads d ≡ Some h → Heads now d h state.replica
   heads-as h is = record {
@@ -105,22 +128,33 @@ module _ {inside : Inside} {now : Serving} {d : ℕ} {state : State} (lent : IsL
       ∙ ap (λ (hs : List (Option Head)). record (written t) { ranks = put 0 now.ranks d h.rank; heads = hs }) (heads-put lent.place (Some h))
       ∙ ap (λ (w : Serving). record w { ranks = put 0 now.ranks d h.rank; heads = put None now.heads d (Some h) }) (put-back t)
 
-  pub stands : {s s2 : Dimensions} {b b2 : Process} {ready : ℕ → Update → Type 0} → IsBeneath now s b ready → (ready2 : ℕ → Update → Type 0) (t : State)
-      → s2 ≡ s → AreKept b b2 → All (ready2 d) t.replica.log → ((e : ℕ) (u : Update) → ready e u → ready2 e u) → IsBeneath (written t) s2 b2 ready2
-  stands {s} {s2} {b} {b2} {ready} is ready2 t shape kept log others =
-      subst (λ (w : Serving). IsBeneath w s2 b2 ready2) (sym (put-back t))
-      (standing-next now s b ready is (record now { replicas = put empty_replica now.replicas d t.replica }) s2 b2 ready2 d t.replica refl refl refl shape kept log others)
+  pub stands : {b c : Storage} → IsBeneath now b → (t : State) → c.shape ≡ b.shape → AreKept b.process c.process
+      → All (c.is_ready d) t.replica.log → ((e : ℕ) (u : Update) → b.is_ready e u → c.is_ready e u) → IsBeneath (written t) c
+  stands {b} {c} is t shape kept log others =
+      subst (λ (w : Serving). IsBeneath w c) (sym (put-back t))
+      (standing-next now b is (record now { replicas = put empty_replica now.replicas d t.replica }) c d t.replica refl refl refl shape kept log others)
 
-  -- nothing is changed beneath, or the partition is applied up to a number
-  pub stands-same : {s s2 : Dimensions} {b b2 : Process} {ready : ℕ → Update → Type 0} → IsBeneath now s b ready → (ready2 : ℕ → Update → Type 0) (t : State)
-      → s2 ≡ s → b2 ≡ b → All (ready2 d) t.replica.log → ((e : ℕ) (u : Update) → ready e u → ready2 e u) → IsBeneath (written t) s2 b2 ready2
-  stands-same {b = b} {b2 = b2} is ready2 t shape same = stands is ready2 t shape (same-as b b2 same)
+  -- a step for the partition is one of the process
+  pub stays-over : {b c : Storage} → IsBeneath now b → (t : State) → IsSeat d t c → AreKept b.process c.process → StaysReady b c → StaysOver now (written t) b c
+  stays-over is t seat kept stays = record {
+    shape = view-shape;
+    name = ap (λ (w : Serving). w.name) lent.place.view;
+    beneath = stands is t stays.shape kept seat.stands.ready stays.kept;
+    pages = stays.pages;
+  }
 
-  pub stands-applied : {s s2 : Dimensions} {b b2 : Process} {ready : ℕ → Update → Type 0} → IsBeneath now s b ready → (ready2 : ℕ → Update → Type 0) (t : State) (n : ℕ)
-      → s2 ≡ s → b2 ≡ bytes_after s d (up_to n state.replica) b → All (ready2 d) t.replica.log → ((e : ℕ) (u : Update) → ready e u → ready2 e u)
-      → IsBeneath (written t) s2 b2 ready2
-  stands-applied {s} {s2} {b} {b2} is ready2 t n shape bytes =
-      stands is ready2 t shape (after-as s d (up_to n state.replica) b b2 (omega (arith, lent.place.below, is.blocks)) bytes)
+  pub grows-over : {IsMissed : ℕ → Type 0} {b c : Storage} → IsBeneath now b → (t : State) → IsSeat d t c → AreKept b.process c.process → MakesReady IsMissed b c
+      → GrowsOver IsMissed now (written t) b c
+  grows-over is t seat kept makes = record {
+    shape = view-shape;
+    name = ap (λ (w : Serving). w.name) lent.place.view;
+    beneath = stands is t makes.shape kept seat.stands.ready makes.kept;
+    pages = makes.pages;
+  }
+
+  -- the bytes, where the partition is applied up to a number
+  pub applied-kept : {b : Storage} → IsBeneath now b → (c : Storage) (n : ℕ) → c.process ≡ bytes_after b.shape d (up_to n state.replica) b.process → AreKept b.process c.process
+  applied-kept {b} is c n = after-as b.shape d (up_to n state.replica) b.process c.process (omega (arith, lent.place.below, is.blocks))
 
   -- the room of a list for what waits, before and after the partition's updates are settled into it
   pub waits-in : length state.replica.log ≤ waiting now.replicas
@@ -143,6 +177,18 @@ module _ {inside : Inside} {now : Serving} {d : ℕ} {state : State} (lent : IsL
       (settled-long now.replicas d state.replica here has-replica n long long2 before after settled was grown) wider fits)
 
 -- the ranks and heads don't count beneath
-pub other-heads : {v : Serving} {s : Dimensions} {b : Process} {ready : ℕ → Update → Type 0} (ranks : List ℕ) (heads : List (Option Head)) → IsBeneath v s b ready
-    → IsBeneath (record v { ranks = ranks; heads = heads }) s b ready
-other-heads ranks heads is = record { shape = is.shape; name = is.name; blocks = is.blocks; ready = is.ready }
+pub other-heads : {v w : Serving} {b c : Storage} (ranks : List ℕ) (heads : List (Option Head)) → StaysOver v w b c → StaysOver v (record w { ranks = ranks; heads = heads }) b c
+other-heads ranks heads is = record {
+  shape = is.shape;
+  name = is.name;
+  beneath = record { shape = is.beneath.shape; name = is.beneath.name; blocks = is.beneath.blocks; ready = is.beneath.ready };
+  pages = is.pages;
+}
+
+pub other-ranks : {IsMissed : ℕ → Type 0} {v w : Serving} {b c : Storage} (ranks : List ℕ) → GrowsOver IsMissed v w b c → GrowsOver IsMissed v (record w { ranks = ranks }) b c
+other-ranks ranks is = record {
+  shape = is.shape;
+  name = is.name;
+  beneath = record { shape = is.beneath.shape; name = is.beneath.name; blocks = is.beneath.blocks; ready = is.beneath.ready };
+  pages = is.pages;
+}

@@ -16,7 +16,7 @@ use Rattle.group_run.specs.Replica.{Replica, empty_replica}
 use Rattle.group_run.specs.Rows.{parity_number}
 use Rattle.head_service.specs.Serving.{Serving}
 use Rattle.process_service.specs.Noticing.{adoption_if, adoptions, heir_at, heir_if, heirs, is_due, is_taken}
-use Rattle.process_service.specs.Steps.{mourned}
+use Rattle.process_service.specs.Steps.{after_mourning}
 
 module _ (s : Dimensions) where
   -- what a process keeps of its partitions
@@ -166,7 +166,7 @@ module _ (s : Dimensions) where
       ∙ ap (λ (xs : List Sent). told p d (is_taken (view p) d) ++ xs) (judged-adoptions ds p q keeps)
 
   -- so a notice sends what was made for it
-  pub mourned-sent : (p : Process) → (mourned s p).sent ≡ adoptions (view p) (range_with_len 0 s.k)
+  pub mourned-sent : (p : Process) → (after_mourning s p).sent ≡ adoptions (view p) (range_with_len 0 s.k)
   mourned-sent p =
       let q : Process = (for_each (range_with_len 0 s.k) (judge s) p).process in
       ap (λ (xs : List Sent). xs ++ (for_each (range_with_len 0 s.k) (take_over_if s) q).sent) (judges-sent (range_with_len 0 s.k) p)

@@ -1,3 +1,4 @@
+pub mod Coming
 pub mod Current
 pub mod Inherited
 pub mod Noticing

@@ -5,11 +5,12 @@ use Rattle.group_types.specs.Lists.{at}
 use Rattle.group_types.specs.Names.{IsProcess}
 use Rattle.group_types.specs.declared.process.ProcessId.{ProcessId}
 use Rattle.membership.specs.Members.{Membership, all_living}
-use Rattle.group_message.specs.declared.update.Update.{Update}
 use Rattle.group_run.specs.Process.{Head, Process, heads_at_start}
 use Rattle.group_run.specs.Replica.{empty_replica}
 use Rattle.partition_replica.specs.State.{IsTidyBut, State}
+use Rattle.head_service.specs.Paging.{MakesNoneOf}
 use Rattle.head_service.specs.Serving.{Serving, serving}
+use Rattle.head_service.specs.Storage.{Storage}
 
 -- a process as contracts see it: the shape of its group, the machine's process, and the numbers of the blocks whose pages
 -- were made
@@ -24,11 +25,30 @@ standing v b made = record { shape = v.shape; process = serving v b; made = made
 
 -- these bytes are beneath the process's partitions: those of the same process, with rebuilt blocks of each
 -- partition, and all is ready that adding a logged update needs
-pub record IsBeneath (v : Serving) (s : Dimensions) (b : Process) (IsReady : ℕ → Update → Type 0) : Type 0 where
-  pub shape : s ≡ v.shape
-  pub name : b.name ≡ v.name
-  pub blocks : length b.as_leader.rebuilt ≡ v.shape.k
-  pub ready : (d : ℕ) → d < v.shape.k → All (IsReady d) (at empty_replica v.replicas d).log
+pub record IsBeneath (v : Serving) (b : Storage) : Type 0 where
+  pub shape : b.shape ≡ v.shape
+  pub name : b.process.name ≡ v.name
+  pub blocks : length b.process.as_leader.rebuilt ≡ v.shape.k
+  pub ready : (d : ℕ) → d < v.shape.k → All (b.is_ready d) (at empty_replica v.replicas d).log
+
+-- a step of the process leaves its shape and name, with bytes beneath it, and makes no page
+pub record StaysOver (v w : Serving) (b c : Storage) : Type 0 where
+  pub shape : w.shape ≡ v.shape
+  pub name : w.name ≡ v.name
+  pub beneath : IsBeneath w c
+  pub pages : c.made ≡ b.made
+
+-- or makes pages, but none of the blocks that are missed
+pub record GrowsOver (IsMissed : ℕ → Type 0) (v w : Serving) (b c : Storage) : Type 0 where
+  pub shape : w.shape ≡ v.shape
+  pub name : w.name ≡ v.name
+  pub beneath : IsBeneath w c
+  pub pages : MakesNoneOf IsMissed b.made c.made
+
+-- nothing but room has changed
+pub record IsAsItWas (v w : Serving) (b c : Storage) : Type 0 where
+  pub service : w ≡ v
+  pub process : c.process ≡ b.process
 
 -- what a process keeps at the start
 abbrev pub at_start : Dimensions → ProcessId → Serving

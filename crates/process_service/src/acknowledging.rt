@@ -3,13 +3,15 @@ ghost use Rattle.group_run.specs.Applying.{head_at};
 ghost use Rattle.group_run.specs.Heading.{acknowledge};
 ghost use Rattle.head_service.specs.Serving.{serving};
 ghost use Rattle.group_types.specs.Lists.{at};
-ghost use Rattle.process_service.specs.Standing.{IsBeneath, is_under};
+ghost use Rattle.process_service.specs.Standing.{IsAsItWas, IsBeneath, StaysOver, is_under};
 
 use crate::service::Service;
 use group_types::{Partition, Rank};
 use head_service::judge::acknowledge;
 use head_service::{Beneath, Settlement};
 use std::alloc::AllocError;
+
+mod coming;
 
 impl Service {
     /// A parity process acknowledges a number under a rank, which counts for nothing where the process doesn't head the
@@ -24,18 +26,14 @@ impl Service {
     ) -> Result<Vec<Settlement>, AllocError>
         requires parity { parity < self.old.shape.m }
         requires partition { partition.0 < self.old.shape.k }
-        requires beneath { IsBeneath self.old (B.shape below.old) (B.process below.old) (B.is_ready below.old) }
-        ensures shape { self.new.shape ≡ self.old.shape }
-        ensures name { self.new.name ≡ self.old.name }
-        ensures beneath { IsBeneath self.new (B.shape below.new) (B.process below.new) (B.is_ready below.new) }
-        ensures pages { B.made below.new ≡ B.made below.old }
+        requires beneath { IsBeneath self.old (B.storage below.old) }
+        ensures stays { StaysOver self.old self.new (B.storage below.old) (B.storage below.new) }
         ensures settled { IfOk result (λ settled.
-            acknowledge self.old.shape parity rank.0 partition.0 number (head_at (serving self.old (B.process below.old)) partition.0)
-            (serving self.old (B.process below.old))
-            ≡ record { process = serving self.new (B.process below.new); sent = []; settled = settled.items }) }
+            acknowledge self.old.shape parity rank.0 partition.0 number (head_at (serving self.old (B.storage below.old).process) partition.0)
+            (serving self.old (B.storage below.old).process)
+            ≡ record { process = serving self.new (B.storage below.new).process; sent = []; settled = settled.items }) }
         ensures wanted { OnErr result (is_under rank.0 (at None self.old.heads partition.0) ≡ true) }
-        ensures self_err { OnErr result (self.new ≡ self.old) }
-        ensures bytes_err { OnErr result (B.process below.new ≡ B.process below.old) }
+        ensures err { OnErr result (IsAsItWas self.old self.new (B.storage below.old) (B.storage below.new)) }
     {
         if !self.heads_under(partition, rank) {
             return Ok(Vec::new(self.alloc));

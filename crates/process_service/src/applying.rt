@@ -1,9 +1,10 @@
-ghost use Rattle.std.specs.Prelude.{◌≡◌, ◌<◌, ◌≤◌, [], length, vec_capacity, IfOk};
+ghost use Rattle.std.specs.Prelude.{◌≡◌, ◌<◌, [], length, vec_capacity, IfOk};
 ghost use Rattle.group_types.specs.Lists.{at};
 ghost use Rattle.group_run.specs.Applying.{apply_to};
 ghost use Rattle.group_run.specs.Replica.{empty_replica, up_to};
 ghost use Rattle.head_service.specs.Serving.{serving};
-ghost use Rattle.process_service.specs.Standing.{IsBeneath};
+ghost use Rattle.head_service.specs.Settling.{IsRoomFor};
+ghost use Rattle.process_service.specs.Standing.{IsBeneath, StaysOver};
 
 use crate::service::Service;
 use follower_service::apply::apply;
@@ -32,17 +33,14 @@ impl Service {
         below: &mut B,
     )
         requires partition { partition.0 < self.old.shape.k }
-        requires empty { room.items ≡ [] }
-        requires fits { length (up_to number (at empty_replica self.old.replicas partition.0)) ≤ vec_capacity room }
-        requires beneath { IsBeneath self.old (B.shape below.old) (B.process below.old) (B.is_ready below.old) }
-        ensures shape { self.new.shape ≡ self.old.shape }
-        ensures name { self.new.name ≡ self.old.name }
+        requires room { IsRoomFor (length (up_to number (at empty_replica self.old.replicas partition.0))) room.items
+            (vec_capacity room) }
+        requires beneath { IsBeneath self.old (B.storage below.old) }
+        ensures stays { StaysOver self.old self.new (B.storage below.old) (B.storage below.new) }
         ensures known { self.new.known ≡ self.old.known }
         ensures heads { self.new.heads ≡ self.old.heads }
-        ensures beneath { IsBeneath self.new (B.shape below.new) (B.process below.new) (B.is_ready below.new) }
-        ensures pages { B.made below.new ≡ B.made below.old }
-        ensures process { serving self.new (B.process below.new)
-            ≡ apply_to self.old.shape partition.0 number (serving self.old (B.process below.old)) }
+        ensures process { serving self.new (B.storage below.new).process
+            ≡ apply_to self.old.shape partition.0 number (serving self.old (B.storage below.old).process) }
     {
         let replica = &mut self.replicas[partition.0 as usize];
         apply(partition, number, room, replica, below);

@@ -14,7 +14,8 @@ impl Service {
         ensures shape { self.new.shape ≡ self.old.shape }
         ensures name { self.new.name ≡ self.old.name }
         ensures replicas { self.new.replicas ≡ self.old.replicas }
-        ensures answer { (b : Process) → collect_from caller call (serving self.old b) (range_with_len 0 self.old.shape.k)
+        ensures answer { (b : Process) → collect_from caller call (serving self.old b)
+            (range_with_len 0 self.old.shape.k)
             ≡ only result (serving self.new b) }
     {
         'partitions: for d in 0..self.shape.k() as usize {

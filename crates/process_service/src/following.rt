@@ -3,9 +3,9 @@ ghost use Rattle.group_types.specs.Lists.{at};
 ghost use Rattle.group_run.specs.Fitting.{AdoptFits, UpdateFits};
 ghost use Rattle.group_run.specs.Receiving.{adopt_comes, stable_comes, update_comes};
 ghost use Rattle.group_run.specs.Replica.{empty_replica};
-ghost use Rattle.head_service.specs.Paging.{AllMiss, MakesNoneOf, Misses};
+ghost use Rattle.head_service.specs.Paging.{AllMiss, Misses};
 ghost use Rattle.head_service.specs.Serving.{serving};
-ghost use Rattle.process_service.specs.Standing.{IsBeneath};
+ghost use Rattle.process_service.specs.Standing.{GrowsOver, IsAsItWas, IsBeneath, StaysOver};
 ghost use Rattle.process_service.specs.Steps.{stepped};
 
 use crate::acks::{ack_to, reach};
@@ -34,17 +34,14 @@ impl Service {
         requires partition { partition.0 < self.old.shape.k }
         requires fits { at 0 self.old.ranks partition.0 ≤ rank.0
             → UpdateFits self.old.shape (at empty_replica self.old.replicas partition.0) update.now stable }
-        requires beneath { IsBeneath self.old (B.shape below.old) (B.process below.old) (B.is_ready below.old) }
-        ensures shape { self.new.shape ≡ self.old.shape }
-        ensures name { self.new.name ≡ self.old.name }
-        ensures beneath { IsBeneath self.new (B.shape below.new) (B.process below.new) (B.is_ready below.new) }
-        ensures pages { MakesNoneOf (Misses self.old.shape.block update.now.body) (B.made below.old)
-            (B.made below.new) }
-        ensures step { IfOk result (λ step. update_comes self.old.shape from rank.0 partition.0 update.now stable (serving self.old (B.process below.old))
-            ≡ stepped (serving self.new (B.process below.new)) step) }
+        requires beneath { IsBeneath self.old (B.storage below.old) }
+        ensures grows { GrowsOver (Misses self.old.shape.block update.now.body) self.old self.new (B.storage below.old)
+            (B.storage below.new) }
+        ensures step { IfOk result (λ step. update_comes self.old.shape from rank.0 partition.0 update.now stable
+            (serving self.old (B.storage below.old).process)
+            ≡ stepped (serving self.new (B.storage below.new).process) step) }
         ensures wanted { OnErr result (at 0 self.old.ranks partition.0 ≤ rank.0) }
-        ensures self_err { OnErr result (self.new ≡ self.old) }
-        ensures bytes_err { OnErr result (B.process below.new ≡ B.process below.old) }
+        ensures err { OnErr result (IsAsItWas self.old self.new (B.storage below.old) (B.storage below.new)) }
     {
         if !self.is_current(partition, rank) {
             return Ok(Step::nothing(self.alloc));
@@ -65,16 +62,13 @@ impl Service {
         below: &mut B,
     ) -> Result<Step, AllocError>
         requires partition { partition.0 < self.old.shape.k }
-        requires beneath { IsBeneath self.old (B.shape below.old) (B.process below.old) (B.is_ready below.old) }
-        ensures shape { self.new.shape ≡ self.old.shape }
-        ensures name { self.new.name ≡ self.old.name }
-        ensures beneath { IsBeneath self.new (B.shape below.new) (B.process below.new) (B.is_ready below.new) }
-        ensures pages { B.made below.new ≡ B.made below.old }
-        ensures step { IfOk result (λ step. stable_comes self.old.shape rank.0 partition.0 number (serving self.old (B.process below.old))
-            ≡ stepped (serving self.new (B.process below.new)) step) }
+        requires beneath { IsBeneath self.old (B.storage below.old) }
+        ensures stays { StaysOver self.old self.new (B.storage below.old) (B.storage below.new) }
+        ensures step { IfOk result (λ step. stable_comes self.old.shape rank.0 partition.0 number
+            (serving self.old (B.storage below.old).process)
+            ≡ stepped (serving self.new (B.storage below.new).process) step) }
         ensures wanted { OnErr result (at 0 self.old.ranks partition.0 ≤ rank.0) }
-        ensures self_err { OnErr result (self.new ≡ self.old) }
-        ensures bytes_err { OnErr result (B.process below.new ≡ B.process below.old) }
+        ensures err { OnErr result (IsAsItWas self.old self.new (B.storage below.old) (B.storage below.new)) }
     {
         if !self.is_current(partition, rank) {
             return Ok(Step::nothing(self.alloc));
@@ -98,16 +92,14 @@ impl Service {
         requires partition { partition.0 < self.old.shape.k }
         requires fits { at 0 self.old.ranks partition.0 ≤ rank.0
             → AdoptFits self.old.shape (at empty_replica self.old.replicas partition.0) base list.now }
-        requires beneath { IsBeneath self.old (B.shape below.old) (B.process below.old) (B.is_ready below.old) }
-        ensures shape { self.new.shape ≡ self.old.shape }
-        ensures name { self.new.name ≡ self.old.name }
-        ensures beneath { IsBeneath self.new (B.shape below.new) (B.process below.new) (B.is_ready below.new) }
-        ensures pages { MakesNoneOf (AllMiss self.old.shape.block list.now) (B.made below.old) (B.made below.new) }
-        ensures step { IfOk result (λ step. adopt_comes self.old.shape from rank.0 partition.0 base list.now (serving self.old (B.process below.old))
-            ≡ stepped (serving self.new (B.process below.new)) step) }
+        requires beneath { IsBeneath self.old (B.storage below.old) }
+        ensures grows { GrowsOver (AllMiss self.old.shape.block list.now) self.old self.new (B.storage below.old)
+            (B.storage below.new) }
+        ensures step { IfOk result (λ step. adopt_comes self.old.shape from rank.0 partition.0 base list.now
+            (serving self.old (B.storage below.old).process)
+            ≡ stepped (serving self.new (B.storage below.new).process) step) }
         ensures wanted { OnErr result (at 0 self.old.ranks partition.0 ≤ rank.0) }
-        ensures self_err { OnErr result (self.new ≡ self.old) }
-        ensures bytes_err { OnErr result (B.process below.new ≡ B.process below.old) }
+        ensures err { OnErr result (IsAsItWas self.old self.new (B.storage below.old) (B.storage below.new)) }
     {
         if !self.is_current(partition, rank) {
             return Ok(Step::nothing(self.alloc));

@@ -9,6 +9,7 @@ mod acks;
 mod applying;
 mod asking;
 mod collecting;
+mod coming;
 mod following;
 pub mod inherited;
 mod judging;

@@ -4,8 +4,8 @@ ghost use Rattle.group_types.specs.Names.{IsProcess};
 ghost use Rattle.membership.specs.Members.{knows_dead};
 ghost use Rattle.head_service.specs.Serving.{serving};
 ghost use Rattle.process_service.specs.Noticing.{IsPrepared, adoptions, bereaved, waiting};
-ghost use Rattle.process_service.specs.Standing.{IsBeneath};
-ghost use Rattle.process_service.specs.Steps.{mourned};
+ghost use Rattle.process_service.specs.Standing.{IsBeneath, StaysOver};
+ghost use Rattle.process_service.specs.Steps.{after_mourning};
 
 use crate::service::Service;
 use group_types::{Partition, ProcessId};
@@ -61,14 +61,11 @@ impl Service {
         requires prepared { IsPrepared (bereaved dead self.old) notice.known notice.heads.items
             (vec_capacity notice.settled) }
         requires settled { notice.settled.items ≡ [] }
-        requires beneath { IsBeneath self.old (B.shape below.old) (B.process below.old) (B.is_ready below.old) }
-        ensures shape { self.new.shape ≡ self.old.shape }
-        ensures name { self.new.name ≡ self.old.name }
-        ensures beneath { IsBeneath self.new (B.shape below.new) (B.process below.new) (B.is_ready below.new) }
-        ensures pages { B.made below.new ≡ B.made below.old }
-        ensures step { mourned self.old.shape (serving (bereaved dead self.old) (B.process below.old))
+        requires beneath { IsBeneath self.old (B.storage below.old) }
+        ensures stays { StaysOver self.old self.new (B.storage below.old) (B.storage below.new) }
+        ensures step { after_mourning self.old.shape (serving (bereaved dead self.old) (B.storage below.old).process)
             ≡ record {
-              process = serving self.new (B.process below.new);
+              process = serving self.new (B.storage below.new).process;
               sent = adoptions (bereaved dead self.old) (range_with_len 0 self.old.shape.k);
               settled = result.items;
             } }

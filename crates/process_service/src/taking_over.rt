@@ -4,7 +4,7 @@ ghost use Rattle.group_run.specs.Applying.{for_each};
 ghost use Rattle.group_run.specs.Receiving as machine;
 ghost use Rattle.head_service.specs.Serving.{serving};
 ghost use Rattle.process_service.specs.Noticing.{heir_at, heirs, waiting};
-ghost use Rattle.process_service.specs.Standing.{IsBeneath};
+ghost use Rattle.process_service.specs.Standing.{IsBeneath, StaysOver};
 ghost use Rattle.process_service.specs.Steps.{HasMade};
 
 use crate::service::Service;
@@ -21,14 +21,12 @@ impl Service {
         settled: &mut Vec<Settlement>,
     )
         requires heads { heads.old.items ≡ heirs self.old (range_with_len 0 self.old.shape.k) }
-        requires beneath { IsBeneath self.old (B.shape below.old) (B.process below.old) (B.is_ready below.old) }
+        requires beneath { IsBeneath self.old (B.storage below.old) }
         requires room { vec_len settled.old + waiting self.old.replicas ≤ vec_capacity settled.old }
-        ensures beneath { IsBeneath self.new (B.shape below.new) (B.process below.new) (B.is_ready below.new) }
-        ensures pages { B.made below.new ≡ B.made below.old }
-        ensures shape { self.new.shape ≡ self.old.shape }
-        ensures name { self.new.name ≡ self.old.name }
-        ensures made { HasMade (for_each (range_with_len 0 self.old.shape.k) (machine.take_over_if self.old.shape) (serving self.old (B.process below.old)))
-            settled.old.items (serving self.new (B.process below.new)) settled.new.items }
+        ensures stays { StaysOver self.old self.new (B.storage below.old) (B.storage below.new) }
+        ensures made { HasMade (for_each (range_with_len 0 self.old.shape.k) (machine.take_over_if self.old.shape)
+            (serving self.old (B.storage below.old).process))
+            settled.old.items (serving self.new (B.storage below.new).process) settled.new.items }
     {
         'partitions: for d in 0..self.shape.k() {
             let head = heads[d as usize].take();
@@ -46,15 +44,13 @@ impl Service {
     )
         requires partition { partition.0 < self.old.shape.k }
         requires head { head ≡ heir_at self.old partition.0 }
-        requires beneath { IsBeneath self.old (B.shape below.old) (B.process below.old) (B.is_ready below.old) }
+        requires beneath { IsBeneath self.old (B.storage below.old) }
         requires room { vec_len settled.old + waiting self.old.replicas ≤ vec_capacity settled.old }
-        ensures beneath { IsBeneath self.new (B.shape below.new) (B.process below.new) (B.is_ready below.new) }
-        ensures pages { B.made below.new ≡ B.made below.old }
-        ensures shape { self.new.shape ≡ self.old.shape }
-        ensures name { self.new.name ≡ self.old.name }
+        ensures stays { StaysOver self.old self.new (B.storage below.old) (B.storage below.new) }
         ensures room { vec_len settled.new + waiting self.new.replicas ≤ vec_capacity settled.new }
-        ensures made { HasMade (machine.take_over_if self.old.shape partition.0 (serving self.old (B.process below.old))) settled.old.items
-            (serving self.new (B.process below.new)) settled.new.items }
+        ensures made { HasMade (machine.take_over_if self.old.shape partition.0
+            (serving self.old (B.storage below.old).process)) settled.old.items
+            (serving self.new (B.storage below.new).process) settled.new.items }
     {
         let Some(head) = head else {
             return;

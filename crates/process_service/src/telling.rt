@@ -20,7 +20,8 @@ impl Service {
         requires caller { caller < callers }
         requires partition { partition.0 < self.now.shape.k }
         ensures { (b : Process) → b.name ≡ self.now.name
-            → result ≡ fate_of self.now.shape caller call partition.0 (serving self.now b) (head_at (serving self.now b) partition.0) }
+            → result ≡ fate_of self.now.shape caller call partition.0 (serving self.now b)
+            (head_at (serving self.now b) partition.0) }
     {
         let d = partition.0 as usize;
         match &self.heads[d] {
@@ -32,7 +33,8 @@ impl Service {
     /// The messages that tell how far each headed partition is settled.
     pub fn flush(&self) -> Result<Vec<Sent>, AllocError>
         ensures { (b : Process) → b.name ≡ self.now.name
-            → IfOk result (λ sent. (flush_process self.now.shape (serving self.now b)).step ≡ sending sent.items (serving self.now b)) }
+            → IfOk result (λ sent. (flush_process self.now.shape (serving self.now b)).step
+            ≡ sending sent.items (serving self.now b)) }
     {
         flush(
             self.alloc,

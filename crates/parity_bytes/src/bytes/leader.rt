@@ -21,7 +21,8 @@ impl ParityBytes {
         ensures stays { Stays self.old self.new }
         ensures number { IfOk result (λ n. n ≡ suc self.old.process.as_leader.last_session) }
         ensures process { OnOk result (self.new.process
-            ≡ session_begun self.old.shape (parity_number self.old.process.name) block lost.items rows.items self.old.process) }
+            ≡ session_begun self.old.shape (parity_number self.old.process.name) block lost.items rows.items
+            self.old.process) }
         ensures err { OnErr result (self.new ≡ self.old) }
     {
         let blank = blank_for(self.shape, block, &self.space, &mut self.rows)?;

@@ -47,11 +47,13 @@ impl ParityBytes {
         requires { d.0 < self.old.shape.k }
         ensures stays { Stays self.old self.new }
         ensures process { self.new.process ≡ with_copies
-            (marking self.old.shape d.0 n (copy_in self.old.process.as_row.copies leader number) self.old.process.as_row.copies).copies self.old.process }
+            (marking self.old.shape d.0 n (copy_in self.old.process.as_row.copies leader number)
+            self.old.process.as_row.copies).copies self.old.process }
         ensures done { result ≡ (marking self.old.shape d.0 n
             (copy_in self.old.process.as_row.copies leader number) self.old.process.as_row.copies).done }
         ensures whole { IfSome result (IsWhole self.old.shape) }
-        ensures machine { copy_marked self.old.shape d.0 n (copy_in self.old.process.as_row.copies leader number) self.old.process
+        ensures machine { copy_marked self.old.shape d.0 n (copy_in self.old.process.as_row.copies leader number)
+            self.old.process
             ≡ handed_on self.old.shape result self.new.process }
     {
         marks_are_the_machines();
@@ -116,7 +118,8 @@ pub(crate) fn begin_own(leader: u32, number: u64, block: u32, blank: Blank, rows
     ensures shape { rows.new.shape ≡ rows.old.shape }
     ensures number { rows.new.number ≡ rows.old.number }
     ensures state { (p : Process) → p.as_row ≡ rows.old.state → block_in rows.old.shape block p.space ≡ blank.bytes
-        → rows.new.state ≡ (begun_if (nat_lt (at 0 rows.old.state.ceased leader) number) rows.old.shape leader number block p).as_row }
+        → rows.new.state ≡ (begun_if (nat_lt (at 0 rows.old.state.ceased leader) number) rows.old.shape leader number
+        block p).as_row }
 {
     if !rows.accepts(leader, number) {
         return;

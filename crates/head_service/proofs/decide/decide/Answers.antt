@@ -10,7 +10,7 @@ pub returns-in-None-clause-follows : goal.returns-in-None-clause-follows
 returns-in-None-clause-follows g c =
     let last = c.unfinished-last.ensures ∙ ap (number_on c.args.replica.now.replica.log) (c.key.ensures ∙ ap key_of c.act.ensures) in
     let waits = ap₂ (waits_for c.args.inherited) (sym c.act-2.ensures) (sym last) ∙ sym c.waits_for.ensures ∙ c.in-None.is in
-    let read = found_in (g.B.Beneath.shape c.args.below.now) c.args.partition.0 (g.B.Beneath.process c.args.below.now) in
+    let read = found_in (g.B.Beneath.storage c.args.below.now).shape c.args.partition.0 (g.B.Beneath.storage c.args.below.now).process in
     let slot = slot_in c.args.replica.now.replica.items (key_of c.args.op.now.act) in
     follows-once c.args.replica.now.shape c.args.replica.now.replica c.args.op.now read c.args.inherited slot waits
     c.decide_settled.result c.decide_settled.ensures.decision c.decide_settled.ensures.whole

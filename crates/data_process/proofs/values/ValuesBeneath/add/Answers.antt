@@ -21,18 +21,20 @@ returns-in-Put-clause-process c =
     let within = subst (λ (w : Holding). c.args.arg2.0 < w.space.shape.k) (sym c.self.view_is) c.requires.ready.0 in
     rw (← c.self.view_is) (update-added v.number v.space c.apply.new.self c.args.arg2.0 c.args.update.now within c.apply.ensures.shape (c.apply.ensures.bytes ∙ sym is))
 
-pub returns-in-Put-clause-kept : goal.returns-in-Put-clause-kept
-returns-in-Put-clause-kept c =
-    rw (← c.self.view_is) (still-ready c.self.inside.number c.self.inside.space c.apply.new.self c.apply.ensures.shape
-    (λ b there. subst (λ (made : List ℕ). Contains made b) (sym c.apply.ensures.made) there))
+pub returns-in-Put-clause-stays : goal.returns-in-Put-clause-stays
+returns-in-Put-clause-stays c =
+    rw (← c.self.view_is) (record {
+      shape = c.apply.ensures.shape;
+      pages = c.apply.ensures.made;
+      kept = still-ready c.self.inside.number c.self.inside.space c.apply.new.self c.apply.ensures.shape
+          (λ b there. subst (λ (made : List ℕ). Contains made b) (sym c.apply.ensures.made) there);
+    })
 
 pub returns-in_default : goal.returns-in_default
 returns-in_default c =
     let v : Holding = c.args.self.now in
     record {
-      shape = refl;
-      pages = refl;
+      stays = record { shape = refl; pages = refl; kept = λ d u ready. ready };
       process = update-added v.number v.space v.space c.args.arg2.0 c.args.update.now c.requires.ready.0 refl
           (nothing-added v.space.shape v.number c.args.arg2.0 c.args.update.now.body v.space.bytes c.in_default.not-Put);
-      kept = λ d u ready. ready;
     }

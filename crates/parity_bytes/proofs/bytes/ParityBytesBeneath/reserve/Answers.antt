@@ -1,4 +1,4 @@
-use Rattle.std.proofs.Common.{◌<◌, subst, sym, ◌∙◌}
+use Rattle.std.proofs.Common.{◌<◌, refl, subst, sym, ◌∙◌}
 use Rattle.group_types.specs.Dimensions.{Dimensions, space_of}
 use Rattle.group_run.specs.Fitting.{Writes}
 use Rattle.page_map.specs.Spaces.{MakesOnly}
@@ -16,12 +16,12 @@ returns-in_ok-reserve-clause-ready c =
           (c.reserve.ensures.shape ∙ c.self.invariant.space_shape) writes c.in_ok-reserve.ensures.ready,
     )
 
-pub returns-in_ok-reserve-clause-pages : goal.returns-in_ok-reserve-clause-pages
-returns-in_ok-reserve-clause-pages c =
-    rw (← c.self.view_is) (put-pages c.self.inside.shape.block c.args.update.now.body c.in-Put.flags c.in-Put.until c.in-Put.run' c.in-Put.delta
-    c.self.inside.space.made c.reserve.new.self.made c.in-Put.is
-    (subst (λ (s : Dimensions). MakesOnly s.block c.in-Put.run' c.self.inside.space.made c.reserve.new.self.made) c.self.invariant.space_shape c.in_ok-reserve.ensures.made))
-
-pub returns-in_ok-reserve-clause-kept : goal.returns-in_ok-reserve-clause-kept
-returns-in_ok-reserve-clause-kept c =
-    rw (← c.self.view_is) (still_ready c.self.inside.shape c.self.inside.space.made c.reserve.new.self.made c.in_ok-reserve.ensures.made.kept)
+pub returns-in_ok-reserve-clause-makes : goal.returns-in_ok-reserve-clause-makes
+returns-in_ok-reserve-clause-makes c =
+    rw (← c.self.view_is) (record {
+      shape = refl;
+      pages = put-pages c.self.inside.shape.block c.args.update.now.body c.in-Put.flags c.in-Put.until c.in-Put.run' c.in-Put.delta
+          c.self.inside.space.made c.reserve.new.self.made c.in-Put.is
+          (subst (λ (s : Dimensions). MakesOnly s.block c.in-Put.run' c.self.inside.space.made c.reserve.new.self.made) c.self.invariant.space_shape c.in_ok-reserve.ensures.made);
+      kept = still_ready c.self.inside.shape c.self.inside.space.made c.reserve.new.self.made c.in_ok-reserve.ensures.made.kept;
+    })

@@ -6,11 +6,13 @@ use Rattle.group_message.specs.declared.update.Update.{Update}
 use Rattle.group_run.specs.Fitting.{UpdateFits}
 use Rattle.group_run.specs.Process.{Process}
 use Rattle.group_run.specs.Receiving.{ack_to, update_comes}
-use Rattle.head_service.specs.Paging.{MakesNoneOf, Misses}
+use Rattle.head_service.specs.Paging.{Misses}
 use Rattle.head_service.specs.Serving.{Serving, serving}
 use Rattle.process_service.proofs.Followed.{acknowledged-as, update-made}
-use Rattle.process_service.proofs.Lent.{IsLent, here, lends, put-back, put-same, ready-of, stands-applied, stands-same, written}
+use Rattle.process_service.proofs.Lent.{IsLent, applied-kept, grows-over, here, lends, put-back, put-same, seat-of, written}
+use Rattle.process_service.specs.Standing.{GrowsOver}
 use Rattle.process_service.proofs.Results.{on-err-any}
+use Rattle.process_service.proofs.Standing.{same-as}
 use Rattle.process_service.proofs.service.Service.follow.Given as given
 use Rattle.process_service.proofs.service.Service.follow.Goals as goal
 
@@ -21,50 +23,44 @@ module _ (g : given.Over) (c : goal.After-follow-arg-2-1 g) where
   current : nat_le (at 0 c.args.self.now.ranks c.args.partition.0) c.args.rank.0 ≡ true
   current = sym c.is_current.ensures ∙ c.if-not-is_current.false
 
-pub follow-requires-clause-partition : goal.follow-requires-clause-partition
-follow-requires-clause-partition g c = subst (λ (x : Dimensions). c.args.partition.0 < x.k) (sym c.requires.beneath.shape) c.requires.partition
-
 pub follow-requires-clause-fits : goal.follow-requires-clause-fits
 follow-requires-clause-fits g c = lends (lent g c) (λ s r. UpdateFits s r c.args.update.now c.args.stable) (c.requires.fits (leb-true _ _ (current g c)))
 
-pub follow-requires-clause-ready : goal.follow-requires-clause-ready
-follow-requires-clause-ready g c = ready-of (lent g c) c.requires.beneath
+pub follow-requires-clause-seat : goal.follow-requires-clause-seat
+follow-requires-clause-seat g c = seat-of (lent g c) c.requires.beneath
 
-pub returns-in_err-follow-clause-beneath : goal.returns-in_err-follow-clause-beneath
-returns-in_err-follow-clause-beneath g c =
+pub returns-in_err-follow-clause-grows : goal.returns-in_err-follow-clause-grows
+returns-in_err-follow-clause-grows g c =
     let f : goal.After-follow-arg-2-1 g = c.before.before.before.before.before.before in
-    stands-same (lent g f) c.requires.beneath (g.B.Beneath.is_ready c.follow.new.below) c.follow.new.replica
-    c.follow.ensures.below c.in_err-follow.ensures.bytes_err c.follow.ensures.ready c.follow.ensures.kept
+    subst (λ (x : Dimensions). GrowsOver (Misses x.block c.args.update.now.body) c.args.self.now (written (lent g f) c.follow.new.replica) (g.B.Beneath.storage c.args.below.now) (g.B.Beneath.storage c.follow.new.below))
+    c.requires.beneath.shape
+    (grows-over (lent g f) c.requires.beneath c.follow.new.replica c.follow.ensures.seat (same-as _ _ c.in_err-follow.ensures.err.process) c.follow.ensures.makes)
 
-pub returns-in_err-follow-clause-self_err : goal.returns-in_err-follow-clause-self_err
-returns-in_err-follow-clause-self_err g c =
+pub returns-in_err-follow-clause-err : goal.returns-in_err-follow-clause-err
+returns-in_err-follow-clause-err g c =
     let f : goal.After-follow-arg-2-1 g = c.before.before.before.before.before.before in
-    on-err-any c.from_residual-in_err-follow.result (put-same (lent g f) c.follow.new.replica c.in_err-follow.ensures.replica_err)
+    on-err-any c.from_residual-in_err-follow.result (record {
+      service = put-same (lent g f) c.follow.new.replica c.in_err-follow.ensures.err.replica;
+      process = c.in_err-follow.ensures.err.process;
+    })
 
-pub returns-clause-beneath : goal.returns-clause-beneath
-returns-clause-beneath g c =
+pub returns-clause-grows : goal.returns-clause-grows
+returns-clause-grows g c =
     let f : goal.After-follow-arg-2-1 g = c.before.before.before.before.before.before in
-    stands-applied (lent g f) c.requires.beneath (g.B.Beneath.is_ready c.follow.new.below) c.follow.new.replica c.args.stable
-    c.follow.ensures.below c.in_ok-follow.ensures.bytes c.follow.ensures.ready c.follow.ensures.kept
+    subst (λ (x : Dimensions). GrowsOver (Misses x.block c.args.update.now.body) c.args.self.now (written (lent g f) c.follow.new.replica) (g.B.Beneath.storage c.args.below.now) (g.B.Beneath.storage c.follow.new.below))
+    c.requires.beneath.shape
+    (grows-over (lent g f) c.requires.beneath c.follow.new.replica c.follow.ensures.seat (applied-kept (lent g f) c.requires.beneath (g.B.Beneath.storage c.follow.new.below) c.args.stable c.in_ok-follow.ensures.bytes) c.follow.ensures.makes)
 
 pub returns-clause-step : goal.returns-clause-step
 returns-clause-step g c =
     let f : goal.After-follow-arg-2-1 g = c.before.before.before.before.before.before in
     let v : Serving = c.args.self.now in
     let u : Update = c.args.update.now in
-    let b : Process = g.B.Beneath.process c.args.below.now in
-    let b2 : Process = g.B.Beneath.process c.follow.new.below in
+    let b : Process = (g.B.Beneath.storage c.args.below.now).process in
+    let b2 : Process = (g.B.Beneath.storage c.follow.new.below).process in
     ap (λ (x : Dimensions). update_comes x c.args.from c.args.rank.0 c.args.partition.0 u c.args.stable (serving v b)) (sym c.requires.beneath.shape)
-    ∙ update-made (g.B.Beneath.shape c.args.below.now) c.args.partition.0 v b c.index_mut-replica.result.now.replica (here (lent g f)) c.args.from c.args.rank.0 u c.args.stable
+    ∙ update-made (g.B.Beneath.storage c.args.below.now).shape c.args.partition.0 v b c.index_mut-replica.result.now.replica (here (lent g f)) c.args.from c.args.rank.0 u c.args.stable
     c.follow.new.replica.replica b2 (current g f) c.in_ok-follow.ensures.replica c.in_ok-follow.ensures.bytes
     ∙ ap (λ (w : Serving). ack_to c.args.from c.args.rank.0 c.args.partition.0 u.number (serving w b2)) (sym (put-back (lent g f) c.follow.new.replica))
     ∙ acknowledged-as c.args.from c.args.rank.0 c.args.partition.0 u.number (serving (written (lent g f) c.follow.new.replica) b2) c.sending.result.sent.items c.sending.result.settled.items
     (c.sending.ensures.sent ∙ c.in_ok-sent.ensures) c.sending.ensures.settled
-
-pub returns-in_err-follow-clause-pages : goal.returns-in_err-follow-clause-pages
-returns-in_err-follow-clause-pages g c = subst (λ (x : Dimensions). MakesNoneOf (Misses x.block c.args.update.now.body) (g.B.Beneath.made c.args.below.now) (g.B.Beneath.made c.follow.new.below))
-    c.requires.beneath.shape c.follow.ensures.pages
-
-pub returns-clause-pages : goal.returns-clause-pages
-returns-clause-pages g c = subst (λ (x : Dimensions). MakesNoneOf (Misses x.block c.args.update.now.body) (g.B.Beneath.made c.args.below.now) (g.B.Beneath.made c.follow.new.below))
-    c.requires.beneath.shape c.follow.ensures.pages

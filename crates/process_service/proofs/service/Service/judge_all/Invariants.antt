@@ -1,20 +1,17 @@
-use Rattle.std.proofs.Common.{◌≡◌, ◌≤◌, ◌+◌, vec_len, vec_capacity}
+use Rattle.std.proofs.Common.{◌≤◌, ◌+◌, vec_len, vec_capacity}
 use Rattle.std.specs.List.{range_with_len}
 use Rattle.group_run.specs.Applying.{for_each}
 use Rattle.group_run.specs.Heading.{judge}
 use Rattle.head_service.specs.Serving.{serving}
 use Rattle.process_service.specs.Noticing.{waiting}
-use Rattle.process_service.specs.Standing.{IsBeneath}
+use Rattle.process_service.specs.Standing.{StaysOver}
 use Rattle.process_service.proofs.Each.{IsLeft}
 use Rattle.process_service.proofs.service.Service.judge_all.Given as goal
 
 abbrev pub invariant-partitions : goal.invariant-partitions
 invariant-partitions g l = record {
-  shape : l.self.shape ≡ l.initial.self.shape;
-  name : l.self.name ≡ l.initial.self.name;
-  beneath : IsBeneath l.self (g.B.Beneath.shape l.below) (g.B.Beneath.process l.below) (g.B.Beneath.is_ready l.below);
-  pages : g.B.Beneath.made l.below ≡ g.B.Beneath.made l.initial.below;
+  stays : StaysOver l.initial.self l.self (g.B.Beneath.storage l.initial.below) (g.B.Beneath.storage l.below);
   room : vec_len l.settled + waiting l.self.replicas ≤ vec_capacity l.settled;
-  ahead : IsLeft (judge l.initial.self.shape) l.initial.self.shape.k l.d (serving l.self (g.B.Beneath.process l.below)) l.settled.items
-      (for_each (range_with_len 0 l.initial.self.shape.k) (judge l.initial.self.shape) (serving l.initial.self (g.B.Beneath.process l.initial.below))) l.initial.settled.items;
+  ahead : IsLeft (judge l.initial.self.shape) l.initial.self.shape.k l.d (serving l.self (g.B.Beneath.storage l.below).process) l.settled.items
+      (for_each (range_with_len 0 l.initial.self.shape.k) (judge l.initial.self.shape) (serving l.initial.self (g.B.Beneath.storage l.initial.below).process)) l.initial.settled.items;
 }

@@ -26,15 +26,12 @@ pub partitions-init : goal.partitions-init
 partitions-init g c =
     let s : Dimensions = c.args.self.now.shape in
     record {
-      shape = refl;
-      name = refl;
-      beneath = c.requires.beneath;
-      pages = refl;
+      stays = record { shape = refl; name = refl; beneath = c.requires.beneath; pages = refl };
       room = c.requires.room;
       long = ap length c.requires.heads ∙ length-map-range_with_len (heir_at c.args.self.now) 0 s.k;
       heads = λ e low below. ap (λ (xs : List (Option Head)). at None xs e) c.requires.heads
           ∙ at-map-range None (heir_at c.args.self.now) s.k 0 e below ∙ ap (heir_at c.args.self.now) (from-zero e);
-      ahead = left-first (take_over_if s) s.k (serving c.args.self.now (g.B.Beneath.process c.args.below.now)) c.args.settled.now.items;
+      ahead = left-first (take_over_if s) s.k (serving c.args.self.now (g.B.Beneath.storage c.args.below.now).process) c.args.settled.now.items;
     }
 
 pub take_over_if-requires-clause-head : goal.take_over_if-requires-clause-head
@@ -49,27 +46,29 @@ pub partitions-preserved : goal.partitions-preserved
 partitions-preserved g c =
     let s : Dimensions = c.args.self.now.shape in
     let d : ℕ = c.partitions.d in
-    let b : Process = g.B.Beneath.process c.partitions.below in
-    let b2 : Process = g.B.Beneath.process c.take_over_if.new.below in
+    let b : Process = (g.B.Beneath.storage c.partitions.below).process in
+    let b2 : Process = (g.B.Beneath.storage c.take_over_if.new.below).process in
     let wide : c.self.inside.shape.k ≡ s.k = ap (λ (w : Serving). w.shape.k) c.self.view_is in
     let below : d < s.k = grind (arith, common_steps) in
     let made : HasMade (take_over_if s d (serving c.partitions.self b)) c.partitions.settled.items (serving c.take_over_if.new.self b2) c.take_over_if.new.settled.items
     = subst (λ (x : Dimensions). HasMade (take_over_if x d (serving c.partitions.self b)) c.partitions.settled.items (serving c.take_over_if.new.self b2) c.take_over_if.new.settled.items)
-    c.partitions.invariant.shape c.take_over_if.ensures.made in
+    c.partitions.invariant.stays.shape c.take_over_if.ensures.made in
     record {
-      shape = c.take_over_if.ensures.shape ∙ c.partitions.invariant.shape;
-      name = c.take_over_if.ensures.name ∙ c.partitions.invariant.name;
-      beneath = c.take_over_if.ensures.beneath;
-      pages = c.take_over_if.ensures.pages ∙ c.partitions.invariant.pages;
+      stays = record {
+        shape = c.take_over_if.ensures.stays.shape ∙ c.partitions.invariant.stays.shape;
+        name = c.take_over_if.ensures.stays.name ∙ c.partitions.invariant.stays.name;
+        beneath = c.take_over_if.ensures.stays.beneath;
+        pages = c.take_over_if.ensures.stays.pages ∙ c.partitions.invariant.stays.pages;
+      };
       room = c.take_over_if.ensures.room;
       long = long-set c.partitions.heads.items d c.take-head.new.self ∙ c.partitions.invariant.long;
       heads = λ e high within.
           ap (λ (xs : List (Option Head)). at None xs e) (set_put None c.partitions.heads.items d c.take-head.new.self (omega (arith, below, c.partitions.invariant.long)))
           ∙ at-put-other None c.partitions.heads.items d e c.take-head.new.self (above e d high)
           ∙ c.partitions.invariant.heads e (omega (arith, high)) within
-          ∙ sym (heirs-stay s c.partitions.self c.take_over_if.new.self b b2 c.partitions.invariant.beneath.name (sym c.partitions.invariant.shape)
-          c.take_over_if.ensures.beneath.name (sym (c.take_over_if.ensures.shape ∙ c.partitions.invariant.shape)) d e (above e d high) made.process);
+          ∙ sym (heirs-stay s c.partitions.self c.take_over_if.new.self b b2 c.partitions.invariant.stays.beneath.name (sym c.partitions.invariant.stays.shape)
+          c.take_over_if.ensures.stays.beneath.name (sym (c.take_over_if.ensures.stays.shape ∙ c.partitions.invariant.stays.shape)) d e (above e d high) made.process);
       ahead = left-next (take_over_if s) s.k d (serving c.partitions.self b) (serving c.take_over_if.new.self b2) c.partitions.settled.items c.take_over_if.new.settled.items
-          c.args.settled.now.items (for_each (range_with_len 0 s.k) (take_over_if s) (serving c.args.self.now (g.B.Beneath.process c.args.below.now))) below made
+          c.args.settled.now.items (for_each (range_with_len 0 s.k) (take_over_if s) (serving c.args.self.now (g.B.Beneath.storage c.args.below.now).process)) below made
           c.partitions.invariant.ahead;
     }
