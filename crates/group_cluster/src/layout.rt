@@ -42,6 +42,9 @@ impl Model for Layout {
 }
 
 impl Layout {
+    /// So many groups (1 to 16) of one shape on so many nodes (k + m to 64).
+    ///
+    /// `BadLayout`: the first number that is out of range, in the order groups, nodes, k, m, block, blocks.
     pub fn new(
         groups: u32,
         nodes: u32,

@@ -9,24 +9,24 @@ use Rattle.group_message.specs.declared.message.Message.{Message}
 use Rattle.group_run.specs.Process.{Node}
 use Rattle.group_run.specs.World.{deliver_nodes, opening_node, with_node}
 use Rattle.group_node.specs.Delivering.{Comes}
-use Rattle.group_node.specs.Standing.{Standing}
+use Rattle.group_node.specs.Standing.{NodeStanding}
 use Rattle.group_node.specs.Steps as node
 use Rattle.group_node.specs.declared.node.NodeOut.{NodeOut}
 use Rattle.group_core.specs.Pairs.{CanCome, Delivered, Exchanged, IsAt}
 use Rattle.group_core.specs.Seats.{AreSeated, made, nodes_of, seat, seats_of, two_changed}
 use Rattle.group_core.proofs.Changed.{nodes-changed, seat-is, shape-is, still-seated, within}
 
-pub any-at : (xs : List Standing) (i : ℕ) (d e : Standing) → i < length xs → get_or xs i d ≡ get_or xs i e
+pub any-at : (xs : List NodeStanding) (i : ℕ) (d e : NodeStanding) → i < length xs → get_or xs i d ≡ get_or xs i e
 any-at [] i d e below = absurd (omega (arith, below))
 any-at (x ∷ xs) zero d e below = refl
 any-at (x ∷ xs) (suc i) d e below = any-at xs i d e (omega (arith, below))
 
-module _ (s : Dimensions) (xs : List Standing) (seated : AreSeated s xs) (from to : ProcessId) (fin : IsProcess s from) (tin : IsProcess s to)
+module _ (s : Dimensions) (xs : List NodeStanding) (seated : AreSeated s xs) (from to : ProcessId) (fin : IsProcess s from) (tin : IsProcess s to)
     (i j : ℕ) (i_is : i ≡ index_of s from) (j_is : j ≡ index_of s to) (from_name : (seat (seats_of s xs) from).process.name ≡ from) (to_name : (seat (seats_of s xs) to).process.name ≡ to) where
-  abbrev a : Standing
+  abbrev a : NodeStanding
   a = get_or xs i (record { shape = s; node = opening_node s from })
 
-  abbrev b : Standing
+  abbrev b : NodeStanding
   b = get_or xs j (record { shape = s; node = opening_node s to })
 
   a-there : IsAt xs i a
@@ -64,7 +64,7 @@ module _ (s : Dimensions) (xs : List Standing) (seated : AreSeated s xs) (from t
         subst (λ (t : Dimensions). Comes t a.node.process.name m b.node.process) (sym b-shape)
         (subst (λ (p : ProcessId). Comes s p m b.node.process) (sym a-name) (subst (λ (n : Node). Comes s from m n.process) (sym b-node) here))
 
-  module _ (ys : List Standing) (out : NodeOut) (ex : Exchanged xs ys i j out) where
+  module _ (ys : List NodeStanding) (out : NodeOut) (ex : Exchanged xs ys i j out) where
     done : Delivered a b ex.sender ex.receiver out
     done = ex.delivered a b a-there b-there
 
@@ -91,6 +91,6 @@ module _ (s : Dimensions) (xs : List Standing) (seated : AreSeated s xs) (from t
     pub exchanged-is : two_changed (seats_of s xs) from to (deliver_nodes s from to (seat (seats_of s xs) from) (seat (seats_of s xs) to)) ≡ made (seats_of s ys) out
     exchanged-is = ap (two_changed (seats_of s xs) from to) stepped ∙ ap (λ (nodes : List Node). record { nodes = nodes; answer = out.answer; settled = out.settled.items }) (sym nodes-after)
 
-  pub seated-either : (ys : List Standing) (r : Result NodeOut AllocError) → IfOk r (λ out. Exchanged xs ys i j out) → OnErr r (ys ≡ xs) → AreSeated s ys
+  pub seated-either : (ys : List NodeStanding) (r : Result NodeOut AllocError) → IfOk r (λ out. Exchanged xs ys i j out) → OnErr r (ys ≡ xs) → AreSeated s ys
   seated-either ys (Ok out) ex same = seated-after ys out ex
   seated-either ys (Err e) ex same = subst (AreSeated s) (sym same) seated

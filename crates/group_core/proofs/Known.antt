@@ -24,7 +24,7 @@ use Rattle.law_answers.proofs.Addressing.{kinds_always}
 use Rattle.law_answers.proofs.Deaths.{few_dead_always}
 use Rattle.law_answers.proofs.OwnMarks.{own_marks_always}
 use Rattle.group_node.specs.Delivering.{Comes}
-use Rattle.group_node.specs.Standing.{Standing}
+use Rattle.group_node.specs.Standing.{NodeStanding}
 use Rattle.leader_role.specs.Sound.{IsOfGroup}
 use Rattle.group_run.specs.Shown.{process_stamp, stamp_of}
 use Rattle.group_core.specs.Runs.{HasHeadline, HasRun}
@@ -54,7 +54,7 @@ module _ (w : World) (has : HasRun w) where
   agree-on-stamp = subst (λ (v : World). ¬ (IsDown v) → AgreeOnStamp v) (sym has.is) headline.agree
 
   -- what a node shows is what its process shows in the group
-  pub stamp-read : (p : ProcessId) → IsProcess w.shape p → (n : Standing) → n.shape ≡ w.shape → n.node ≡ node_of w p
+  pub stamp-read : (p : ProcessId) → IsProcess w.shape p → (n : NodeStanding) → n.shape ≡ w.shape → n.node ≡ node_of w p
       → process_stamp n.shape n.node.process.name n.node.process ≡ stamp_of w p
   stamp-read p pin n shape same =
       let name : n.node.process.name ≡ p = ap (λ (x : Node). x.process.name) same ∙ named w has p pin in

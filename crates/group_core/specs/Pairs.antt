@@ -5,18 +5,18 @@ use Rattle.group_types.specs.Names.{index_of}
 use Rattle.group_message.specs.declared.message.Message.{Message}
 use Rattle.group_run.specs.World.{deliver_nodes}
 use Rattle.group_node.specs.Delivering.{Comes}
-use Rattle.group_node.specs.Standing.{Standing}
+use Rattle.group_node.specs.Standing.{NodeStanding}
 use Rattle.group_node.specs.Steps as node
 use Rattle.group_node.specs.declared.node.NodeOut.{NodeOut}
 
 -- the node at a place of the list
-abbrev pub IsAt : List Standing → ℕ → Standing → Type 0
-IsAt xs i x = (d : Standing) → slice_index_or xs i d ≡ x
+abbrev pub IsAt : List NodeStanding → ℕ → NodeStanding → Type 0
+IsAt xs i x = (d : NodeStanding) → slice_index_or xs i d ≡ x
 
 -- what comes first from one node to the other may come
-pub record CanCome (xs : List Standing) (i j : ℕ) : Type 0 where
-  pub sender : Standing
-  pub receiver : Standing
+pub record CanCome (xs : List NodeStanding) (i j : ℕ) : Type 0 where
+  pub sender : NodeStanding
+  pub receiver : NodeStanding
   pub from : IsAt xs i sender
   pub to : IsAt xs j receiver
   pub same : sender.shape ≡ receiver.shape
@@ -25,15 +25,15 @@ pub record CanCome (xs : List Standing) (i j : ℕ) : Type 0 where
       → Comes receiver.shape sender.node.process.name m receiver.node.process
 
 -- the nodes after a delivery from one to the other
-pub record Delivered (sender receiver sender_after receiver_after : Standing) (out : NodeOut) : Type 0 where
+pub record Delivered (sender receiver sender_after receiver_after : NodeStanding) (out : NodeOut) : Type 0 where
   pub sender_shape : sender_after.shape ≡ sender.shape
   pub receiver_shape : receiver_after.shape ≡ receiver.shape
   pub step : deliver_nodes receiver.shape sender.node.process.name receiver.node.process.name sender.node receiver.node
       ≡ record { sender = sender_after.node; receiver = node.made receiver_after.node out }
 
 -- the list after it: all others stay
-pub record Exchanged (xs ys : List Standing) (i j : ℕ) (out : NodeOut) : Type 0 where
-  pub sender : Standing
-  pub receiver : Standing
+pub record Exchanged (xs ys : List NodeStanding) (i j : ℕ) (out : NodeOut) : Type 0 where
+  pub sender : NodeStanding
+  pub receiver : NodeStanding
   pub items : ys ≡ set (set xs i sender) j receiver
-  pub delivered : (x y : Standing) → IsAt xs i x → IsAt xs j y → Delivered x y sender receiver out
+  pub delivered : (x y : NodeStanding) → IsAt xs i x → IsAt xs j y → Delivered x y sender receiver out

@@ -5,7 +5,7 @@ use Rattle.group_types.specs.declared.process.ProcessId.{ProcessId}
 use Rattle.group_run.specs.Process.{Node, Process}
 use Rattle.group_run.specs.Replica.{last_of}
 use Rattle.group_run.specs.World.{DeliveryStep, GroupStep, NodeStep, node_in, with_node}
-use Rattle.group_node.specs.Standing.{Standing}
+use Rattle.group_node.specs.Standing.{NodeStanding}
 use Rattle.group_node.specs.declared.node.NodeOut.{NodeOut}
 
 -- the shape of the group, and the machine's nodes in the order of processes
@@ -13,17 +13,17 @@ pub record Seats : Type 0 where
   pub shape : Dimensions
   pub nodes : List Node
 
-abbrev pub nodes_of : List Standing → List Node
+abbrev pub nodes_of : List NodeStanding → List Node
 nodes_of xs = map (λ x. x.node) xs
 
-abbrev pub seats_of : Dimensions → List Standing → Seats
+abbrev pub seats_of : Dimensions → List NodeStanding → Seats
 seats_of s xs = record { shape = s; nodes = nodes_of xs }
 
 -- all are nodes of a group of this shape
-abbrev pub AreOf : Dimensions → List Standing → Type 0
+abbrev pub AreOf : Dimensions → List NodeStanding → Type 0
 AreOf s xs = All (λ x. x.shape ≡ s) xs
 
-pub record AreSeated (s : Dimensions) (xs : List Standing) : Type 0 where
+pub record AreSeated (s : Dimensions) (xs : List NodeStanding) : Type 0 where
   pub many : length xs ≡ s.k + s.m
   pub shapes : AreOf s xs
 

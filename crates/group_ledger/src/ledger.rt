@@ -112,6 +112,8 @@ impl Ledger {
     }
 
     /// Makes room for a call and for this many settled updates and one more. Room that isn't used doesn't pile up.
+    ///
+    /// `AllocError`: the books are as they were, and no room is counted.
     pub fn reserve(&mut self, settled: usize) -> Result<(), AllocError>
         ensures books { self.new.books ≡ self.old.books }
         ensures ok { OnOk result (self.new.room ≡ settled + 2) }

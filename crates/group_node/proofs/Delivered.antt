@@ -15,12 +15,15 @@ use Rattle.group_run.specs.Applying.{ProcessStep}
 use Rattle.group_run.specs.Fitting.{Fits}
 use Rattle.group_run.specs.Process.{Node, Process}
 use Rattle.group_run.specs.Receiving.{receive}
+use Rattle.group_run.specs.World as world
 use Rattle.group_run.specs.World.{deliver_nodes, delivered, link_emptied, links_after, links_without, node_after, receive_node}
 use Rattle.process_service.specs.declared.step.Step.{Step}
 use Rattle.process_service.specs.Steps.{stepped}
 use Rattle.link_core.specs.Outgoing.{Link, link_to, with_link}
 use Rattle.group_node.specs.declared.node.NodeOut.{NodeOut}
+use Rattle.group_node.specs.Delivering.{Comes}
 use Rattle.group_node.specs.Rooms.{messages}
+use Rattle.group_node.specs.Standing.{NodeStanding}
 use Rattle.group_node.specs.Steps.{made}
 use Rattle.group_node.proofs.Links.{messages-at, messages-long, messages-with}
 use Rattle.group_node.proofs.Ranges.{entries-same}
@@ -98,11 +101,11 @@ module _ (s t : Dimensions) (from : ProcessId) (m : Message) (node : Node) (step
   takes other = steps ∙ ap (λ (n : Node). record { node = n; answer = says.Done; settled = step.settled.items }) (not-emptied s m acted other)
 
 -- the first message of a link
-head-is : {X : Type 0} (xs : List X) (x : X) → Some x ≡ slice_get xs 0 → xs ≡ x ∷ drop 1 xs
+pub head-is : {X : Type 0} (xs : List X) (x : X) → Some x ≡ slice_get xs 0 → xs ≡ x ∷ drop 1 xs
 head-is [] x is = absurd (cc is)
 head-is (y ∷ ys) x is = let same : y ≡ x = cc is in ap (λ (z : _). z ∷ ys) same
 
-none-is : {X : Type 0} (xs : List X) → None ≡ slice_get xs 0 → xs ≡ []
+pub none-is : {X : Type 0} (xs : List X) → None ≡ slice_get xs 0 → xs ≡ []
 none-is [] is = refl
 none-is (y ∷ ys) is = absurd (cc is)
 
@@ -142,3 +145,41 @@ pub popped : (s : Dimensions) (to : ProcessId) (old new : List (Link Message)) (
 popped s to old new x n named long here made =
     let within : x < length old = let below = index-below s to named in omega (arith, below, here, long) in
     ap messages made ∙ messages-with old x (drop 1 (link_to old x).messages) n within ∙ ap (λ (y : ℕ). put [] (messages old) y (drop 1 (link_to old x).messages)) here
+
+-- a delivery by the calls of two nodes: the first message of the sender's link is received, and handed out then
+module _ (s r : NodeStanding) (from to : ProcessId) (same : s.shape ≡ r.shape) (from_is : from ≡ s.node.process.name) (to_is : to ≡ r.node.process.name) where
+  here : index_of s.shape to ≡ index_of r.shape r.node.process.name
+  here = ap (λ (x : Dimensions). index_of x to) same ∙ ap (index_of r.shape) to_is
+
+  pub first-there : (m : Message) → Some m ≡ slice_get (at [] s.node.links (index_of s.shape to)) 0
+      → at [] s.node.links (index_of r.shape r.node.process.name) ≡ m ∷ drop 1 (at [] s.node.links (index_of s.shape to))
+  first-there m is = ap (at [] s.node.links) (sym here) ∙ head-is (at [] s.node.links (index_of s.shape to)) m is
+
+  pub comes-there : (m : Message) → Comes r.shape s.node.process.name m r.node.process → Comes r.shape from m r.node.process
+  comes-there m comes = subst (λ (p : ProcessId). Comes r.shape p m r.node.process) (sym from_is) comes
+
+  pub delivery-comes : r.node.down ≡ false → r.node.dead ≡ false
+      → (r.node.down ≡ false → r.node.dead ≡ false → (m : Message) (rest : List Message)
+      → at [] s.node.links (index_of r.shape r.node.process.name) ≡ m ∷ rest → Comes r.shape s.node.process.name m r.node.process)
+      → (m : Message) → Some m ≡ slice_get (at [] s.node.links (index_of s.shape to)) 0 → Comes r.shape from m r.node.process
+  delivery-comes up lives all m is =
+      comes-there m (all up lives m (drop 1 (at [] s.node.links (index_of s.shape to))) (first-there m is))
+
+  pub none-there : r.node.down ≡ false → r.node.dead ≡ false → (out : NodeOut) → None ≡ slice_get (at [] s.node.links (index_of s.shape to)) 0
+      → out.answer ≡ says.Idle → out.settled.items ≡ []
+      → deliver_nodes r.shape s.node.process.name r.node.process.name s.node r.node ≡ record { sender = s.node; receiver = made r.node out }
+  none-there up lives out none answer settled =
+      nothing-comes r.shape s.node.process.name r.node.process.name s.node r.node up lives out
+      (ap (at [] s.node.links) (sym here) ∙ none-is (at [] s.node.links (index_of s.shape to)) none) answer settled
+
+  pub handed-out : r.node.down ≡ false → r.node.dead ≡ false → (m : Message) (new after : Node) (out : NodeOut)
+      → Some m ≡ slice_get (at [] s.node.links (index_of s.shape to)) 0 → receive_node r.shape from m r.node ≡ made new out
+      → after ≡ world.with_link s.shape to (drop 1 (at [] s.node.links (index_of s.shape to))) s.node
+      → deliver_nodes r.shape s.node.process.name r.node.process.name s.node r.node ≡ record { sender = after; receiver = made new out }
+  handed-out up lives m new after out first comes is =
+      let rest = drop 1 (at [] s.node.links (index_of s.shape to)) in
+      one-comes r.shape s.node.process.name r.node.process.name s.node r.node up lives m rest new out
+      (put [] s.node.links (index_of r.shape r.node.process.name) rest) (first-there m first) refl
+      (subst (λ (p : ProcessId). receive_node r.shape p m r.node ≡ made new out) from_is comes)
+      ∙ ap (λ (x : Node). record { sender = x; receiver = made new out })
+      (ap (λ (x : ℕ). record s.node { links = put [] s.node.links x rest }) (sym here) ∙ sym is)

@@ -9,3 +9,4 @@ pub mod Standing
 pub mod Cut
 pub mod Treated
 pub mod Delivered
+mod Admitting

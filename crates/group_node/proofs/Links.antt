@@ -1,5 +1,5 @@
 -- What is read of links after one of them changed.
-use Rattle.std.proofs.Common.{ℕ, zero, suc, ◌≡◌, ◌<◌, List, [], ◌∷◌, length, All, refl, sym, ap, subst, ◌∙◌, arith}
+use Rattle.std.proofs.Common.{ℕ, zero, suc, ◌≡◌, ◌<◌, List, [], ◌∷◌, length, All, refl, ap, arith}
 use Rattle.group_types.specs.Lists.{at, put}
 use Rattle.group_message.specs.declared.message.Message.{Message}
 use Rattle.link_core.specs.Outgoing.{Link, link_to, with_link}

@@ -23,7 +23,7 @@ use Rattle.process_service.specs.Steps.{called}
 use Rattle.link_core.specs.Outgoing.{Link}
 use Rattle.group_node.specs.Rooms.{messages}
 use Rattle.group_node.proofs.Links.{messages-long}
-use Rattle.group_node.specs.Standing.{standing}
+use Rattle.group_node.specs.Standing.{node_standing}
 use Rattle.group_node.specs.Steps.{IsRefusal}
 use Rattle.group_node.proofs.Sent.{nothing-behind}
 
@@ -63,7 +63,7 @@ module _ (s : Dimensions) (name : CallName) (op : Asked) (p : Process) where
 pub refused-stays : (s t : Dimensions) (name : CallName) (op : Asked) (old new : whole.Standing) (own roomy after : List (Link Message)) (known : Membership) (step : code.CallStep)
     (dead down : Bool) → t ≡ s → length own ≡ s.k + s.m → ask_process t name op old.process ≡ called new.process step → IsRefusal step.answer
     → messages roomy ≡ messages own → messages after ≡ links_after s known step.sent.items (messages roomy)
-    → standing s new after dead down ≡ standing s old own dead down
+    → node_standing s new after dead down ≡ node_standing s old own dead down
 refused-stays s t name op old new own roomy after known step dead down same long is refused room behind =
     let quietly : (ask_process t name op old.process).step ≡ quiet old.process = refused-quiet t name op old.process (subst (λ (c : CallStep). IsRefusal c.answer) (sym is) refused) in
     let process : new.process ≡ old.process = sym (ap (λ (c : CallStep). c.step.process) is) ∙ ap (λ (x : ProcessStep). x.process) quietly in

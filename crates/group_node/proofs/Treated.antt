@@ -22,7 +22,7 @@ use Rattle.process_service.specs.Standing as whole
 use Rattle.process_service.specs.Steps.{called, stepped}
 use Rattle.link_core.specs.Outgoing.{Link, empty_link}
 use Rattle.group_node.specs.Rooms.{messages}
-use Rattle.group_node.specs.Standing.{standing}
+use Rattle.group_node.specs.Standing.{node_standing}
 use Rattle.group_node.proofs.Sent.{nothing-behind}
 
 -- no step sends more than there is room for
@@ -58,8 +58,8 @@ no-messages (suc n) = ap (λ (rest : List (List Message)). [] ∷ rest) (no-mess
 -- a node at the start
 pub starts : (s : Dimensions) (name : ProcessId) (p : whole.Standing) (old new : List (Link Message))
     → p ≡ record { shape = s; process = opening_process s name; made = [] }
-    → old ≡ replicate (s.k + s.m) empty_link → messages new ≡ messages old → standing s p new false false ≡ record { shape = s; node = opening_node s name }
+    → old ≡ replicate (s.k + s.m) empty_link → messages new ≡ messages old → node_standing s p new false false ≡ record { shape = s; node = opening_node s name }
 starts s name p old new process is same =
     let links = same ∙ ap messages is ∙ no-messages (s.k + s.m) in
-    ap (λ (x : whole.Standing). standing s x new false false) process
+    ap (λ (x : whole.Standing). node_standing s x new false false) process
     ∙ ap (λ (ms : List (List Message)). record { shape = s; node = record { process = opening_process s name; links = ms; dead = false; down = false } }) links

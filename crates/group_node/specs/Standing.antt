@@ -9,13 +9,13 @@ use Rattle.link_core.specs.Outgoing.{Link}
 use Rattle.group_node.specs.Rooms.{HasRoom, messages}
 
 -- the shape of its group, and the machine's node
-pub record Standing : Type 0 where
+pub record NodeStanding : Type 0 where
   pub shape : Dimensions
   pub node : Node
 
 -- the node of a process with these links, whatever room they have
-abbrev pub standing : Dimensions → process.Standing → List (Link Message) → Bool → Bool → Standing
-standing s p links dead down = record { shape = s; node = record { process = p.process; links = messages links; dead = dead; down = down } }
+abbrev pub node_standing : Dimensions → process.Standing → List (Link Message) → Bool → Bool → NodeStanding
+node_standing s p links dead down = record { shape = s; node = record { process = p.process; links = messages links; dead = dead; down = down } }
 
 -- a process of the group, with a link to each process; each link of a living one has room for the notice of its death
 pub record IsKept (s : Dimensions) (p : process.Standing) (links : List (Link Message)) (dead : Bool) : Type 0 where

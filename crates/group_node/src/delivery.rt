@@ -18,12 +18,14 @@ use std::alloc::AllocError;
 /// and there is one. After want of memory nothing but room has changed.
 pub fn deliver_between(sender: &mut Node, receiver: &mut Node) -> Result<NodeOut, AllocError>
     requires same { sender.old.shape ≡ receiver.old.shape }
-    requires comes { receiver.old.node.down ≡ false → receiver.old.node.dead ≡ false → (m : told.Message) (rest : List told.Message)
+    requires comes { receiver.old.node.down ≡ false → receiver.old.node.dead ≡ false
+        → (m : told.Message) (rest : List told.Message)
         → at [] sender.old.node.links (names.index_of receiver.old.shape receiver.old.node.process.name) ≡ m ∷ rest
         → Comes receiver.old.shape sender.old.node.process.name m receiver.old.node.process }
     ensures sender_shape { sender.new.shape ≡ sender.old.shape }
     ensures receiver_shape { receiver.new.shape ≡ receiver.old.shape }
-    ensures step { IfOk result (λ out. deliver_nodes receiver.old.shape sender.old.node.process.name receiver.old.node.process.name
+    ensures step { IfOk result (λ out. deliver_nodes receiver.old.shape sender.old.node.process.name
+        receiver.old.node.process.name
         sender.old.node receiver.old.node ≡ record { sender = sender.new.node; receiver = made receiver.new.node out }) }
     ensures wanted { OnErr result ((receiver.old.node.down ≡ false) × (receiver.old.node.dead ≡ false)) }
     ensures sender_err { OnErr result (sender.new ≡ sender.old) }
@@ -36,20 +38,21 @@ pub fn deliver_between(sender: &mut Node, receiver: &mut Node) -> Result<NodeOut
         return Ok(NodeOut::only(receiver.alloc, Answer::Idle));
     }
     let from = sender.name();
-    let to = index_of(receiver.shape, receiver.name());
-    match sender.links.peek(to) {
+    let to = receiver.name();
+    match sender.first(to) {
         None => Ok(NodeOut::only(receiver.alloc, Answer::Idle)),
         Some(message) => {
             let out = receiver.receive(from, message)?;
-            let _ = sender.links.pop(to);
+            let _ = sender.hand_out(to);
             Ok(out)
         }
     }
 }
 
 impl Node {
-    // A message is received, where the process lives.
-    fn receive(&mut self, from: ProcessId, message: &Message) -> Result<NodeOut, AllocError>
+    /// A message from another process is received, where the process lives and the message fits what it holds, as
+    /// `may_come` tells. After want of memory nothing but room has changed.
+    pub fn receive(&mut self, from: ProcessId, message: &Message) -> Result<NodeOut, AllocError>
         requires lives { self.old.node.dead ≡ false }
         requires comes { Comes self.old.shape from message.now self.old.node.process }
         ensures shape { self.new.shape ≡ self.old.shape }

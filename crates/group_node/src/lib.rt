@@ -4,8 +4,10 @@
 #![tactic(auto)]
 
 mod asking;
+mod coming;
 mod delivery;
 mod failing;
+mod handing;
 mod node;
 mod process;
 mod reading;

@@ -47,11 +47,11 @@ pub struct Node {
 }
 
 impl Model for Node {
-    ghost use Rattle.group_node.specs.Standing.{IsKept, Standing, standing};
+    ghost use Rattle.group_node.specs.Standing.{IsKept, NodeStanding, node_standing};
 
-    ghost Value = { Standing };
+    ghost Value = { NodeStanding };
 
-    ghost view = { λ n. standing n.shape n.process n.links n.dead n.down };
+    ghost view = { λ n. node_standing n.shape n.process n.links n.dead n.down };
 
     ghost invariant = { λ n. IsKept n.shape n.process n.links n.dead };
 }

@@ -33,6 +33,8 @@ use process_service::Step;
 use std::alloc::{AllocError, Global};
 use std::marker::Model;
 
+mod coming;
+
 /// What a process is in its group.
 #[derive(Drop)]
 pub enum Role {

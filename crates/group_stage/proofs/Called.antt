@@ -4,7 +4,7 @@ use Rattle.std.specs.Prelude.{Result, Ok, Err}
 use Rattle.std.proofs.lemmas.Bool.{cases_eq}
 use Rattle.std.specs.declared.alloc.AllocError.{AllocError}
 use Rattle.group_calls.specs.declared.event.Event.{Event}
-use Rattle.group_stage.specs.Conditions.{IsReady}
+use Rattle.group_stage.specs.Conditions.{IsIdle}
 use Rattle.group_stage.specs.Ended.{HasEnded, HasReturned, IsSeat}
 use Rattle.group_stage.specs.Kept.{most_calls}
 use Rattle.group_stage.specs.Schedules.{ask_by}
@@ -19,7 +19,7 @@ use Rattle.group_stage.proofs.Committing.{asks-append}
 pub not-worn : (calls : ℕ) → (eqb calls most_calls) ≡ false → calls ≤ most_calls → calls < most_calls
 not-worn calls is few = ⊎_elim (λ (e : calls ≡ most_calls). absurd (let yes : eqb calls most_calls ≡ true = eq-eqb calls most_calls e in cc (yes, is))) (λ (n : calls ≢ most_calls). omega (arith, n, few)) (cases_eq calls most_calls)
 
-pub ready : (m : Sat) (caller calls asks : ℕ) → IsSeat m caller calls asks → calls < most_calls → IsReady m
+pub ready : (m : Sat) (caller calls asks : ℕ) → IsSeat m caller calls asks → calls < most_calls → IsIdle m
 ready m caller calls asks seat low = record { part = seat.part; calls = let same = seat.counted in omega (arith, same, low); idle = seat.idle; slots = seat.slots }
 
 pub returned : (e : Event) (v w : View) (r : Result StageAnswer AllocError) → v.calls < most_calls → HasEnded e v r w → HasReturned v w

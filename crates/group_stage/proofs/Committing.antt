@@ -10,7 +10,7 @@ use Rattle.group_types.specs.Dimensions.{Dimensions, processes_of}
 use Rattle.group_calls.specs.declared.event.Event.{Event}
 use Rattle.group_run.specs.Locality.{times}
 use Rattle.group_run.specs.World.{names}
-use Rattle.group_node.specs.Standing.{Standing}
+use Rattle.group_node.specs.Standing.{NodeStanding}
 use Rattle.group_stage.specs.Conditions.{CanCommit}
 use Rattle.group_types.specs.Each.{Each}
 use Rattle.group_stage.specs.Counts.{bit, flag, total}
@@ -46,20 +46,20 @@ pub asks-append : (c : ℕ) (xs ys : List Numbered) → asks_by c (xs ++ ys) ≡
 asks-append c [] ys = omega arith
 asks-append c (x ∷ xs) ys = let more = asks-append c xs ys in omega (arith, more)
 
-places-stay : (s : Dimensions) (es : List Event) (hs : List (ℕ × Standing)) → map (λ h. h.0) (held_at s es hs) ≡ map (λ h. h.0) hs
+places-stay : (s : Dimensions) (es : List Event) (hs : List (ℕ × NodeStanding)) → map (λ h. h.0) (held_at s es hs) ≡ map (λ h. h.0) hs
 places-stay s es [] = refl
 places-stay s es (h ∷ hs) = ap (λ (rest : List ℕ). h.0 ∷ rest) (places-stay s es hs)
 
-each-place : (P : ℕ → Type 0) (s : Dimensions) (es : List Event) (hs : List (ℕ × Standing)) → Each (λ h. P h.0) hs → Each (λ h. P h.0) (held_at s es hs)
+each-place : (P : ℕ → Type 0) (s : Dimensions) (es : List Event) (hs : List (ℕ × NodeStanding)) → Each (λ h. P h.0) hs → Each (λ h. P h.0) (held_at s es hs)
 each-place P s es [] all = tt
 each-place P s es (h ∷ hs) all = (all.0, each-place P s es hs all.1)
 
-held-fits : (s t : Dimensions) (es : List Event) (hs : List (ℕ × Standing)) → t ≡ s → Each (λ h. h.1 ≡ standing_at s es h.0) (held_at t es hs)
+held-fits : (s t : Dimensions) (es : List Event) (hs : List (ℕ × NodeStanding)) → t ≡ s → Each (λ h. h.1 ≡ standing_at s es h.0) (held_at t es hs)
 held-fits s t es [] same = tt
 held-fits s t es (h ∷ hs) same = (ap (λ (x : Dimensions). standing_at x es h.0) same, held-fits s t es hs same)
 
 -- each node that is held is counted
-each-counted : (hs ks : List (ℕ × Standing)) → ((q : ℕ) → times q (map (λ h. h.0) hs) ≤ times q (map (λ h. h.0) ks)) → Each (λ h. 0 < times h.0 (map (λ h. h.0) ks)) hs
+each-counted : (hs ks : List (ℕ × NodeStanding)) → ((q : ℕ) → times q (map (λ h. h.0) hs) ≤ times q (map (λ h. h.0) ks)) → Each (λ h. 0 < times h.0 (map (λ h. h.0) ks)) hs
 each-counted [] ks le = tt
 each-counted (h ∷ hs) ks le = (
   (let one = times-here h.0 (map (λ h. h.0) hs) in let most = le h.0 in omega (arith, one, most)),
@@ -183,7 +183,7 @@ module _ (plan : Plan) (st : St) (o : Kept plan st) (id : ℕ) (v : View) (me : 
       counts = λ q low. let word = word-stays q (λ x. omega (arith, x, low)) in let same = ap flag word in
           omega (arith, total-set (met_of q) st.views id v w me, total-set (cleared_of q) st.views id v w me, o.counts q low, word, same);
       home = λ q low zero_now. let free = sym (word-stays q (λ x. omega (arith, x, low))) ∙ zero_now in
-          o.home q low free ∙ ap (λ (z : Standing). some (some (std.Some z))) (sym (still q low (let mine_too = term_le (holding q) st.views id v me in let z = ap flag free in omega (arith, mine_too, o.taken q low, z))));
+          o.home q low free ∙ ap (λ (z : NodeStanding). some (some (std.Some z))) (sym (still q low (let mine_too = term_le (holding q) st.views id v me in let z = ap flag free in omega (arith, mine_too, o.taken q low, z))));
       each = λ j u at_j. subst (λ (x : ℕ). Fits plan.shape (es ++ e ∷ []) x u) (sym next-stays)
           (⊎_elim (λ t. subst (Fits plan.shape (es ++ e ∷ []) (next_in plan st.words)) t.1 mine) (λ t. other j u t.0 t.1) (at_set st.views id j w u at_j));
     }

@@ -11,7 +11,7 @@ use Rattle.group_types.specs.Names.{process_at}
 use Rattle.group_types.proofs.Lists.{at-map-range}
 use Rattle.group_run.specs.Process.{Node}
 use Rattle.group_run.specs.World.{opening_node}
-use Rattle.group_node.specs.Standing.{Standing}
+use Rattle.group_node.specs.Standing.{NodeStanding}
 use Rattle.group_stage.specs.Dealt.{AreNew, IsNew}
 use Rattle.group_stage.specs.Opened.{AreLaid}
 use Rattle.group_stage.specs.Places.{slot_of}
@@ -40,11 +40,11 @@ stands-at-start s p low =
     ap (λ (n : Node). record { shape = s; node = n }) (sym (here ∙ ap (λ (x : ℕ). opening_node s (process_at s x)) same))
 
 -- one node more, and an empty slot behind it
-pub laid-more : (s : Dimensions) (x : ℕ) (xs : List (std.Option Standing)) (y : Standing) → AreLaid s x xs → y ≡ standing_at s [] x → AreLaid s (x + 1) ((xs ++ std.Some y ∷ []) ++ std.None ∷ [])
+pub laid-more : (s : Dimensions) (x : ℕ) (xs : List (std.Option NodeStanding)) (y : NodeStanding) → AreLaid s x xs → y ≡ standing_at s [] x → AreLaid s (x + 1) ((xs ++ std.Some y ∷ []) ++ std.None ∷ [])
 laid-more s x xs y laid is = record {
   long = let a = length-append xs (std.Some y ∷ []) in let b = length-append (xs ++ std.Some y ∷ []) (std.None ∷ []) in let l = laid.long in omega (arith, a, b, l);
   home = λ p low. at_longer (xs ++ std.Some y ∷ []) (std.None ∷ []) (slot_of p) _ (⊎_elim
-      (λ (e : p ≡ x). at_last xs (std.Some y) (slot_of p) (let l = laid.long in omega (arith, l, e)) ∙ ap (λ (z : Standing). some (std.Some z)) (is ∙ ap (standing_at s []) (sym e)))
+      (λ (e : p ≡ x). at_last xs (std.Some y) (slot_of p) (let l = laid.long in omega (arith, l, e)) ∙ ap (λ (z : NodeStanding). some (std.Some z)) (is ∙ ap (standing_at s []) (sym e)))
       (λ (n : p ≢ x). at_longer xs (std.Some y ∷ []) (slot_of p) _ (laid.home p (omega (arith, n, low))))
       (cases_eq p x));
 }

@@ -13,12 +13,12 @@ use Rattle.group_calls.specs.declared.event.Event.TheVariants.{Fail}
 use Rattle.group_run.specs.Headline.{IsRun, MayCome}
 use Rattle.group_run.specs.Process.{Node}
 use Rattle.group_run.specs.World.{GroupStep, World, after, all_change, group_step, node_in, node_of, opening}
-use Rattle.group_node.specs.Standing.{Standing}
+use Rattle.group_node.specs.Standing.{NodeStanding}
 use Rattle.group_core.specs.Seats.{AreSeated, nodes_of, seat, seats_of}
 use Rattle.group_core.proofs.Changed.{many-nodes}
 use Rattle.group_core.proofs.Runs as core_runs
 use Rattle.group_core.proofs.Schedules.{has-run}
-use Rattle.group_stage.specs.Conditions.{CanCommit, HasLast, InHand, IsReady}
+use Rattle.group_stage.specs.Conditions.{CanCommit, HasLast, InHand, IsIdle}
 use Rattle.group_types.specs.Each.{Each}
 use Rattle.group_stage.specs.Ended.{Ended}
 use Rattle.group_stage.specs.Gathered.{AllFailed, CanFail, Failed, GaveBack, HasAll, NamesAll, OneMet, hand_of, holding_all, sat_with, slots_left}
@@ -39,12 +39,12 @@ use Rattle.group_stage.proofs.Runs.{run-more}
 use Rattle.group_stage.proofs.Stacks.{AreRun, all-nodes, all-run, each-run, hand-more, in-stack, run-shapes, run-stack, same-slots}
 
 -- some went back, and these are still in hand
-pub record GivesBack (m w : Sat) (ys : List Standing) (n : ℕ) : Type 0 where
+pub record GivesBack (m w : Sat) (ys : List NodeStanding) (n : ℕ) : Type 0 where
   pub cleared : List (ℕ × ℕ)
   pub below : Each (λ c. c.0 < n) cleared
   pub seat : w ≡ (record m.0 { held = hand_of ys; cleared = m.0.cleared ++ cleared }, slots_left (hand_of ys))
 
-pub none-back : (plan : Plan) (m : Sat) (ys : List Standing) → HasAll plan m ys → GivesBack m m ys (length ys)
+pub none-back : (plan : Plan) (m : Sat) (ys : List NodeStanding) → HasAll plan m ys → GivesBack m m ys (length ys)
 none-back plan m ys all = record {
   cleared = [];
   below = tt;
@@ -55,7 +55,7 @@ append-two : {X : Type 0} (xs ys zs : List X) → (xs ++ ys) ++ zs ≡ xs ++ (ys
 append-two [] ys zs = refl
 append-two (x ∷ xs) ys zs = ap (λ (l : List _). x ∷ l) (append-two xs ys zs)
 
-module _ (plan : Plan) (m w : Sat) (zs ys : List Standing) (y : Standing) (n : ℕ) (parts : m.0.parts ≡ 1) (few : n ≤ processes_of plan.shape) (fewer : length zs ≤ n) (last : zs ≡ ys ++ y ∷ [])
+module _ (plan : Plan) (m w : Sat) (zs ys : List NodeStanding) (y : NodeStanding) (n : ℕ) (parts : m.0.parts ≡ 1) (few : n ≤ processes_of plan.shape) (fewer : length zs ≤ n) (last : zs ≡ ys ++ y ∷ [])
     (gives : GivesBack m w zs n) where
   long : length zs ≡ suc (length ys)
   long = ap length last ∙ length-append ys (y ∷ []) ∙ omega arith
@@ -67,8 +67,8 @@ module _ (plan : Plan) (m w : Sat) (zs ys : List Standing) (y : Standing) (n : �
       subst (λ (x : Sat). HasLast plan x p y None) (sym gives.seat) (record {
         part = parts;
         within = let size = long in omega (arith, here, size, fewer, few);
-        held = held ∙ ap (λ (h : List (ℕ × Standing)). (p, y) ∷ held_rest h) (sym held);
-        slot = left ∙ ap (λ (h : List (ℕ × Option Standing)). (slot_of p, None) ∷ rest h) (sym left);
+        held = held ∙ ap (λ (h : List (ℕ × NodeStanding)). (p, y) ∷ held_rest h) (sym held);
+        slot = left ∙ ap (λ (h : List (ℕ × Option NodeStanding)). (slot_of p, None) ∷ rest h) (sym left);
       })
 
   pub one-back : (p : ℕ) → p ≡ length ys → (x : Sat) → (found : ℕ) × (x ≡ (released w.0 p found, rest w.1)) → GivesBack m x ys n
@@ -81,7 +81,7 @@ module _ (plan : Plan) (m w : Sat) (zs ys : List Standing) (y : Standing) (n : �
         ∙ (λ i. (record m.0 { held = held_rest (held i); cleared = (append-two m.0.cleared gives.cleared ((p, found - 1) ∷ [])) i }, rest (slots_left (held i))));
   }
 
-pub all-back : (m w : Sat) (zs : List Standing) (n : ℕ) → zs ≡ [] → GivesBack m w zs n → GaveBack m w n
+pub all-back : (m w : Sat) (zs : List NodeStanding) (n : ℕ) → zs ≡ [] → GivesBack m w zs n → GaveBack m w n
 all-back m w zs n none gives = record {
   cleared = gives.cleared;
   below = gives.below;
@@ -89,7 +89,7 @@ all-back m w zs n none gives = record {
 }
 
 -- a further node is in hand
-pub one-more : (v : View) (ys : List Standing) (y : Standing) (m w : Sat) (p : ℕ) → p ≡ length ys → m ≡ sat_with v ys → (es : List Event) × InHand m.0 p m.1 y w es
+pub one-more : (v : View) (ys : List NodeStanding) (y : NodeStanding) (m w : Sat) (p : ℕ) → p ≡ length ys → m ≡ sat_with v ys → (es : List Event) × InHand m.0 p m.1 y w es
     → (w ≡ sat_with v (ys ++ y ∷ [])) × ((es : List Event) × Knows es (holding_all v (ys ++ y ∷ [])))
 one-more v ys y m w p here is taken =
     let held : (p, y) ∷ hand_of ys ≡ hand_of (ys ++ y ∷ []) = ap (λ (x : ℕ). (x, y) ∷ hand_of ys) here ∙ sym (hand-more ys y) in
@@ -98,7 +98,7 @@ one-more v ys y m w p here is taken =
     (seat, (taken.0, subst (Knows taken.0) view taken.1.knows))
 
 -- all are in hand: what the machine makes of the failure
-module _ (s : Dimensions) (es : List Event) (run : IsRun s es) (p : ProcessId) (pin : IsProcess s p) (keep : ℕ) (ys : List Standing) (many : length ys ≡ s.k + s.m) (are : AreRun s es 0 ys) where
+module _ (s : Dimensions) (es : List Event) (run : IsRun s es) (p : ProcessId) (pin : IsProcess s p) (keep : ℕ) (ys : List NodeStanding) (many : length ys ≡ s.k + s.m) (are : AreRun s es 0 ys) where
   size : length ys ≡ length (after s es).nodes
   size = many ∙ sym (many-after s es run)
 
@@ -117,7 +117,7 @@ module _ (s : Dimensions) (es : List Event) (run : IsRun s es) (p : ProcessId) (
   pub named : (seat (seats_of s ys) p).process.name ≡ p
   named = ap (λ (n : Node). n.process.name) node-same ∙ core_runs.named (after s es) (has-run s es run) p (subst (λ (t : Dimensions). IsProcess t p) (sym shape) pin)
 
-  module _ (zs : List Standing) (answer : Answer) (after_seated : AreSeated s zs) (is : all_change (seat (seats_of s ys) p).dead s (nodes_of ys) p keep ≡ record { nodes = nodes_of zs; answer = answer; settled = [] }) where
+  module _ (zs : List NodeStanding) (answer : Answer) (after_seated : AreSeated s zs) (is : all_change (seat (seats_of s ys) p).dead s (nodes_of ys) p keep ≡ record { nodes = nodes_of zs; answer = answer; settled = [] }) where
     machine : group_step (after s es) (Fail p keep) ≡ record { nodes = nodes_of zs; answer = answer; settled = [] }
     machine = (λ i. all_change (node_in (shape i) ((sym nodes) i) p).dead (shape i) ((sym nodes) i) p keep) ∙ is
 
@@ -131,11 +131,11 @@ module _ (s : Dimensions) (es : List Event) (run : IsRun s es) (p : ProcessId) (
     after-run = all-run s (es ++ Fail p keep ∷ []) zs (sym (ap length after-nodes ∙ many-nodes zs)) after_seated.shapes (sym after-nodes)
 
 -- what is in hand is of the run
-pub hand-run : (v : View) (ys : List Standing) (es : List Event) → Knows es (holding_all v ys) → AreRun v.shape es 0 ys
+pub hand-run : (v : View) (ys : List NodeStanding) (es : List Event) → Knows es (holding_all v ys) → AreRun v.shape es 0 ys
 hand-run v ys es knows = (each-run v.shape es 0 ys [] knows.held).0
 
 -- with all nodes in hand the call may become the event
-pub can-commit : (plan : Plan) (v : View) (ys : List Standing) (p : ProcessId) (keep : ℕ) → IsProcess plan.shape p → v.call ≡ Fail p keep → NamesAll plan v → length ys ≡ processes_of plan.shape → CanCommit plan (holding_all v ys)
+pub can-commit : (plan : Plan) (v : View) (ys : List NodeStanding) (p : ProcessId) (keep : ℕ) → IsProcess plan.shape p → v.call ≡ Fail p keep → NamesAll plan v → length ys ≡ processes_of plan.shape → CanCommit plan (holding_all v ys)
 can-commit plan v ys p keep pin call all many = record {
   part = all.part;
   due = all.due;
@@ -145,7 +145,7 @@ can-commit plan v ys p keep pin call all many = record {
 }
 
 -- and afterwards all nodes stand as in the run
-pub after-commit : (plan : Plan) (v : View) (ys zs : List Standing) (p : ProcessId) (keep : ℕ) (m w : Sat) (answer : Answer) → v.shape ≡ plan.shape → IsProcess plan.shape p → v.call ≡ Fail p keep → NamesAll plan v
+pub after-commit : (plan : Plan) (v : View) (ys zs : List NodeStanding) (p : ProcessId) (keep : ℕ) (m w : Sat) (answer : Answer) → v.shape ≡ plan.shape → IsProcess plan.shape p → v.call ≡ Fail p keep → NamesAll plan v
     → length ys ≡ processes_of plan.shape → AreSeated plan.shape zs
     → all_change (seat (seats_of plan.shape ys) p).dead plan.shape (nodes_of ys) p keep ≡ record { nodes = nodes_of zs; answer = answer; settled = [] }
     → m ≡ sat_with v ys → (es : List Event) × Knows es m.0 × (w ≡ (committed es m.0, m.1)) → HasAll plan w zs
@@ -165,7 +165,7 @@ after-commit plan v ys zs p keep m w answer shape pin call all many after_seated
       seat = λ i. (record (committed es (holding_all v ys)) { held = held i }, left i);
     })
 
-pub all-failed : (plan : Plan) (v : View) (ys zs : List Standing) (p : ProcessId) (keep n : ℕ) (m w x : Sat) (answer : Answer) → v.shape ≡ plan.shape → IsProcess plan.shape p → v.call ≡ Fail p keep
+pub all-failed : (plan : Plan) (v : View) (ys zs : List NodeStanding) (p : ProcessId) (keep n : ℕ) (m w x : Sat) (answer : Answer) → v.shape ≡ plan.shape → IsProcess plan.shape p → v.call ≡ Fail p keep
     → length ys ≡ processes_of plan.shape → AreSeated plan.shape zs
     → all_change (seat (seats_of plan.shape ys) p).dead plan.shape (nodes_of ys) p keep ≡ record { nodes = nodes_of zs; answer = answer; settled = [] }
     → m ≡ sat_with v ys → (es : List Event) × Knows es m.0 × (w ≡ (committed es m.0, m.1)) → GaveBack w x n → (es : List Event) × AllFailed v answer x es
@@ -183,7 +183,7 @@ all-failed plan v ys zs p keep n m w x answer shape pin call many after_seated i
     )
 
 -- the word of a further process was met held
-pub one-met : (plan : Plan) (v : View) (ys : List Standing) (place n : ℕ) (r : ProcessId) (m x : Sat) → v.shape ≡ plan.shape → r ≡ process_at plan.shape place → IsProcess plan.shape r → length ys ≡ place → n ≡ length ys
+pub one-met : (plan : Plan) (v : View) (ys : List NodeStanding) (place n : ℕ) (r : ProcessId) (m x : Sat) → v.shape ≡ plan.shape → r ≡ process_at plan.shape place → IsProcess plan.shape r → length ys ≡ place → n ≡ length ys
     → m ≡ (with_met (holding_all v ys) place, slots_left (hand_of ys)) → GaveBack m x n → OneMet v r x
 one-met plan v ys place n r m x shape named pin many size had back =
     let here : index_of v.shape r ≡ place = (λ i. index_of (shape i) (named i)) ∙ index-process_at plan.shape place in
@@ -197,7 +197,7 @@ one-met plan v ys place n r m x shape named pin many size had back =
     }
 
 -- the first node is in hand
-pub can-fail : (plan : Plan) (v : View) (p : ProcessId) (keep : ℕ) (slots : List (ℕ × Option Standing)) (first : Standing) (m : Sat) → IsReady (v, slots) → v.shape ≡ plan.shape → IsProcess plan.shape p
+pub can-fail : (plan : Plan) (v : View) (p : ProcessId) (keep : ℕ) (slots : List (ℕ × Option NodeStanding)) (first : NodeStanding) (m : Sat) → IsIdle (v, slots) → v.shape ≡ plan.shape → IsProcess plan.shape p
     → (es : List Event) × InHand (begun (Fail p keep) v) 0 slots first m es → CanFail plan p keep m first
 can-fail plan v p keep slots first m ready shape pin taken =
     let u : View = with_held (begun (Fail p keep) v) 0 first in
@@ -229,7 +229,7 @@ tally-below p (x ∷ xs) below =
     omega (arith, rest, none, both)
 
 -- and so the call has ended
-pub failed-ended : (v : View) (p : ProcessId) (keep : ℕ) (slots : List (ℕ × Option Standing)) (first : Standing) (m w : Sat) (a : StageAnswer) → IsReady (v, slots) → IsProcess v.shape p
+pub failed-ended : (v : View) (p : ProcessId) (keep : ℕ) (slots : List (ℕ × Option NodeStanding)) (first : NodeStanding) (m w : Sat) (a : StageAnswer) → IsIdle (v, slots) → IsProcess v.shape p
     → (es : List Event) × InHand (begun (Fail p keep) v) 0 slots first m es → Failed m.0 a w → Ended (Fail p keep) v a w.0
 failed-ended v p keep slots first m w a ready pin taken failed = by a (subst (λ (x : Sat). Failed x.0 a w) taken.1.seat failed) where
   by : (b : StageAnswer) → Failed (with_held (begun (Fail p keep) v) 0 first) b w → Ended (Fail p keep) v b w.0

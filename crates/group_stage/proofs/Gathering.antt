@@ -11,7 +11,7 @@ use Rattle.group_types.specs.Names.{process_at}
 use Rattle.group_calls.specs.declared.event.Event.{Event}
 use Rattle.group_run.specs.Process.{Node}
 use Rattle.group_run.specs.World.{after, opening_node}
-use Rattle.group_node.specs.Standing.{Standing}
+use Rattle.group_node.specs.Standing.{NodeStanding}
 use Rattle.group_core.specs.Seats.{nodes_of}
 use Rattle.group_stage.specs.Closed.{HasClosed}
 use Rattle.group_types.specs.Each.{Each}
@@ -77,7 +77,7 @@ next-whole s v w all xs x is joins es whole =
     (whole-apart s es v (view_of x) (map view_of xs) (subst (λ (u : View). IsWhole s es (u ∷ map view_of xs)) joins whole))
 
 -- a slot that has a node isn't empty
-pub not-none : (xs ys : List (std.Option Standing)) (slot p : ℕ) → xs ≡ ys → slot ≡ slot_of p → get_elem? xs slot ≡ some std.None → (y : Standing) → get_elem? ys (slot_of p) ≡ some (std.Some y) → ⊥
+pub not-none : (xs ys : List (std.Option NodeStanding)) (slot p : ℕ) → xs ≡ ys → slot ≡ slot_of p → get_elem? xs slot ≡ some std.None → (y : NodeStanding) → get_elem? ys (slot_of p) ≡ some (std.Some y) → ⊥
 not-none xs ys slot p same here none y there =
     let both : some std.None ≡ some (std.Some y) = sym none ∙ (λ i. get_elem? (same i) (here i)) ∙ there in
     let bad : std.None ≡ std.Some y = some-injective std.None (std.Some y) both in
@@ -102,9 +102,9 @@ taken-more p slot fs here within taken =
     }
 
 -- one node more came out
-pub nodes-more : (xs : List (std.Option Standing)) (slot p : ℕ) (nodes : List Standing) (y : Standing) → slot ≡ slot_of p → length nodes ≡ p → get_elem? xs slot ≡ some (std.Some y)
-    → ((q : ℕ) (z : Standing) → q < p → get_elem? xs (slot_of q) ≡ some (std.Some z) → slice_get nodes q ≡ std.Some z)
-    → (q : ℕ) (z : Standing) → q < p + 1 → get_elem? xs (slot_of q) ≡ some (std.Some z) → slice_get (nodes ++ y ∷ []) q ≡ std.Some z
+pub nodes-more : (xs : List (std.Option NodeStanding)) (slot p : ℕ) (nodes : List NodeStanding) (y : NodeStanding) → slot ≡ slot_of p → length nodes ≡ p → get_elem? xs slot ≡ some (std.Some y)
+    → ((q : ℕ) (z : NodeStanding) → q < p → get_elem? xs (slot_of q) ≡ some (std.Some z) → slice_get nodes q ≡ std.Some z)
+    → (q : ℕ) (z : NodeStanding) → q < p + 1 → get_elem? xs (slot_of q) ≡ some (std.Some z) → slice_get (nodes ++ y ∷ []) q ≡ std.Some z
 nodes-more xs slot p nodes y here many there all q z low is = ⊎_elim
     (λ (e : q ≡ p).
     let both : some (std.Some y) ≡ some (std.Some z) = sym there ∙ ap (get_elem? xs) (here ∙ ap slot_of (sym e)) ∙ is in
@@ -114,7 +114,7 @@ nodes-more xs slot p nodes y here many there all q z low is = ⊎_elim
     (cases_eq q p)
 
 -- nodes that stand as in the run are the run's
-nodes-match : (s : Dimensions) (xs : List Standing) (ns : List Node) (d : ℕ → Node) → length xs ≡ length ns → ((p : ℕ) → p < length xs → slice_get xs p ≡ std.Some (record { shape = s; node = at (d p) ns p })) → nodes_of xs ≡ ns
+nodes-match : (s : Dimensions) (xs : List NodeStanding) (ns : List Node) (d : ℕ → Node) → length xs ≡ length ns → ((p : ℕ) → p < length xs → slice_get xs p ≡ std.Some (record { shape = s; node = at (d p) ns p })) → nodes_of xs ≡ ns
 nodes-match s [] [] d many is = refl
 nodes-match s [] (n ∷ ns) d many is = absurd (omega (arith, many))
 nodes-match s (x ∷ xs) [] d many is = absurd (omega (arith, many))
@@ -124,7 +124,7 @@ nodes-match s (x ∷ xs) (n ∷ ns) d many is =
     let rest = nodes-match s xs ns (λ p. d (suc p)) (omega (arith, many)) (λ p low. is (suc p) (omega (arith, low))) in
     (λ i. node i ∷ rest i)
 
-shapes-match : (s : Dimensions) (xs : List Standing) (f : ℕ → Node) → ((p : ℕ) → p < length xs → slice_get xs p ≡ std.Some (record { shape = s; node = f p })) → All (λ (x : Standing). x.shape ≡ s) xs
+shapes-match : (s : Dimensions) (xs : List NodeStanding) (f : ℕ → Node) → ((p : ℕ) → p < length xs → slice_get xs p ≡ std.Some (record { shape = s; node = f p })) → All (λ (x : NodeStanding). x.shape ≡ s) xs
 shapes-match s [] f is k d low = absurd (omega (arith, low))
 shapes-match s (x ∷ xs) f is zero d low =
     let first : std.Some x ≡ std.Some (record { shape = s; node = f 0 }) = is 0 low in
@@ -132,13 +132,13 @@ shapes-match s (x ∷ xs) f is zero d low =
 shapes-match s (x ∷ xs) f is (suc k) d low = shapes-match s xs (λ p. f (suc p)) (λ p below. is (suc p) (omega (arith, below))) k d (omega (arith, low))
 
 -- what came out are the nodes of the schedule of all seats
-module _ (plan : Plan) (st : St) (o : Kept plan st) (id : ℕ) (v : View) (me : get_elem? st.views id ≡ some v) (all : v.parts ≡ plan.callers) (idle : v.held ≡ []) (xs : List (std.Option Standing))
-    (homes : (k : ℕ) (y : std.Option Standing) → get_elem? st.homes k ≡ some (some y) → get_elem? xs k ≡ some y) where
+module _ (plan : Plan) (st : St) (o : Kept plan st) (id : ℕ) (v : View) (me : get_elem? st.views id ≡ some v) (all : v.parts ≡ plan.callers) (idle : v.held ≡ []) (xs : List (std.Option NodeStanding))
+    (homes : (k : ℕ) (y : std.Option NodeStanding) → get_elem? st.homes k ≡ some (some y) → get_elem? xs k ≡ some y) where
   pub there : (p : ℕ) → p < processes_of plan.shape → get_elem? xs (slot_of p) ≡ some (std.Some (standing_at plan.shape o.schedule p))
   there p low = homes (slot_of p) _ (at-home plan st o id v me all idle p low)
 
-  pub has-closed : (seats : List Seat) (nodes : List Standing) → length nodes ≡ processes_of plan.shape
-      → ((p : ℕ) (y : Standing) → p < processes_of plan.shape → get_elem? xs (slot_of p) ≡ some (std.Some y) → slice_get nodes p ≡ std.Some y)
+  pub has-closed : (seats : List Seat) (nodes : List NodeStanding) → length nodes ≡ processes_of plan.shape
+      → ((p : ℕ) (y : NodeStanding) → p < processes_of plan.shape → get_elem? xs (slot_of p) ≡ some (std.Some y) → slice_get nodes p ≡ std.Some y)
       → ((es : List Event) → IsWhole plan.shape es (v ∷ []) → IsWhole plan.shape es (map view_of seats)) → HasClosed plan.shape seats nodes
   has-closed seats nodes many out gathered =
       let s = plan.shape in

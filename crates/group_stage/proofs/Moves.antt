@@ -9,7 +9,7 @@ use Rattle.group_types.specs.Dimensions.{Dimensions, processes_of}
 use Rattle.group_calls.specs.declared.event.Event.{Event}
 use Rattle.group_run.specs.Headline.{IsRun}
 use Rattle.group_run.specs.Locality.{times}
-use Rattle.group_node.specs.Standing.{Standing}
+use Rattle.group_node.specs.Standing.{NodeStanding}
 use Rattle.group_types.specs.Each.{Each}
 use Rattle.group_stage.specs.Counts.{bit, flag, total}
 use Rattle.group_stage.specs.Kept.{Fits, IsAnswered, Kept, most_calls}
@@ -22,16 +22,16 @@ use Rattle.group_stage.specs.declared.view.View.{View}
 use Rattle.group_stage.proofs.Sums.{flag_le, only_one, term_le, times_length, total-set, total_both, total_le, total_scaled}
 
 abbrev pub St : Type 0
-St = State (std.Option Standing) View
+St = State (std.Option NodeStanding) View
 
 abbrev pub Homes : Type 0
-Homes = List (Option (std.Option Standing))
+Homes = List (Option (std.Option NodeStanding))
 
 abbrev pub stage : List ℕ → Homes → List View → St
 stage ws hs vs = record { words = ws; homes = hs; views = vs }
 
 -- a view whose call goes on
-abbrev pub again : View → Event → ℕ → ℕ → List (ℕ × Standing) → List ℕ → List (ℕ × ℕ) → View
+abbrev pub again : View → Event → ℕ → ℕ → List (ℕ × NodeStanding) → List ℕ → List (ℕ × ℕ) → View
 again v call calls due held met cleared = record v { call = call; calls = calls; due = due; held = held; met = met; cleared = cleared }
 
 -- what the drawing word is
@@ -89,7 +89,7 @@ abbrev pub Keeps : (plan : Plan) (st : St) → Kept plan st → St → Type 0
 Keeps plan st o after = (k : Kept plan after) × (k.schedule ≡ o.schedule)
 
 -- a step that makes no event and draws no number
-pub changed : (plan : Plan) (st : St) (o : Kept plan st) (id : ℕ) (v : View) (call : Event) (calls due : ℕ) (held : List (ℕ × Standing)) (met : List ℕ) (cleared : List (ℕ × ℕ)) (ws : List ℕ) (hs : Homes)
+pub changed : (plan : Plan) (st : St) (o : Kept plan st) (id : ℕ) (v : View) (call : Event) (calls due : ℕ) (held : List (ℕ × NodeStanding)) (met : List ℕ) (cleared : List (ℕ × ℕ)) (ws : List ℕ) (hs : Homes)
     → get_elem? st.views id ≡ some v
     → length ws ≡ length st.words → length hs ≡ length st.homes
     → std.slice_index ws (history_of plan.shape) ≡ std.slice_index st.words (history_of plan.shape)

@@ -16,7 +16,7 @@ use Rattle.group_run.specs.Locality.{times}
 use Rattle.group_run.specs.Process.{Node, Process}
 use Rattle.group_run.specs.World.{DeliveryStep, GroupStep, World, after, deliver_nodes, group_step, names, node_of, opening, opening_node, two_change}
 use Rattle.group_node.specs.Delivering.{Comes}
-use Rattle.group_node.specs.Standing.{Standing}
+use Rattle.group_node.specs.Standing.{NodeStanding}
 use Rattle.group_node.specs.Steps.{made}
 use Rattle.group_node.specs.declared.node.NodeOut.{NodeOut}
 use Rattle.group_core.specs.Pairs.{Delivered}
@@ -24,7 +24,7 @@ use Rattle.group_core.specs.Runs.{HasRun}
 use Rattle.group_core.proofs.Known.{first-comes}
 use Rattle.group_core.proofs.Runs as core_runs
 use Rattle.group_core.proofs.Schedules.{has-run, many-after, node-is, shape-is}
-use Rattle.group_stage.specs.Conditions.{CanFinishTwo, InHand, IsReady}
+use Rattle.group_stage.specs.Conditions.{CanFinishTwo, InHand, IsIdle}
 use Rattle.group_stage.specs.Ended.{Ended, WasUp}
 use Rattle.group_stage.specs.Pairing.{CanDeliver, one_of, other_of}
 use Rattle.group_stage.specs.Places.{slot_of}
@@ -47,11 +47,11 @@ pub record IsTwo (s : Dimensions) (v : View) (e : Event) (p q : ℕ) : Type 0 wh
   pub may : (w : World) → w.shape ≡ s → ((c : ℕ) → 0 < times c v.numbers → at 0 w.asked c ≡ asks_by c v.made) → MayCome w e
 
 -- the view with both nodes in hand
-abbrev pub two_held : View → Event → ℕ → Standing → ℕ → Standing → View
+abbrev pub two_held : View → Event → ℕ → NodeStanding → ℕ → NodeStanding → View
 two_held v e p y q z = with_held (with_held (begun e v) p y) q z
 
 -- the nodes treat it as the machine does, with the machine's answer
-abbrev pub TreatsTwo : View → Event → ℕ → Standing → ℕ → Standing → Standing → Standing → Answer → Type 0
+abbrev pub TreatsTwo : View → Event → ℕ → NodeStanding → ℕ → NodeStanding → NodeStanding → NodeStanding → Answer → Type 0
 TreatsTwo v e p y q z first second a = (es : List Event) → Knows es (two_held v e p y q z)
     → (first ≡ standing_at v.shape (es ++ e ∷ []) p) × (second ≡ standing_at v.shape (es ++ e ∷ []) q) × (a ≡ answer_at v.shape es e)
 
@@ -95,7 +95,7 @@ module _ (s : Dimensions) (es : List Event) (run : IsRun s es) (from to : Proces
   delivery-answer = ap (λ (g : GroupStep). g.answer) is
 
 -- what is in hand stands as in the run, sender and receiver
-module _ (s : Dimensions) (es : List Event) (run : IsRun s es) (from to : ProcessId) (fin : IsProcess s from) (tin : IsProcess s to) (apart : from ≢ to) (sender receiver : Standing)
+module _ (s : Dimensions) (es : List Event) (run : IsRun s es) (from to : ProcessId) (fin : IsProcess s from) (tin : IsProcess s to) (apart : from ≢ to) (sender receiver : NodeStanding)
     (sent : sender ≡ standing_at s es (index_of s from)) (received : receiver ≡ standing_at s es (index_of s to)) where
   has : HasRun (after s es)
   has = has-run s es run
@@ -110,10 +110,10 @@ module _ (s : Dimensions) (es : List Event) (run : IsRun s es) (from to : Proces
   tin' = subst (λ (t : Dimensions). IsProcess t to) (sym shape) tin
 
   sender-node : sender.node ≡ node_of (after s es) from
-  sender-node = ap (λ (z : Standing). z.node) sent ∙ node-is s es from fin
+  sender-node = ap (λ (z : NodeStanding). z.node) sent ∙ node-is s es from fin
 
   receiver-node : receiver.node ≡ node_of (after s es) to
-  receiver-node = ap (λ (z : Standing). z.node) received ∙ node-is s es to tin
+  receiver-node = ap (λ (z : NodeStanding). z.node) received ∙ node-is s es to tin
 
   sender-name : sender.node.process.name ≡ from
   sender-name = ap (λ (n : Node). n.process.name) sender-node ∙ core_runs.named (after s es) has from fin'
@@ -122,10 +122,10 @@ module _ (s : Dimensions) (es : List Event) (run : IsRun s es) (from to : Proces
   receiver-name = ap (λ (n : Node). n.process.name) receiver-node ∙ core_runs.named (after s es) has to tin'
 
   receiver-shape : receiver.shape ≡ (after s es).shape
-  receiver-shape = ap (λ (z : Standing). z.shape) received ∙ sym shape
+  receiver-shape = ap (λ (z : NodeStanding). z.shape) received ∙ sym shape
 
   same-shapes : sender.shape ≡ receiver.shape
-  same-shapes = ap (λ (z : Standing). z.shape) sent ∙ sym (ap (λ (z : Standing). z.shape) received)
+  same-shapes = ap (λ (z : NodeStanding). z.shape) sent ∙ sym (ap (λ (z : NodeStanding). z.shape) received)
 
   comes : receiver.node.down ≡ false → receiver.node.dead ≡ false → (m : Message) (rest : List Message)
       → at [] sender.node.links (index_of receiver.shape receiver.node.process.name) ≡ m ∷ rest → Comes receiver.shape sender.node.process.name m receiver.node.process
@@ -149,21 +149,21 @@ module _ (s : Dimensions) (es : List Event) (run : IsRun s es) (from to : Proces
       ((λ i. deliver_nodes ((sym receiver-shape) i) ((sym sender-name) i) ((sym receiver-name) i) ((sym sender-node) i) ((sym receiver-node) i)) ∙ is)
 
 -- the two nodes after a delivery, the sender's and the receiver's
-pub delivery-treats : (s : Dimensions) (es : List Event) (run : IsRun s es) (from to : ProcessId) → IsProcess s from → IsProcess s to → from ≢ to → (sender receiver sender' receiver' : Standing) (out : NodeOut)
+pub delivery-treats : (s : Dimensions) (es : List Event) (run : IsRun s es) (from to : ProcessId) → IsProcess s from → IsProcess s to → from ≢ to → (sender receiver sender' receiver' : NodeStanding) (out : NodeOut)
     → sender ≡ standing_at s es (index_of s from) → receiver ≡ standing_at s es (index_of s to) → Delivered sender receiver sender' receiver' out
     → (sender' ≡ standing_at s (es ++ Deliver from to ∷ []) (index_of s from)) × (receiver' ≡ standing_at s (es ++ Deliver from to ∷ []) (index_of s to)) × (out.answer ≡ answer_at s es (Deliver from to))
 delivery-treats s es run from to fin tin apart sender receiver sender' receiver' out sent received is =
     let t : DeliveryStep = record { sender = sender'.node; receiver = made receiver'.node out } in
     let step = delivered-as s es run from to fin tin apart sender receiver sent received t is.step in
-    let a : sender'.shape ≡ s = is.sender_shape ∙ ap (λ (z : Standing). z.shape) sent in
-    let b : receiver'.shape ≡ s = is.receiver_shape ∙ ap (λ (z : Standing). z.shape) received in (
+    let a : sender'.shape ≡ s = is.sender_shape ∙ ap (λ (z : NodeStanding). z.shape) sent in
+    let b : receiver'.shape ≡ s = is.receiver_shape ∙ ap (λ (z : NodeStanding). z.shape) received in (
       (λ i. record { shape = a i; node = sender'.node }) ∙ sym (sender-stands s es run from to fin tin apart t step),
       (λ i. record { shape = b i; node = receiver'.node }) ∙ sym (receiver-stands s es run from to fin tin apart t step),
       sym (delivery-answer s es run from to fin tin apart t step),
     )
 
 -- what is in hand can be finished
-pub can-finish-two : (plan : Plan) (v : View) (e : Event) (p q : ℕ) (y z first second : Standing) (a : Answer) (m m' : Sat) (slots : List (ℕ × Option Standing)) → IsReady (v, slots) → v.shape ≡ plan.shape
+pub can-finish-two : (plan : Plan) (v : View) (e : Event) (p q : ℕ) (y z first second : NodeStanding) (a : Answer) (m m' : Sat) (slots : List (ℕ × Option NodeStanding)) → IsIdle (v, slots) → v.shape ≡ plan.shape
     → p < processes_of plan.shape → q < processes_of plan.shape → IsTwo v.shape v e p q → (fs : List Event) × InHand (begun e v) p slots y m fs → (es : List Event) × InHand m.0 q m.1 z m' es
     → TreatsTwo v e p y q z first second a → CanFinishTwo plan m' p q first second
 can-finish-two plan v e p q y z first second a m m' slots ready shape low high two took taken treats =
@@ -180,21 +180,21 @@ can-finish-two plan v e p q y z first second a m m' slots ready shape low high t
         part = ready.part;
         due = refl;
         holds = λ x below named.
-            let none_else : map (λ (h : ℕ × Standing). h.0) v.held ≡ [] = ap (map (λ (h : ℕ × Standing). h.0)) ready.idle in
-            let all : times x (q ∷ p ∷ map (λ (h : ℕ × Standing). h.0) v.held) ≡ times x (q ∷ p ∷ []) = ap (λ (l : List ℕ). times x (q ∷ p ∷ l)) none_else in
+            let none_else : map (λ (h : ℕ × NodeStanding). h.0) v.held ≡ [] = ap (map (λ (h : ℕ × NodeStanding). h.0)) ready.idle in
+            let all : times x (q ∷ p ∷ map (λ (h : ℕ × NodeStanding). h.0) v.held) ≡ times x (q ∷ p ∷ []) = ap (λ (l : List ℕ). times x (q ∷ p ∷ l)) none_else in
             let same = ones.named x in
             omega (arith, named, same, all);
         own = ones.own;
         may = ones.may;
       };
-      held = ap (λ (hs : List (ℕ × Standing)). (q, z) ∷ (p, y) ∷ hs) ready.idle;
+      held = ap (λ (hs : List (ℕ × NodeStanding)). (q, z) ∷ (p, y) ∷ hs) ready.idle;
       slot = refl;
       treated = λ es knows. (treats es knows).0;
       next_treated = λ es knows. (treats es knows).1;
     })
 
 -- and is the event then
-pub made-ended-two : (v : View) (e : Event) (p q : ℕ) (y z first second : Standing) (a : Answer) (m m' w : Sat) (slots : List (ℕ × Option Standing)) → IsReady (v, slots) → IsTwo v.shape v e p q
+pub made-ended-two : (v : View) (e : Event) (p q : ℕ) (y z first second : NodeStanding) (a : Answer) (m m' w : Sat) (slots : List (ℕ × Option NodeStanding)) → IsIdle (v, slots) → IsTwo v.shape v e p q
     → (fs : List Event) × InHand (begun e v) p slots y m fs → (es : List Event) × InHand m.0 q m.1 z m' es → TreatsTwo v e p y q z first second a
     → (es : List Event) × Knows es m'.0 × ((f : ℕ) × (g : ℕ) × (w ≡ (released (released (committed es m'.0) q f) p g, []))) → Ended e v (Made a) w.0
 made-ended-two v e p q y z first second a m m' w slots ready two took taken treats fin =
@@ -212,7 +212,7 @@ made-ended-two v e p q y z first second a m m' w slots ready two took taken trea
         parts = refl;
         numbers = refl;
         calls = refl;
-        idle = ap (λ (hs : List (ℕ × Standing)). map (λ (h : ℕ × Standing). (h.0, standing_at v.shape (es ++ e ∷ []) h.0)) hs) ready.idle;
+        idle = ap (λ (hs : List (ℕ × NodeStanding)). map (λ (h : ℕ × NodeStanding). (h.0, standing_at v.shape (es ++ e ∷ []) h.0)) hs) ready.idle;
       },
       (
         es,
@@ -246,7 +246,7 @@ is-two false v from to p q fin tin apart a b = record {
   may = λ w shape known. deliver-may v.shape from to fin tin apart w shape;
 }
 
-pub treats-two : (up : Bool) (v : View) (from to : ProcessId) (p q : ℕ) (y z first second : Standing) (out : NodeOut) → IsProcess v.shape from → IsProcess v.shape to → from ≢ to
+pub treats-two : (up : Bool) (v : View) (from to : ProcessId) (p q : ℕ) (y z first second : NodeStanding) (out : NodeOut) → IsProcess v.shape from → IsProcess v.shape to → from ≢ to
     → p ≡ index_of v.shape (one_of up from to) → q ≡ index_of v.shape (other_of up from to) → Delivered (one_of up y z) (other_of up y z) (one_of up first second) (other_of up first second) out
     → TreatsTwo v (Deliver from to) p y q z first second out.answer
 treats-two true v from to p q y z first second out fin tin apart a b is es knows =
@@ -268,13 +268,13 @@ apart-of true s from to p q fin tin apart a b = λ same. apart (index-one s from
 apart-of false s from to p q fin tin apart a b = λ same. apart (index-one s from to fin tin (sym b ∙ sym same ∙ a))
 
 -- what is in hand in this order, sender and receiver or turned, can be delivered
-deliver-of : (up : Bool) (s : Dimensions) (es : List Event) → IsRun s es → (from to : ProcessId) → IsProcess s from → IsProcess s to → from ≢ to → (y z : Standing)
+deliver-of : (up : Bool) (s : Dimensions) (es : List Event) → IsRun s es → (from to : ProcessId) → IsProcess s from → IsProcess s to → from ≢ to → (y z : NodeStanding)
     → y ≡ standing_at s es (index_of s (one_of up from to)) → z ≡ standing_at s es (index_of s (other_of up from to)) → CanDeliver (one_of up y z) (other_of up y z)
 deliver-of true s es run from to fin tin apart y z a b = can-deliver s es run from to fin tin apart y z a b
 deliver-of false s es run from to fin tin apart y z a b = can-deliver s es run from to fin tin apart z y b a
 
 -- the second word was met held, and the first node went back
-pub busy-second : (v : View) (e : Event) (p q : ℕ) (r : ProcessId) (y : Standing) (m m' w : Sat) (slots : List (ℕ × Option Standing)) → IsReady (v, slots) → IsTwo v.shape v e p q → q ≡ index_of v.shape r → p ≢ q
+pub busy-second : (v : View) (e : Event) (p q : ℕ) (r : ProcessId) (y : NodeStanding) (m m' w : Sat) (slots : List (ℕ × Option NodeStanding)) → IsIdle (v, slots) → IsTwo v.shape v e p q → q ≡ index_of v.shape r → p ≢ q
     → (fs : List Event) × InHand (begun e v) p slots y m fs → m' ≡ (with_met m.0 q, m.1) → (found : ℕ) × (w.0 ≡ released m'.0 p found) → Ended e v (Busy r) w.0
 busy-second v e p q r y m m' w slots ready two here apart took met back =
     let found : ℕ = back.0 in
@@ -292,8 +292,8 @@ busy-second v e p q r y m m' w slots ready two here apart took met back =
     )
 
 -- both nodes of a delivery are in hand, in the order of processes
-module _ (plan : Plan) (v : View) (f : Event) (up : Bool) (from to one other : ProcessId) (p q : ℕ) (slots : List (ℕ × Option Standing)) (y : Standing) (m : Sat)
-    (ready : IsReady (v, slots)) (shape : v.shape ≡ plan.shape) (event : f ≡ Deliver from to) (from_in : IsProcess plan.shape from) (to_in : IsProcess plan.shape to) (apart : from ≢ to)
+module _ (plan : Plan) (v : View) (f : Event) (up : Bool) (from to one other : ProcessId) (p q : ℕ) (slots : List (ℕ × Option NodeStanding)) (y : NodeStanding) (m : Sat)
+    (ready : IsIdle (v, slots)) (shape : v.shape ≡ plan.shape) (event : f ≡ Deliver from to) (from_in : IsProcess plan.shape from) (to_in : IsProcess plan.shape to) (apart : from ≢ to)
     (one-is : one ≡ one_of up from to) (other-is : other ≡ other_of up from to) (low : p ≡ index_of plan.shape one) (high : q ≡ index_of plan.shape other)
     (took : (es : List Event) × InHand (begun f v) p slots y m es) where
   fin : IsProcess v.shape from
@@ -318,7 +318,7 @@ module _ (plan : Plan) (v : View) (f : Event) (up : Bool) (from to one other : P
   pub second-busy : (m' w : Sat) → m' ≡ (with_met m.0 q, m.1) → (found : ℕ) × (w.0 ≡ released m'.0 p found) → Ended (Deliver from to) v (Busy other) w.0
   second-busy m' w met back = busy-second v (Deliver from to) p q other y m m' w slots ready two (high ∙ ap (λ (s : Dimensions). index_of s other) (sym shape)) (apart-of up v.shape from to p q fin tin apart here there) first_in met back
 
-  module _ (z : Standing) (m' : Sat) (taken : (es : List Event) × InHand m.0 q m.1 z m' es) where
+  module _ (z : NodeStanding) (m' : Sat) (taken : (es : List Event) × InHand m.0 q m.1 z m' es) where
     knows-two : Knows taken.0 (two_held v (Deliver from to) p y q z)
     knows-two = subst (λ (x : Sat). Knows taken.0 (with_held x.0 q z)) first_in.1.seat taken.1.knows
 
@@ -339,7 +339,7 @@ module _ (plan : Plan) (v : View) (f : Event) (up : Bool) (from to one other : P
       by true a b up lives = up-at v (two_held v (Deliver from to) p y q z) to (index_of v.shape to) z taken.0 refl refl refl knows-two refl b up lives
       by false a b up lives = up-at v (two_held v (Deliver from to) p y q z) to (index_of v.shape to) y taken.0 refl refl refl knows-two refl a up lives
 
-    module _ (first second : Standing) (out : NodeOut) (delivered : Delivered (one_of up y z) (other_of up y z) (one_of up first second) (other_of up first second) out) where
+    module _ (first second : NodeStanding) (out : NodeOut) (delivered : Delivered (one_of up y z) (other_of up y z) (one_of up first second) (other_of up first second) out) where
       treats : TreatsTwo v (Deliver from to) p y q z first second out.answer
       treats = treats-two up v from to p q y z first second out fin tin apart here there delivered
 

@@ -8,7 +8,7 @@ use Rattle.atomic_table.specs.Table.{Joins, Splits}
 use Rattle.atomic_table.proofs.Lists.{at_set, at_snoc, set_else}
 use Rattle.group_run.specs.Locality.{times}
 use Rattle.group_run.specs.World.{names}
-use Rattle.group_node.specs.Standing.{Standing}
+use Rattle.group_node.specs.Standing.{NodeStanding}
 use Rattle.group_stage.specs.Conditions.{CanJoin, CanPart}
 use Rattle.group_types.specs.Each.{Each}
 use Rattle.group_stage.specs.Counts.{total}
@@ -107,13 +107,13 @@ module _ (plan : Plan) (st : St) (o : Kept plan st) (id other : ℕ) (v w : View
   together f none_left same = let one = total-set f st.views id v (joined v w) me in let two = total-set f (set st.views id (joined v w)) other w nobody it in omega (arith, one, two, none_left, same)
 
   held-none : v.held ++ w.held ≡ []
-  held-none = ap (λ (hs : List (ℕ × Standing)). hs ++ w.held) can.idle ∙ can.other_idle
+  held-none = ap (λ (hs : List (ℕ × NodeStanding)). hs ++ w.held) can.idle ∙ can.other_idle
 
   no-holding : (q : ℕ) → holding q (joined v w) ≡ holding q v + holding q w
   no-holding q =
-      let a : holding q v ≡ 0 = ap (λ (hs : List (ℕ × Standing)). times q (map (λ h. h.0) hs)) can.idle in
-      let b : holding q w ≡ 0 = ap (λ (hs : List (ℕ × Standing)). times q (map (λ h. h.0) hs)) can.other_idle in
-      let c : holding q (joined v w) ≡ 0 = ap (λ (hs : List (ℕ × Standing)). times q (map (λ h. h.0) hs)) held-none in
+      let a : holding q v ≡ 0 = ap (λ (hs : List (ℕ × NodeStanding)). times q (map (λ h. h.0) hs)) can.idle in
+      let b : holding q w ≡ 0 = ap (λ (hs : List (ℕ × NodeStanding)). times q (map (λ h. h.0) hs)) can.other_idle in
+      let c : holding q (joined v w) ≡ 0 = ap (λ (hs : List (ℕ × NodeStanding)). times q (map (λ h. h.0) hs)) held-none in
       omega (arith, a, b, c)
 
   next-of : (v.pens ≡ 0) ⊎ (v.pens ≢ 0) → 0 < v.pens + w.pens → std.cond (eqb v.pens 0) w.next v.next ≡ next_in plan st.words

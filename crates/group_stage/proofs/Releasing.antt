@@ -8,7 +8,7 @@ use Rattle.atomic_table.specs.Table.{Allows, gives, put_back, rest, step}
 use Rattle.atomic_table.proofs.Lists.{set_else, set_here}
 use Rattle.group_types.specs.Dimensions.{processes_of}
 use Rattle.group_run.specs.Locality.{times}
-use Rattle.group_node.specs.Standing.{Standing}
+use Rattle.group_node.specs.Standing.{NodeStanding}
 use Rattle.group_stage.specs.Conditions.{HasLast}
 use Rattle.group_types.specs.Each.{Each}
 use Rattle.group_stage.specs.Counts.{flag}
@@ -33,7 +33,7 @@ tally-here p n = ap (λ (b : std.Bool). std.cond b n 0 + 0) (eq-eqb p p refl) �
 pub tally-else : (q p n : ℕ) → p ≢ q → tally q ((p, n) ∷ []) ≡ 0
 tally-else q p n other = ap (λ (b : std.Bool). std.cond b n 0 + 0) (ne_eqb p q other)
 
-each-rest : (P : ℕ × Standing → Type 0) (hs : List (ℕ × Standing)) → Each P hs → Each P (held_rest hs)
+each-rest : (P : ℕ × NodeStanding → Type 0) (hs : List (ℕ × NodeStanding)) → Each P hs → Each P (held_rest hs)
 each-rest P [] all = tt
 each-rest P (h ∷ hs) all = all.1
 
@@ -45,13 +45,13 @@ flag-one : (n : ℕ) → 0 < n → flag n ≡ 1
 flag-one zero low = absurd (omega (arith, low))
 flag-one (suc n) low = refl
 
-module _ (plan : Plan) (st : St) (o : Kept plan st) (id : ℕ) (v : View) (me : get_elem? st.views id ≡ some v) (p : ℕ) (y : Standing) (part : v.parts ≡ 1) (within : p < processes_of plan.shape)
+module _ (plan : Plan) (st : St) (o : Kept plan st) (id : ℕ) (v : View) (me : get_elem? st.views id ≡ some v) (p : ℕ) (y : NodeStanding) (part : v.parts ≡ 1) (within : p < processes_of plan.shape)
     (last : v.held ≡ (p, y) ∷ held_rest v.held) where
   others : List ℕ
   others = map (λ h. h.0) (held_rest v.held)
 
   holding-is : (q : ℕ) → holding q v ≡ times q (p ∷ map (λ h. h.0) (held_rest v.held))
-  holding-is q = ap (λ (hs : List (ℕ × Standing)). times q (map (λ h. h.0) hs)) last
+  holding-is q = ap (λ (hs : List (ℕ × NodeStanding)). times q (map (λ h. h.0) hs)) last
 
   above : 0 < word_in st.words p
   above =
@@ -84,7 +84,7 @@ module _ (plan : Plan) (st : St) (o : Kept plan st) (id : ℕ) (v : View) (me : 
       (cases_eq q p))
       (λ q low zero_now. ⊎_elim
       (λ (e : q ≡ p). subst (λ (x : ℕ). get_elem? (set st.homes (slot_of p) (some (std.Some y))) (slot_of x) ≡ some (some (std.Some (standing_at plan.shape o.schedule x)))) (sym e)
-      (set_here st.homes (slot_of p) (some (std.Some y)) (omega (arith, o.long, within)) ∙ ap (λ (z : Standing). some (some (std.Some z))) node-is))
+      (set_here st.homes (slot_of p) (some (std.Some y)) (omega (arith, o.long, within)) ∙ ap (λ (z : NodeStanding). some (some (std.Some z))) node-is))
       (λ (ne : q ≢ p). set_else st.homes (slot_of p) (slot_of q) (some (std.Some y)) (λ e. ne (omega (arith, e))) ∙ o.home q low (sym (else q ne) ∙ zero_now))
       (cases_eq q p))
       (record {
@@ -102,7 +102,7 @@ module _ (plan : Plan) (st : St) (o : Kept plan st) (id : ℕ) (v : View) (me : 
         pen = fits.pen;
       })
 
-pub releases : (plan : Plan) (slots id : ℕ) (m : Sat) (p i : ℕ) (y : Standing) → i ≡ word_of p → HasLast plan m p y (std.Some y) → Allows (Kept plan) slots id m i (λ _. 0) (Releases (step slots i 0 0 none) m)
+pub releases : (plan : Plan) (slots id : ℕ) (m : Sat) (p i : ℕ) (y : NodeStanding) → i ≡ word_of p → HasLast plan m p y (std.Some y) → Allows (Kept plan) slots id m i (λ _. 0) (Releases (step slots i 0 0 none) m)
 releases plan slots id m p i y here last st o wide me low =
     let v : View = m.0 in
     let kept = released-kept plan st o id v me p y last.part last.within last.held in

@@ -7,7 +7,7 @@ use Rattle.atomic_table.specs.Table.{opening}
 use Rattle.group_types.specs.Dimensions.{callers, processes_of}
 use Rattle.group_types.proofs.Lists.{at-replicate}
 use Rattle.group_run.specs.Locality.{times}
-use Rattle.group_node.specs.Standing.{Standing}
+use Rattle.group_node.specs.Standing.{NodeStanding}
 use Rattle.group_stage.specs.Conditions.{IsAtStart}
 use Rattle.group_stage.specs.Counts.{bit, flag, total}
 use Rattle.group_stage.specs.Kept.{Fits, IsSpent, IsWhole, Kept}
@@ -27,12 +27,12 @@ word-zero zero i = refl
 word-zero (suc n) zero = refl
 word-zero (suc n) (suc i) = word-zero n i
 
-home-map : (xs : List (std.Option Standing)) (i : ℕ) (y : std.Option Standing) → get_elem? xs i ≡ some y → get_elem? (map some xs) i ≡ some (some y)
+home-map : (xs : List (std.Option NodeStanding)) (i : ℕ) (y : std.Option NodeStanding) → get_elem? xs i ≡ some y → get_elem? (map some xs) i ≡ some (some y)
 home-map [] i y e = absurd (some-ne-none y (sym e))
-home-map (x ∷ xs) zero y e = ap (λ (z : Option (std.Option Standing)). some z) e
+home-map (x ∷ xs) zero y e = ap (λ (z : Option (std.Option NodeStanding)). some z) e
 home-map (x ∷ xs) (suc i) y e = home-map xs i y e
 
-length-homes : (xs : List (std.Option Standing)) → length (map some xs) ≡ length xs
+length-homes : (xs : List (std.Option NodeStanding)) → length (map some xs) ≡ length xs
 length-homes [] = refl
 length-homes (x ∷ xs) = ap suc (length-homes xs)
 
@@ -40,7 +40,7 @@ length-zeros : (n : ℕ) → length (zeros_of n) ≡ n
 length-zeros zero = refl
 length-zeros (suc n) = ap suc (length-zeros n)
 
-pub opens : (plan : Plan) (ws : List ℕ) (xs : List (std.Option Standing)) → IsAtStart plan ws xs → Kept plan (opening ws xs (blank plan.shape plan.callers 1 0))
+pub opens : (plan : Plan) (ws : List ℕ) (xs : List (std.Option NodeStanding)) → IsAtStart plan ws xs → Kept plan (opening ws xs (blank plan.shape plan.callers 1 0))
 opens plan ws xs start =
     let zeros : (i : ℕ) → get_or ws i 0 ≡ 0 = λ i. ap (λ (l : List ℕ). get_or l i 0) start.words ∙ word-zero (word_of (processes_of plan.shape + 2)) i in
     let first : Fits plan.shape [] (next_in plan ws) (blank plan.shape plan.callers 1 0) = record {
@@ -99,6 +99,6 @@ module _ (plan : Plan) (st : St) (o : Kept plan st) (id : ℕ) (v : View) (me : 
 
   pub at-home : v.held ≡ [] → (p : ℕ) → p < processes_of plan.shape → get_elem? st.homes (slot_of p) ≡ some (some (std.Some (standing_at plan.shape o.schedule p)))
   at-home idle p low =
-      let none_held : holding p v ≡ 0 = ap (λ (hs : List (ℕ × Standing)). times p (map (λ h. h.0) hs)) idle in
-      let here = all-here (holding p) (λ u is. ap (λ (hs : List (ℕ × Standing)). times p (map (λ h. h.0) hs)) is.held) in
+      let none_held : holding p v ≡ 0 = ap (λ (hs : List (ℕ × NodeStanding)). times p (map (λ h. h.0) hs)) idle in
+      let here = all-here (holding p) (λ u is. ap (λ (hs : List (ℕ × NodeStanding)). times p (map (λ h. h.0) hs)) is.held) in
       o.home p low (flag-none (word_in st.words p) (omega (arith, here, none_held, o.taken p low)))

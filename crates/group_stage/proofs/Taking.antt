@@ -10,7 +10,7 @@ use Rattle.group_types.specs.Dimensions.{Dimensions, processes_of}
 use Rattle.group_calls.specs.declared.event.Event.{Event}
 use Rattle.group_run.specs.Locality.{times}
 use Rattle.group_run.specs.World.{names}
-use Rattle.group_node.specs.Standing.{Standing}
+use Rattle.group_node.specs.Standing.{NodeStanding}
 use Rattle.group_stage.specs.Conditions.{CanBegin, CanTake}
 use Rattle.group_types.specs.Each.{Each}
 use Rattle.group_stage.specs.Counts.{flag}
@@ -26,7 +26,7 @@ use Rattle.group_stage.proofs.Moves.{Keeps, St, again, changed, knows, next_in, 
 
 -- what a step on a process's word may come to
 abbrev pub Goes : Plan → St → ℕ → ℕ → Sat → (ℕ → Sat → Type 0) → ℕ → Type 0
-Goes plan st i id m then n = (w : View) × (a : Act (std.Option Standing)) × Valid st.homes m.1 a × Kept plan (stepped st i n id m.1 w a) × then (get_or st.words i 0) (w, carried_after m.1 a)
+Goes plan st i id m then n = (w : View) × (a : Act (std.Option NodeStanding)) × Valid st.homes m.1 a × Kept plan (stepped st i n id m.1 w a) × then (get_or st.words i 0) (w, carried_after m.1 a)
 
 -- the words where one process's is changed
 module _ (plan : Plan) (ws : List ℕ) (wide : length ws ≡ word_of (processes_of plan.shape + 2)) (p n : ℕ) (within : p < processes_of plan.shape) where
@@ -56,7 +56,7 @@ module _ (plan : Plan) (st : St) (o : Kept plan st) (id : ℕ) (v : View) (me : 
   abbrev u : View
   u = again v call calls due v.held v.met v.cleared
 
-  abbrev y : Standing
+  abbrev y : NodeStanding
   y = standing_at plan.shape o.schedule p
 
   free-kept : word_in st.words p ≡ 0 → Keeps plan st o (stage (set st.words (word_of p) 1) (set st.homes (slot_of p) none) (set st.views id (with_held u p y)))
@@ -134,7 +134,7 @@ module _ (plan : Plan) (st : St) (o : Kept plan st) (id : ℕ) (v : View) (me : 
       flag-up zero low = absurd (omega (arith, low))
       flag-up (suc n) low = refl
 
-  goes : (slots : List (ℕ × std.Option Standing)) (n : ℕ) → word_in st.words p ≡ n → Goes plan st (word_of p) id (v, slots) (Takes u p slots) ((word_in st.words p + 1) % 18446744073709551616)
+  goes : (slots : List (ℕ × std.Option NodeStanding)) (n : ℕ) → word_in st.words p ≡ n → Goes plan st (word_of p) id (v, slots) (Takes u p slots) ((word_in st.words p + 1) % 18446744073709551616)
   goes slots zero is =
       let kept = free-kept is in
       let shape : v.shape ≡ plan.shape = fit.shape parts in
@@ -149,7 +149,7 @@ module _ (plan : Plan) (st : St) (o : Kept plan st) (id : ℕ) (v : View) (me : 
             (shaped slots shape (subst (λ (es : List Event). Knows es w) kept.1 (knows plan (stage (set st.words (word_of p) 1) (set st.homes (slot_of p) none) (set st.views id w)) kept.0 id w there parts is_due))),
       )
     where
-      shaped : (slots : List (ℕ × std.Option Standing)) → v.shape ≡ plan.shape → Knows o.schedule (with_held u p y) → (es : List Event) × IsTaken u p slots (with_held u p y, (slot_of p, std.Some y) ∷ slots) es
+      shaped : (slots : List (ℕ × std.Option NodeStanding)) → v.shape ≡ plan.shape → Knows o.schedule (with_held u p y) → (es : List Event) × IsTaken u p slots (with_held u p y, (slot_of p, std.Some y) ∷ slots) es
       shaped slots shape k = (
         o.schedule,
         record {

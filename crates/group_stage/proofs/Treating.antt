@@ -22,10 +22,10 @@ use Rattle.group_run.specs.Replica.{last_of}
 use Rattle.law_answers.specs.Numbers.{NumbersAreLow}
 use Rattle.law_answers.proofs.Numbers.{numbers_low_always}
 use Rattle.group_run.specs.World.{GroupStep, NodeStep, World, after, ask_node, collect_node, flush_node, group_step, names, next_name, node_of, one_changes, opening, opening_node, step, trace_node, unchanged}
-use Rattle.group_node.specs.Standing.{Standing}
+use Rattle.group_node.specs.Standing.{NodeStanding}
 use Rattle.group_node.specs.Steps.{made}
 use Rattle.group_node.specs.declared.node.NodeOut.{NodeOut}
-use Rattle.group_stage.specs.Conditions.{CanFinish, IsReady}
+use Rattle.group_stage.specs.Conditions.{CanFinish, IsIdle}
 use Rattle.group_stage.specs.Ended.{Ended}
 use Rattle.group_stage.specs.Places.{slot_of}
 use Rattle.group_stage.specs.Schedules.{answer_at, ask_by, asked_at, standing_at}
@@ -48,7 +48,7 @@ pub record IsOne (s : Dimensions) (v : View) (e : Event) (p : ProcessId) : Type 
   pub may : (w : World) → w.shape ≡ s → ((c : ℕ) → 0 < times c v.numbers → at 0 w.asked c ≡ asks_by c v.made) → MayCome w e
 
 -- the node treats it as the machine does, with the machine's answer
-abbrev pub Treats : View → Event → ℕ → Standing → Standing → Answer → Type 0
+abbrev pub Treats : View → Event → ℕ → NodeStanding → NodeStanding → Answer → Type 0
 Treats v e p y new a = (es : List Event) → Knows es (with_held (begun e v) p y) → (new ≡ standing_at v.shape (es ++ e ∷ []) p) × (a ≡ answer_at v.shape es e)
 
 pub one-treated : (s : Dimensions) (es : List Event) (e : Event) (p : ProcessId) (t : NodeStep) → IsProcess s p → group_step (after s es) e ≡ one_changes (after s es) p t
@@ -64,30 +64,30 @@ one-treated s es e p t pin is =
     (ap (λ (n : Node). record { shape = s; node = n }) node, ap (λ (g : GroupStep). g.answer) is)
 
 -- the shape and the node in hand are those of the run
-module _ (v : View) (e : Event) (p : ℕ) (q : ProcessId) (y : Standing) (pin : IsProcess v.shape q) (here : p ≡ index_of v.shape q) where
+module _ (v : View) (e : Event) (p : ℕ) (q : ProcessId) (y : NodeStanding) (pin : IsProcess v.shape q) (here : p ≡ index_of v.shape q) where
   held-is : (es : List Event) → Knows es (with_held (begun e v) p y) → y ≡ standing_at v.shape es (index_of v.shape q)
   held-is es knows = knows.held.0 ∙ ap (standing_at v.shape es) here
 
   own-node : (es : List Event) → Knows es (with_held (begun e v) p y) → y.node ≡ node_of (after v.shape es) q
-  own-node es knows = ap (λ (z : Standing). z.node) (held-is es knows) ∙ node-is v.shape es q pin
+  own-node es knows = ap (λ (z : NodeStanding). z.node) (held-is es knows) ∙ node-is v.shape es q pin
 
   own-shape : (es : List Event) → Knows es (with_held (begun e v) p y) → y.shape ≡ (after v.shape es).shape
-  own-shape es knows = ap (λ (z : Standing). z.shape) (held-is es knows) ∙ sym (shape-is v.shape es)
+  own-shape es knows = ap (λ (z : NodeStanding). z.shape) (held-is es knows) ∙ sym (shape-is v.shape es)
 
   -- a step of the node by its shape, its node and the world
-  pub treats : (new : Standing) (a : Answer) (f : World → Dimensions → Node → NodeStep) (t : NodeStep) → ((w : World) → group_step w e ≡ one_changes w q (f w w.shape (node_of w q)))
+  pub treats : (new : NodeStanding) (a : Answer) (f : World → Dimensions → Node → NodeStep) (t : NodeStep) → ((w : World) → group_step w e ≡ one_changes w q (f w w.shape (node_of w q)))
       → new.shape ≡ y.shape → new.node ≡ t.node → a ≡ t.answer
       → ((es : List Event) → Knows es (with_held (begun e v) p y) → f (after v.shape es) y.shape y.node ≡ t) → Treats v e p y new a
   treats new a f t step same node answer is es knows =
       let w : World = after v.shape es in
       let turned : f w w.shape (node_of w q) ≡ t = (λ i. f w ((sym (own-shape es knows)) i) ((sym (own-node es knows)) i)) ∙ is es knows in
       let both = one-treated v.shape es e q t pin (step w ∙ ap (one_changes w q) turned) in
-      let shape : new.shape ≡ v.shape = same ∙ ap (λ (z : Standing). z.shape) (held-is es knows) in
+      let shape : new.shape ≡ v.shape = same ∙ ap (λ (z : NodeStanding). z.shape) (held-is es knows) in
       let stand : new ≡ record { shape = v.shape; node = t.node } = λ i. record { shape = shape i; node = node i } in
       (stand ∙ sym both.0 ∙ ap (standing_at v.shape (es ++ e ∷ [])) (sym here), answer ∙ sym both.1)
 
 -- what is in hand can be finished
-pub can-finish : (plan : Plan) (v : View) (e : Event) (p : ℕ) (q : ProcessId) (slots : List (ℕ × Option Standing)) (y new : Standing) (a : Answer) (m : Sat) → IsReady (v, slots) → v.shape ≡ plan.shape
+pub can-finish : (plan : Plan) (v : View) (e : Event) (p : ℕ) (q : ProcessId) (slots : List (ℕ × Option NodeStanding)) (y new : NodeStanding) (a : Answer) (m : Sat) → IsIdle (v, slots) → v.shape ≡ plan.shape
     → Holds v e q p slots y m → IsOne v.shape v e q → Treats v e p y new a → CanFinish plan m p new
 can-finish plan v e p q slots y new a m ready shape held one treats =
     let is = held.taken.1 in
@@ -104,19 +104,19 @@ can-finish plan v e p q slots y new a m ready shape held one treats =
         holds = λ x low named.
             let at_one : times x (index_of plan.shape q ∷ []) ≡ times x (p ∷ []) = ap (λ (z : ℕ). times x (z ∷ [])) (sym here) in
             let some_named : times x (names plan.shape e) ≡ times x (p ∷ []) = ap (times x) ones.named ∙ at_one in
-            let none_else : map (λ (h : ℕ × Standing). h.0) v.held ≡ [] = ap (map (λ (h : ℕ × Standing). h.0)) ready.idle in
-            let all : times x (p ∷ map (λ (h : ℕ × Standing). h.0) v.held) ≡ times x (p ∷ []) = ap (λ (l : List ℕ). times x (p ∷ l)) none_else in
+            let none_else : map (λ (h : ℕ × NodeStanding). h.0) v.held ≡ [] = ap (map (λ (h : ℕ × NodeStanding). h.0)) ready.idle in
+            let all : times x (p ∷ map (λ (h : ℕ × NodeStanding). h.0) v.held) ≡ times x (p ∷ []) = ap (λ (l : List ℕ). times x (p ∷ l)) none_else in
             omega (arith, named, some_named, all);
         own = ones.own;
         may = ones.may;
       };
-      held = ap (λ (hs : List (ℕ × Standing)). (p, y) ∷ hs) ready.idle;
+      held = ap (λ (hs : List (ℕ × NodeStanding)). (p, y) ∷ hs) ready.idle;
       slot = refl;
       treated = λ fs knows. (treats fs knows).0;
     })
 
 -- and is the event then
-pub made-ended : (v : View) (e : Event) (p : ℕ) (q : ProcessId) (slots : List (ℕ × Option Standing)) (y new : Standing) (a : Answer) (m w : Sat) → IsReady (v, slots) → Holds v e q p slots y m
+pub made-ended : (v : View) (e : Event) (p : ℕ) (q : ProcessId) (slots : List (ℕ × Option NodeStanding)) (y new : NodeStanding) (a : Answer) (m w : Sat) → IsIdle (v, slots) → Holds v e q p slots y m
     → IsOne v.shape v e q → Treats v e p y new a
     → (fs : List Event) × Knows fs m.0 × ((found : ℕ) × (w ≡ (released (committed fs m.0) p found, []))) → Ended e v (Made a) w.0
 made-ended v e p q slots y new a m w ready held one treats fin =
@@ -133,7 +133,7 @@ made-ended v e p q slots y new a m w ready held one treats fin =
         parts = refl;
         numbers = refl;
         calls = refl;
-        idle = ap (λ (hs : List (ℕ × Standing)). map (λ (h : ℕ × Standing). (h.0, standing_at v.shape (fs ++ e ∷ []) h.0)) hs) ready.idle;
+        idle = ap (λ (hs : List (ℕ × NodeStanding)). map (λ (h : ℕ × NodeStanding). (h.0, standing_at v.shape (fs ++ e ∷ []) h.0)) hs) ready.idle;
       },
       (
         fs,
@@ -154,14 +154,14 @@ made-ended v e p q slots y new a m w ready held one treats fin =
 pub flush-one : (s : Dimensions) (v : View) (p : ProcessId) → IsProcess s p → IsOne s v (Flush p) p
 flush-one s v p pin = record { named = refl; own = λ c no. refl; may = λ w shape asked. subst (λ (t : Dimensions). IsProcess t p) (sym shape) pin }
 
-pub flush-treats : (v : View) (p : ℕ) (q : ProcessId) (y new : Standing) (out : NodeOut) → IsProcess v.shape q → p ≡ index_of v.shape q → new.shape ≡ y.shape
+pub flush-treats : (v : View) (p : ℕ) (q : ProcessId) (y new : NodeStanding) (out : NodeOut) → IsProcess v.shape q → p ≡ index_of v.shape q → new.shape ≡ y.shape
     → flush_node y.shape y.node ≡ made new.node out → Treats v (Flush q) p y new out.answer
 flush-treats v p q y new out pin here shape is = treats v (Flush q) p q y pin here new out.answer (λ w s n. flush_node s n) (made new.node out) (λ w. refl) shape refl refl (λ es knows. is)
 
 pub collect-one : (s : Dimensions) (v : View) (caller call : ℕ) (p : ProcessId) → caller < callers → IsProcess s p → IsOne s v (Collect caller call p) p
 collect-one s v caller call p low pin = record { named = refl; own = λ c no. refl; may = λ w shape asked. (low, subst (λ (t : Dimensions). IsProcess t p) (sym shape) pin) }
 
-pub collect-treats : (v : View) (p caller call : ℕ) (q : ProcessId) (y new : Standing) (a : Answer) → IsProcess v.shape q → p ≡ index_of v.shape q → new.shape ≡ y.shape
+pub collect-treats : (v : View) (p caller call : ℕ) (q : ProcessId) (y new : NodeStanding) (a : Answer) → IsProcess v.shape q → p ≡ index_of v.shape q → new.shape ≡ y.shape
     → collect_node y.shape caller call y.node ≡ unchanged a new.node → Treats v (Collect caller call q) p y new a
 collect-treats v p caller call q y new a pin here shape is =
     treats v (Collect caller call q) p q y pin here new a (λ w s n. collect_node s caller call n) (unchanged a new.node) (λ w. refl) shape refl refl (λ es knows. is)
@@ -178,7 +178,7 @@ trace-one s v caller call d p low own asked within pin = record {
   may = λ w shape known. (low, (let same = known caller (own-times v caller own) in omega (arith, same, asked)), subst (λ (t : Dimensions). d.0 < t.k) (sym shape) within, subst (λ (t : Dimensions). IsProcess t p) (sym shape) pin);
 }
 
-pub trace-treats : (v : View) (p caller call : ℕ) (d : Partition) (q : ProcessId) (y : Standing) (a : Answer) → IsProcess v.shape q → p ≡ index_of v.shape q
+pub trace-treats : (v : View) (p caller call : ℕ) (d : Partition) (q : ProcessId) (y : NodeStanding) (a : Answer) → IsProcess v.shape q → p ≡ index_of v.shape q
     → trace_node y.shape caller call d.0 y.node ≡ unchanged a y.node → Treats v (Trace caller call d q) p y y a
 trace-treats v p caller call d q y a pin here is =
     treats v (Trace caller call d q) p q y pin here y a (λ w s n. trace_node s caller call d.0 n) (unchanged a y.node) (λ w. refl) refl refl refl (λ es knows. is)
@@ -190,7 +190,7 @@ ask-one s v caller op p low own bytes pin = record {
   may = λ w shape asked. (low, subst (λ (t : Dimensions). IsProcess t p) (sym shape) pin, bytes);
 }
 
-pub ask-treats : (v : View) (p caller call : ℕ) (op : Asked) (q : ProcessId) (y new : Standing) (out : NodeOut) → v.numbers ≡ caller ∷ [] → call ≡ asks_by caller v.made → IsProcess v.shape q → p ≡ index_of v.shape q
+pub ask-treats : (v : View) (p caller call : ℕ) (op : Asked) (q : ProcessId) (y new : NodeStanding) (out : NodeOut) → v.numbers ≡ caller ∷ [] → call ≡ asks_by caller v.made → IsProcess v.shape q → p ≡ index_of v.shape q
     → new.shape ≡ y.shape → ask_node y.shape (record { caller = caller; call = call }) op y.node ≡ made new.node out → Treats v (Ask caller op q) p y new out.answer
 ask-treats v p caller call op q y new out own asked pin here shape is =
     treats v (Ask caller op q) p q y pin here new out.answer (λ w s n. ask_node s (next_name w caller) op n) (made new.node out) (λ w. refl) shape refl refl
@@ -198,12 +198,12 @@ ask-treats v p caller call op q y new out own asked pin here shape is =
     ap (λ (n : ℕ). ask_node y.shape (record { caller = caller; call = n }) op y.node) same ∙ is)
 
 -- the numbers at the node in hand can rise
-module _ (v : View) (e : Event) (p : ℕ) (q : ProcessId) (slots : List (ℕ × Option Standing)) (y : Standing) (m : Sat) (held : Holds v e q p slots y m) where
+module _ (v : View) (e : Event) (p : ℕ) (q : ProcessId) (slots : List (ℕ × Option NodeStanding)) (y : NodeStanding) (m : Sat) (held : Holds v e q p slots y m) where
   low-is : NumbersAreLow (after v.shape held.taken.0)
   low-is = numbers_low_always v.shape held.taken.0 held.taken.1.knows.run
 
   node-same : y.node ≡ node_of (after v.shape held.taken.0) q
-  node-same = ap (λ (z : Standing). z.node) (held.taken.1.node ∙ ap (standing_at v.shape held.taken.0) held.here) ∙ node-is v.shape held.taken.0 q held.inside
+  node-same = ap (λ (z : NodeStanding). z.node) (held.taken.1.node ∙ ap (standing_at v.shape held.taken.0) held.here) ∙ node-is v.shape held.taken.0 q held.inside
 
   few : (after v.shape held.taken.0).events < 4611686018427387904
   few = let many = events-after v.shape held.taken.0 in let low = held.taken.1.knows.few in omega (arith, many, low)

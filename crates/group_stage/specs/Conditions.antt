@@ -10,7 +10,7 @@ use Rattle.group_calls.specs.declared.event.Event.{Event}
 use Rattle.group_run.specs.Headline.{MayCome}
 use Rattle.group_run.specs.Locality.{times}
 use Rattle.group_run.specs.World.{World, names}
-use Rattle.group_node.specs.Standing.{Standing}
+use Rattle.group_node.specs.Standing.{NodeStanding}
 use Rattle.group_stage.specs.Kept.{most_calls}
 use Rattle.group_stage.specs.Places.{slot_of, word_of}
 use Rattle.group_stage.specs.Schedules.{ask_by, standing_at}
@@ -20,7 +20,7 @@ use Rattle.group_stage.specs.declared.view.Plan.{Plan}
 use Rattle.group_stage.specs.declared.view.View.{View}
 
 -- a seat that is between two calls, and may make one more
-pub record IsReady (m : Sat) : Type 0 where
+pub record IsIdle (m : Sat) : Type 0 where
   pub part : m.0.parts ≡ 1
   pub calls : m.0.calls < most_calls
   pub idle : m.0.held ≡ []
@@ -50,7 +50,7 @@ pub record CanCommit (plan : Plan) (v : View) : Type 0 where
   pub may : (w : World) → w.shape ≡ plan.shape → ((c : ℕ) → 0 < times c v.numbers → at 0 w.asked c ≡ asks_by c v.made) → MayCome w v.call
 
 -- a node is the one that was taken last, and its slot, whatever is there, is the seat's
-pub record HasLast (plan : Plan) (m : Sat) (p : ℕ) (y : Standing) (there : Option Standing) : Type 0 where
+pub record HasLast (plan : Plan) (m : Sat) (p : ℕ) (y : NodeStanding) (there : Option NodeStanding) : Type 0 where
   pub part : m.0.parts ≡ 1
   pub within : p < processes_of plan.shape
   pub held : m.0.held ≡ (p, y) ∷ held_rest m.0.held
@@ -76,7 +76,7 @@ pub record CanJoin (v : View) (w : View) : Type 0 where
   pub other_idle : w.held ≡ []
 
 -- the words and the slots at the start
-pub record IsAtStart (plan : Plan) (ws : List ℕ) (xs : List (Option Standing)) : Type 0 where
+pub record IsAtStart (plan : Plan) (ws : List ℕ) (xs : List (Option NodeStanding)) : Type 0 where
   pub limits : IsShape plan.shape
   pub seats : plan.callers ≤ callers
   pub words : ws ≡ replicate (word_of (processes_of plan.shape + 2)) 0
@@ -84,19 +84,19 @@ pub record IsAtStart (plan : Plan) (ws : List ℕ) (xs : List (Option Standing))
   pub home : (p : ℕ) → p < processes_of plan.shape → get_elem? xs (slot_of p) ≡ maybe.some (Some (standing_at plan.shape [] p))
 
 -- a node is in hand, as it stands in the run of the schedule
-pub record InHand (v : View) (p : ℕ) (slots : List (ℕ × Option Standing)) (y : Standing) (w : Sat) (es : List Event) : Type 0 where
+pub record InHand (v : View) (p : ℕ) (slots : List (ℕ × Option NodeStanding)) (y : NodeStanding) (w : Sat) (es : List Event) : Type 0 where
   pub node : y ≡ standing_at v.shape es p
   pub knows : Knows es (with_held v p y)
   pub seat : w ≡ (with_held v p y, (slot_of p, None) ∷ slots)
 
 -- a process's node is in hand, or its word was met held
-abbrev pub Took : View → ℕ → List (ℕ × Option Standing) → Option Standing → Sat → Type 0
+abbrev pub Took : View → ℕ → List (ℕ × Option NodeStanding) → Option NodeStanding → Sat → Type 0
 Took v p slots (Some y) w = (es : List Event) × InHand v p slots y w es
 Took v p slots None w = w ≡ (with_met v p, slots)
 
 -- a call of one process may become an event: the node in hand has treated it as the machine does
-pub record CanFinish (plan : Plan) (m : Sat) (p : ℕ) (new : Standing) : Type 0 where
-  pub old : Standing
+pub record CanFinish (plan : Plan) (m : Sat) (p : ℕ) (new : NodeStanding) : Type 0 where
+  pub old : NodeStanding
   pub within : p < processes_of plan.shape
   pub can : CanCommit plan m.0
   pub held : m.0.held ≡ (p, old) ∷ []
@@ -104,9 +104,9 @@ pub record CanFinish (plan : Plan) (m : Sat) (p : ℕ) (new : Standing) : Type 0
   pub treated : (es : List Event) → Knows es m.0 → new ≡ standing_at m.0.shape (es ++ m.0.call ∷ []) p
 
 -- a call of two processes may become an event: both nodes in hand, the second taken last, have treated it as the machine does
-pub record CanFinishTwo (plan : Plan) (m : Sat) (p q : ℕ) (first second : Standing) : Type 0 where
-  pub old : Standing
-  pub next : Standing
+pub record CanFinishTwo (plan : Plan) (m : Sat) (p q : ℕ) (first second : NodeStanding) : Type 0 where
+  pub old : NodeStanding
+  pub next : NodeStanding
   pub within : p < processes_of plan.shape
   pub next_within : q < processes_of plan.shape
   pub can : CanCommit plan m.0
@@ -116,7 +116,7 @@ pub record CanFinishTwo (plan : Plan) (m : Sat) (p q : ℕ) (first second : Stan
   pub next_treated : (es : List Event) → Knows es m.0 → second ≡ standing_at m.0.shape (es ++ m.0.call ∷ []) q
 
 -- both nodes are those that were taken last
-pub record HasTwo (plan : Plan) (m : Sat) (p q : ℕ) (first second : Standing) : Type 0 where
+pub record HasTwo (plan : Plan) (m : Sat) (p q : ℕ) (first second : NodeStanding) : Type 0 where
   pub part : m.0.parts ≡ 1
   pub within : p < processes_of plan.shape
   pub next_within : q < processes_of plan.shape

@@ -8,7 +8,7 @@ use Rattle.group_calls.specs.declared.event.Event.TheVariants.{Fail}
 use Rattle.group_calls.specs.declared.event.Event.{Event}
 use Rattle.group_run.specs.Locality.{times}
 use Rattle.group_run.specs.World.{names}
-use Rattle.group_node.specs.Standing.{Standing}
+use Rattle.group_node.specs.Standing.{NodeStanding}
 use Rattle.group_types.specs.Each.{Each}
 use Rattle.group_stage.specs.Places.{slot_of}
 use Rattle.group_stage.specs.Schedules.{answer_at}
@@ -20,27 +20,27 @@ use Rattle.group_stage.specs.declared.view.Plan.{Plan}
 use Rattle.group_stage.specs.declared.view.View.{View}
 
 -- nodes of the processes from an index on, each taken behind those before it
-abbrev pub stacked : ℕ → List Standing → List (ℕ × Standing) → List (ℕ × Standing)
+abbrev pub stacked : ℕ → List NodeStanding → List (ℕ × NodeStanding) → List (ℕ × NodeStanding)
 stacked x [] below = below
 stacked x (y ∷ ys) below = stacked (suc x) ys ((x, y) ∷ below)
 
 -- the nodes of the first processes, the last first
-abbrev pub hand_of : List Standing → List (ℕ × Standing)
+abbrev pub hand_of : List NodeStanding → List (ℕ × NodeStanding)
 hand_of ys = stacked 0 ys []
 
 -- the slots that they left
-abbrev pub slots_left : List (ℕ × Standing) → List (ℕ × Option Standing)
+abbrev pub slots_left : List (ℕ × NodeStanding) → List (ℕ × Option NodeStanding)
 slots_left hand = map (λ h. (slot_of h.0, None)) hand
 
 -- the view with these nodes in hand
-abbrev pub holding_all : View → List Standing → View
+abbrev pub holding_all : View → List NodeStanding → View
 holding_all v ys = record v { held = hand_of ys }
 
-abbrev pub sat_with : View → List Standing → Sat
+abbrev pub sat_with : View → List NodeStanding → Sat
 sat_with v ys = (holding_all v ys, slots_left (hand_of ys))
 
 -- these nodes, of the first processes, are in hand
-pub record HasAll (plan : Plan) (m : Sat) (ys : List Standing) : Type 0 where
+pub record HasAll (plan : Plan) (m : Sat) (ys : List NodeStanding) : Type 0 where
   pub part : m.0.parts ≡ 1
   pub within : length ys ≤ processes_of plan.shape
   pub seat : m ≡ sat_with m.0 ys
@@ -58,12 +58,12 @@ pub record GaveBack (m w : Sat) (n : ℕ) : Type 0 where
   pub seat : w ≡ (record m.0 { held = []; cleared = m.0.cleared ++ cleared }, [])
 
 -- all nodes are in hand, as they stand in the run of the schedule; or the word of the next process was met held
-abbrev pub TookAll : Plan → View → List Standing → Sat → Option ℕ → Type 0
+abbrev pub TookAll : Plan → View → List NodeStanding → Sat → Option ℕ → Type 0
 TookAll plan v ys w None = (length ys ≡ processes_of plan.shape) × (w ≡ sat_with v ys) × ((es : List Event) × Knows es (holding_all v ys))
 TookAll plan v ys w (Some p) = (length ys ≡ p) × (p < processes_of plan.shape) × (w ≡ (with_met (holding_all v ys) p, slots_left (hand_of ys)))
 
 -- the first node is in hand, and the call is that a process dies
-pub record CanFail (plan : Plan) (p : ProcessId) (keep : ℕ) (m : Sat) (first : Standing) : Type 0 where
+pub record CanFail (plan : Plan) (p : ProcessId) (keep : ℕ) (m : Sat) (first : NodeStanding) : Type 0 where
   pub process : IsProcess plan.shape p
   pub shape : m.0.shape ≡ plan.shape
   pub call : m.0.call ≡ Fail p keep

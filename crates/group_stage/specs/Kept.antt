@@ -8,7 +8,7 @@ use Rattle.group_calls.specs.declared.event.Event.{Event}
 use Rattle.group_run.specs.Headline.{IsRun}
 use Rattle.group_run.specs.Locality.{times}
 use Rattle.group_run.specs.World.{names}
-use Rattle.group_node.specs.Standing.{Standing}
+use Rattle.group_node.specs.Standing.{NodeStanding}
 use Rattle.group_types.specs.Each.{Each}
 use Rattle.group_stage.specs.Counts.{bit, flag, total}
 use Rattle.group_stage.specs.Places.{drawing_of, history_of, slot_of, word_in, word_of}
@@ -53,7 +53,7 @@ pub record Fits (s : Dimensions) (es : List Event) (next : ℕ) (v : View) : Typ
 
 -- the rule: there is a schedule, of which each node at home is the run's, and the counts of all seats together are
 -- those of the words
-pub record Kept (plan : Plan) (st : State (Option Standing) View) : Type 0 where
+pub record Kept (plan : Plan) (st : State (Option NodeStanding) View) : Type 0 where
   pub schedule : List Event
   pub run : IsRun plan.shape schedule
   pub wide : length st.words ≡ word_of (processes_of plan.shape + 2)

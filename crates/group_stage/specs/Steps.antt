@@ -4,7 +4,7 @@ use Rattle.atomic_table.specs.Table.{Me, Step, rest}
 use Rattle.group_calls.specs.declared.event.Event.{Event}
 use Rattle.group_run.specs.Headline.{IsRun}
 use Rattle.group_run.specs.Locality.{times}
-use Rattle.group_node.specs.Standing.{Standing}
+use Rattle.group_node.specs.Standing.{NodeStanding}
 use Rattle.group_types.specs.Each.{Each}
 use Rattle.group_stage.specs.Kept.{IsAnswered}
 use Rattle.group_stage.specs.Places.{place_of, slot_of}
@@ -14,7 +14,7 @@ use Rattle.group_stage.specs.declared.view.View.{View}
 
 -- a seat: its view, and the slots that it has
 abbrev pub Sat : Type 0
-Sat = Me (Option Standing) View
+Sat = Me (Option NodeStanding) View
 
 -- what a view knows of the schedule at a moment at which its call is due
 pub record Knows (es : List Event) (v : View) : Type 0 where
@@ -26,31 +26,31 @@ pub record Knows (es : List Event) (v : View) : Type 0 where
   pub made : Each (IsAnswered v.shape es) v.made
 
 -- the node of a process is held, as it stands in the run of the schedule
-pub record IsTaken (v : View) (p : ℕ) (slots : List (ℕ × Option Standing)) (w : Sat) (es : List Event) : Type 0 where
+pub record IsTaken (v : View) (p : ℕ) (slots : List (ℕ × Option NodeStanding)) (w : Sat) (es : List Event) : Type 0 where
   pub knows : Knows es (with_held v p (standing_at v.shape es p))
   pub seat : w ≡ (with_held v p (standing_at v.shape es p), (slot_of p, Some (standing_at v.shape es p)) ∷ slots)
 
 -- a process's word is taken where 0 was found, and met where more was
-abbrev pub Takes : View → ℕ → List (ℕ × Option Standing) → ℕ → Sat → Type 0
+abbrev pub Takes : View → ℕ → List (ℕ × Option NodeStanding) → ℕ → Sat → Type 0
 Takes v p slots zero w = (es : List Event) × IsTaken v p slots w es
 Takes v p slots (suc n) w = w ≡ (with_met v p, slots)
 
 -- the first word of the call of an event
-abbrev pub Begins : Event → Step (Option Standing) → Sat → ℕ → Sat → Type 0
+abbrev pub Begins : Event → Step (Option NodeStanding) → Sat → ℕ → Sat → Type 0
 Begins e st m found w = Takes (begun e m.0) (place_of st.word) m.1 found w
 
 -- a further word
-abbrev pub TakesNext : Step (Option Standing) → Sat → ℕ → Sat → Type 0
+abbrev pub TakesNext : Step (Option NodeStanding) → Sat → ℕ → Sat → Type 0
 TakesNext st m found w = Takes m.0 (place_of st.word) m.1 found w
 
 -- the call becomes the event behind the schedule so far
-abbrev pub Commits : Step (Option Standing) → Sat → ℕ → Sat → Type 0
+abbrev pub Commits : Step (Option NodeStanding) → Sat → ℕ → Sat → Type 0
 Commits st m found w = (es : List Event) × Knows es m.0 × (w ≡ (committed es m.0, m.1))
 
 -- the node that was taken last is at home again
-abbrev pub Releases : Step (Option Standing) → Sat → ℕ → Sat → Type 0
+abbrev pub Releases : Step (Option NodeStanding) → Sat → ℕ → Sat → Type 0
 Releases st m found w = w ≡ (released m.0 (place_of st.word) found, rest m.1)
 
 -- the caller number is the one that was next
-abbrev pub Draws : Step (Option Standing) → Sat → ℕ → Sat → Type 0
+abbrev pub Draws : Step (Option NodeStanding) → Sat → ℕ → Sat → Type 0
 Draws st m found w = (found ≡ m.0.next) × (w ≡ (numbered m.0 found, m.1))

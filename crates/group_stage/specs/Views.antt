@@ -5,7 +5,7 @@ use Rattle.group_types.specs.declared.process.ProcessId.TheVariants.{DataNode}
 use Rattle.group_calls.specs.declared.event.Event.{Event}
 use Rattle.group_calls.specs.declared.event.Event.TheVariants.{Flush}
 use Rattle.group_run.specs.Locality.{times}
-use Rattle.group_node.specs.Standing.{Standing}
+use Rattle.group_node.specs.Standing.{NodeStanding}
 use Rattle.group_stage.specs.Schedules.{answer_at, ask_by, standing_at}
 use Rattle.group_stage.specs.declared.view.Numbered.{Numbered}
 use Rattle.group_stage.specs.declared.view.View.{View}
@@ -37,7 +37,7 @@ abbrev pub begun : Event → View → View
 begun e v = record v { call = e; calls = v.calls + 1; due = 1 }
 
 -- a process's word was free, and its node is held
-abbrev pub with_held : View → ℕ → Standing → View
+abbrev pub with_held : View → ℕ → NodeStanding → View
 with_held v p y = record v { held = (p, y) ∷ v.held }
 
 -- a process's word was held, so that the call ends
@@ -45,7 +45,7 @@ abbrev pub with_met : View → ℕ → View
 with_met v p = record v { met = v.met ++ p ∷ []; due = 0 }
 
 -- the nodes that are held, after a schedule
-abbrev pub held_at : Dimensions → List Event → List (ℕ × Standing) → List (ℕ × Standing)
+abbrev pub held_at : Dimensions → List Event → List (ℕ × NodeStanding) → List (ℕ × NodeStanding)
 held_at s es held = map (λ h. (h.0, standing_at s es h.0)) held
 
 -- the call becomes the event behind this schedule
@@ -58,7 +58,7 @@ committed es v = record v {
 }
 
 -- all but the node that was taken last
-abbrev pub held_rest : List (ℕ × Standing) → List (ℕ × Standing)
+abbrev pub held_rest : List (ℕ × NodeStanding) → List (ℕ × NodeStanding)
 held_rest [] = []
 held_rest (h ∷ hs) = hs
 

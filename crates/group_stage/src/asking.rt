@@ -2,7 +2,7 @@ ghost use Rattle.std.specs.Prelude.{◌≡◌, ◌<◌, [], ◌∷◌, OnErr};
 ghost use Rattle.group_calls.specs.declared.event.Event.TheVariants as happens;
 ghost use Rattle.group_types.specs.Dimensions.{callers};
 ghost use Rattle.group_types.specs.Names.{IsProcess};
-ghost use Rattle.group_stage.specs.Conditions.{IsReady};
+ghost use Rattle.group_stage.specs.Conditions.{IsIdle};
 ghost use Rattle.group_stage.specs.Ended.{HasEnded, WasUp};
 ghost use Rattle.group_stage.specs.Seated as made;
 ghost use Rattle.group_stage.specs.Seated.{IsOf, shape_of, view_of};
@@ -22,6 +22,8 @@ use std::marker::Brand;
 
 impl Stage {
     /// A call is asked at a process. Its number is that of the seat's asks before.
+    ///
+    /// `AllocError`: no event was made, and the group was up and the process living.
     pub fn try_ask(
         &self,
         seat: &mut Seat,
@@ -59,7 +61,7 @@ impl Stage {
         requires event { J.event ≡ happens.Ask call.caller op.now at }
         requires process { IsProcess (shape_of self.now) at }
         requires shape { seat.old.me.0.shape ≡ self.now.plan.shape }
-        requires ready { IsReady seat.old.me }
+        requires ready { IsIdle seat.old.me }
         requires caller { call.caller < callers }
         requires own { seat.old.me.0.numbers ≡ call.caller ∷ [] }
         requires number { call.number ≡ asks_by call.caller seat.old.me.0.made }

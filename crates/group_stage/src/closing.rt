@@ -4,7 +4,7 @@ ghost use mathlib.Core.Option as maybe;
 ghost use lib.ListN.{get_elem?};
 ghost use Rattle.group_calls.specs.declared.event.Event.{Event};
 ghost use Rattle.group_types.specs.Dimensions as limits;
-ghost use Rattle.group_node.specs.Standing.{Standing};
+ghost use Rattle.group_node.specs.Standing.{NodeStanding};
 ghost use Rattle.group_stage.specs.Closed.{HasClosed};
 ghost use Rattle.group_stage.specs.Emptied.{AreTaken, HaveNodes};
 ghost use Rattle.group_stage.specs.Kept.{IsWhole};
@@ -101,7 +101,7 @@ fn take_nodes(shape: Shape, slots: Closed<Option<Node>, Global>, nodes: Nodes) -
     requires have { HaveNodes (limits.processes_of shape) (slots_items slots.slots) }
     requires nodes { nodes ≡ record { room = limits.processes_of shape; nodes = [] } }
     ensures many { length result.nodes ≡ limits.processes_of shape }
-    ensures nodes { (p : ℕ) (y : Standing) → p < limits.processes_of shape
+    ensures nodes { (p : ℕ) (y : NodeStanding) → p < limits.processes_of shape
         → get_elem? (slots_items slots.slots) (places.slot_of p) ≡ maybe.some (Some y)
         → slice_get result.nodes p ≡ Some y }
 {

@@ -2,7 +2,7 @@ ghost use Rattle.std.specs.Prelude.{◌≡◌, ◌<◌, [], IsOk};
 ghost use Rattle.group_calls.specs.declared.event.Event.TheVariants as happens;
 ghost use Rattle.group_types.specs.Dimensions.{callers};
 ghost use Rattle.group_types.specs.Names.{IsProcess};
-ghost use Rattle.group_stage.specs.Conditions.{IsReady};
+ghost use Rattle.group_stage.specs.Conditions.{IsIdle};
 ghost use Rattle.group_stage.specs.Ended.{Ended, HasEnded};
 ghost use Rattle.group_stage.specs.Seated.{IsOf, shape_of, view_of};
 
@@ -16,7 +16,7 @@ use std::alloc::AllocError;
 use std::marker::Brand;
 
 impl Stage {
-    /// What became of a call of the seat, at the process that issued its update.
+    /// What became of a call of the seat, at the process that issued its update. It takes no memory, and never fails.
     pub fn try_collect(
         &self,
         seat: &mut Seat,
@@ -50,7 +50,7 @@ impl Stage {
         requires event { J.event ≡ happens.Collect caller call at }
         requires process { IsProcess (shape_of self.now) at }
         requires shape { seat.old.me.0.shape ≡ self.now.plan.shape }
-        requires ready { IsReady seat.old.me }
+        requires ready { IsIdle seat.old.me }
         requires caller { caller < callers }
         ensures table { seat.new.table_id ≡ seat.old.table_id }
         ensures slots { seat.new.me.1 ≡ [] }

@@ -4,7 +4,7 @@ ghost use Rattle.group_calls.specs.declared.event.Event.TheVariants as happens;
 ghost use Rattle.group_types.specs.Dimensions.{Dimensions};
 ghost use Rattle.group_types.specs.Names.{IsProcess};
 ghost use Rattle.group_core.specs.Pairs.{Delivered};
-ghost use Rattle.group_stage.specs.Conditions.{CanFinishTwo, HasTwo, IsReady};
+ghost use Rattle.group_stage.specs.Conditions.{CanFinishTwo, HasTwo, IsIdle};
 ghost use Rattle.group_stage.specs.Ended.{HasEnded, WasUp};
 ghost use Rattle.group_stage.specs.Pairing.{CanDeliver, one_of, other_of};
 ghost use Rattle.group_stage.specs.Seated.{IsOf, shape_of, view_of};
@@ -22,6 +22,8 @@ use std::marker::Brand;
 
 impl Stage {
     /// The first message from one process to another is received.
+    ///
+    /// `AllocError`: no event was made, and the group was up and the receiver living.
     pub fn try_deliver(
         &self,
         seat: &mut Seat,
@@ -58,7 +60,7 @@ impl Stage {
         requires to { IsProcess (shape_of self.now) to }
         requires apart { from ≢ to }
         requires shape { seat.old.me.0.shape ≡ self.now.plan.shape }
-        requires ready { IsReady seat.old.me }
+        requires ready { IsIdle seat.old.me }
         ensures table { seat.new.table_id ≡ seat.old.table_id }
         ensures slots { seat.new.me.1 ≡ [] }
         ensures ended { HasEnded (happens.Deliver from to) seat.old.me.0 result seat.new.me.0 }

@@ -1,7 +1,7 @@
 ghost use Rattle.std.specs.Prelude.{◌≡◌, []};
 ghost use Rattle.group_calls.specs.declared.event.Event.TheVariants as happens;
 ghost use Rattle.group_types.specs.Names.{IsProcess};
-ghost use Rattle.group_stage.specs.Conditions.{IsReady};
+ghost use Rattle.group_stage.specs.Conditions.{IsIdle};
 ghost use Rattle.group_stage.specs.Ended.{HasEnded};
 ghost use Rattle.group_stage.specs.Gathered.{CanFail, Failed};
 ghost use Rattle.group_types.specs.Dimensions as limits;
@@ -20,6 +20,8 @@ use std::marker::Brand;
 
 impl Stage {
     /// A process dies, of whose links each keeps its first `keep` messages. It names every process.
+    ///
+    /// `AllocError`: no event was made.
     pub fn try_fail(
         &self,
         seat: &mut Seat,
@@ -51,7 +53,7 @@ impl Stage {
         requires event { J.event ≡ happens.Fail at keep }
         requires process { IsProcess self.now.plan.shape at }
         requires shape { seat.old.me.0.shape ≡ self.now.plan.shape }
-        requires ready { IsReady seat.old.me }
+        requires ready { IsIdle seat.old.me }
         ensures table { seat.new.table_id ≡ seat.old.table_id }
         ensures slots { seat.new.me.1 ≡ [] }
         ensures ended { HasEnded (happens.Fail at keep) seat.old.me.0 result seat.new.me.0 }

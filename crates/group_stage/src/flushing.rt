@@ -1,7 +1,7 @@
 ghost use Rattle.std.specs.Prelude.{◌≡◌, ◌<◌, [], OnErr};
 ghost use Rattle.group_calls.specs.declared.event.Event.TheVariants as happens;
 ghost use Rattle.group_types.specs.Names.{IsProcess};
-ghost use Rattle.group_stage.specs.Conditions.{IsReady};
+ghost use Rattle.group_stage.specs.Conditions.{IsIdle};
 ghost use Rattle.group_stage.specs.Ended.{HasEnded, WasUp};
 ghost use Rattle.group_stage.specs.Seated.{IsOf, shape_of, view_of};
 
@@ -16,6 +16,8 @@ use std::marker::Brand;
 
 impl Stage {
     /// A process tells the others how far it has settled.
+    ///
+    /// `AllocError`: no event was made, and the group was up and the process living.
     pub fn try_flush(&self, seat: &mut Seat, at: ProcessId) -> Result<StageAnswer, AllocError>
         requires seat { IsOf self.now seat.old }
         requires process { IsProcess (shape_of self.now) at }
@@ -41,7 +43,7 @@ impl Stage {
         requires event { J.event ≡ happens.Flush at }
         requires process { IsProcess (shape_of self.now) at }
         requires shape { seat.old.me.0.shape ≡ self.now.plan.shape }
-        requires ready { IsReady seat.old.me }
+        requires ready { IsIdle seat.old.me }
         ensures table { seat.new.table_id ≡ seat.old.table_id }
         ensures slots { seat.new.me.1 ≡ [] }
         ensures ended { HasEnded (happens.Flush at) seat.old.me.0 result seat.new.me.0 }

@@ -1,7 +1,7 @@
 ghost use Rattle.std.specs.Prelude.{◌≡◌, []};
 ghost use Rattle.group_calls.specs.declared.event.Event.TheVariants as happens;
 ghost use Rattle.group_types.specs.Names.{IsProcess};
-ghost use Rattle.group_stage.specs.Conditions.{IsReady};
+ghost use Rattle.group_stage.specs.Conditions.{IsIdle};
 ghost use Rattle.group_stage.specs.Looked.{HasLooked, IsFoundSo};
 ghost use Rattle.group_stage.specs.Seated.{IsOf, shape_of, view_of};
 
@@ -50,7 +50,7 @@ impl Stage {
         requires from { IsProcess (shape_of self.now) from }
         requires to { IsProcess (shape_of self.now) to }
         requires shape { seat.old.me.0.shape ≡ self.now.plan.shape }
-        requires ready { IsReady seat.old.me }
+        requires ready { IsIdle seat.old.me }
         ensures table { seat.new.table_id ≡ seat.old.table_id }
         ensures slots { seat.new.me.1 ≡ [] }
         ensures looked { HasLooked from to seat.old.me.0 result seat.new.me.0 }

@@ -2,7 +2,7 @@ ghost use Rattle.std.specs.Prelude.{◌≡◌, ◌<◌, [], ◌∷◌, IsOk};
 ghost use Rattle.group_calls.specs.declared.event.Event.TheVariants as happens;
 ghost use Rattle.group_types.specs.Dimensions.{callers};
 ghost use Rattle.group_types.specs.Names.{IsProcess};
-ghost use Rattle.group_stage.specs.Conditions.{IsReady};
+ghost use Rattle.group_stage.specs.Conditions.{IsIdle};
 ghost use Rattle.group_stage.specs.Ended.{Ended, HasEnded};
 ghost use Rattle.group_stage.specs.Seated.{IsOf, shape_of, view_of};
 ghost use Rattle.group_stage.specs.Views.{asks_by};
@@ -55,7 +55,7 @@ impl Stage {
         requires event { J.event ≡ happens.Trace caller call partition at }
         requires process { IsProcess (shape_of self.now) at }
         requires shape { seat.old.me.0.shape ≡ self.now.plan.shape }
-        requires ready { IsReady seat.old.me }
+        requires ready { IsIdle seat.old.me }
         requires caller { caller < callers }
         requires own { seat.old.me.0.numbers ≡ caller ∷ [] }
         requires call { call < asks_by caller seat.old.me.0.made }

@@ -1,7 +1,7 @@
 use Rattle.std.proofs.Common.{◌≡◌, false, nat_lt, get_or, ap, ◌∙◌, sym}
 use Rattle.std.proofs.lemmas.List.{length-set}
 use Rattle.std.proofs.lemmas.List.Elements.{All-set}
-use Rattle.group_node.specs.Standing.{Standing}
+use Rattle.group_node.specs.Standing.{NodeStanding}
 use Rattle.group_core.proofs.Changed.{seat-is, within}
 use Rattle.group_core.proofs.Exchanges.{any-at}
 use Rattle.group_core.proofs.Killed.{already, died-shape, killed}
@@ -32,7 +32,7 @@ returns-clause-step c =
     let y = get_or xs x c.index-nodes-at-2.result in
     let below = within c.args.shape xs c.requires.seated c.args.at c.requires.process x c.index_of-at.ensures in
     let lives : y.node.dead ≡ false
-    = ap (λ (z : Standing). z.node.dead) (any-at xs x c.index-nodes-at-2.result c.index-nodes-at.result below) ∙ sym c.is_dead.ensures ∙ c.if-is_dead.false in
+    = ap (λ (z : NodeStanding). z.node.dead) (any-at xs x c.index-nodes-at-2.result c.index-nodes-at.result below) ∙ sym c.is_dead.ensures ∙ c.if-is_dead.false in
     killed c.args.shape xs c.requires.seated c.args.at c.requires.process x c.index_of-at.ensures c.requires.name c.args.keep y c.die.new.self
     (any-at xs x c.index-nodes-at-2.result y below) c.die.ensures (nat_lt c.m-most.result c.count_dead.result) c.tell_all.new.nodes lives
     (λ i. nat_lt (c.m-most.ensures.value i) (c.count_dead.ensures i)) c.tell_all.ensures.nodes

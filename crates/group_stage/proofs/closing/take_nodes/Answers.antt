@@ -1,6 +1,6 @@
 use Rattle.std.proofs.Common.{◌≡◌, ◌+◌, ◌<◌, ℕ, List, [], ◌∷◌, length, Bool, false, set, sym, ap, subst, ◌∙◌, arith, length-append, length-set}
 use Rattle.std.specs.Prelude.{slice_get, Option}
-use Rattle.group_node.specs.Standing.{Standing}
+use Rattle.group_node.specs.Standing.{NodeStanding}
 use Rattle.std.specs.Slots.{slots_filled, slots_items}
 use lib.ListN.{get_elem?}
 use Rattle.group_types.specs.Dimensions.{processes_of}
@@ -37,5 +37,5 @@ processes-preserved c =
       room = ap (λ (l : NodeList). l.room) c.push.ensures ∙ i.room;
       done = let same = ap (λ (l : NodeList). length l.nodes) c.push.ensures in let more = length-append c.processes.taken.nodes (c.in-Some.node ∷ []) in let d = i.done in omega (arith, same, more, d);
       nodes = λ q y below is. ap (λ (l : NodeList). slice_get l.nodes q) c.push.ensures
-          ∙ nodes-more (slots_items c.args.slots.slots) slot p c.processes.taken.nodes c.in-Some.node here i.done (ap (λ (l : List (Option Standing)). get_elem? l slot) (sym i.items) ∙ c.in-Some.ensures.value) i.nodes q y below is;
+          ∙ nodes-more (slots_items c.args.slots.slots) slot p c.processes.taken.nodes c.in-Some.node here i.done (ap (λ (l : List (Option NodeStanding)). get_elem? l slot) (sym i.items) ∙ c.in-Some.ensures.value) i.nodes q y below is;
     }

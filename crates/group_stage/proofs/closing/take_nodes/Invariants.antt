@@ -4,7 +4,7 @@ use Rattle.std.specs.Slots.{slots_filled, slots_items, slots_len}
 use mathlib.Core.Option as maybe
 use lib.ListN.{get_elem?}
 use Rattle.group_types.specs.Dimensions.{processes_of}
-use Rattle.group_node.specs.Standing.{Standing}
+use Rattle.group_node.specs.Standing.{NodeStanding}
 use Rattle.group_stage.specs.Emptied.{AreTaken}
 use Rattle.group_stage.specs.Places.{slot_of}
 use Rattle.group_stage.proofs.closing.take_nodes.Given as goal
@@ -17,5 +17,5 @@ invariant-processes l = record {
   items : slots_items l.closed.slots ≡ slots_items l.fn.slots.slots;
   room : l.taken.room ≡ processes_of l.fn.shape;
   done : length l.taken.nodes ≡ l.p;
-  nodes : (q : ℕ) (y : Standing) → q < l.p → get_elem? (slots_items l.fn.slots.slots) (slot_of q) ≡ maybe.some (Some y) → slice_get l.taken.nodes q ≡ Some y;
+  nodes : (q : ℕ) (y : NodeStanding) → q < l.p → get_elem? (slots_items l.fn.slots.slots) (slot_of q) ≡ maybe.some (Some y) → slice_get l.taken.nodes q ≡ Some y;
 }

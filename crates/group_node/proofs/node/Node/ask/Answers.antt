@@ -3,7 +3,7 @@ use Rattle.group_types.specs.Hash.{home_of}
 use Rattle.memc_table.specs.Act.{key_of}
 use Rattle.group_run.specs.Replica.{Replica, empty_replica, last_of}
 use Rattle.head_service.specs.Acting.{name_of}
-use Rattle.group_node.specs.Standing.{Standing}
+use Rattle.group_node.specs.Standing.{NodeStanding}
 use Rattle.group_node.proofs.Numbers.{at-any}
 use Rattle.group_node.proofs.Refused.{refused-stays}
 use Rattle.group_node.proofs.Treated.{few-asked}
@@ -13,7 +13,7 @@ pub ask-requires-clause-numbers : goal.ask-requires-clause-numbers
 ask-requires-clause-numbers c =
     at-any (λ (r : Replica). last_of r < 4611686018427387904) empty_replica c.self.inside.process.process.replicas
     (home_of (key_of c.args.op.now.act) c.self.inside.process.shape.k) (omega arith)
-    (subst (λ (v : Standing). All (λ (r : Replica). last_of r < 4611686018427387904) v.node.process.replicas) (sym c.self.view_is)
+    (subst (λ (v : NodeStanding). All (λ (r : Replica). last_of r < 4611686018427387904) v.node.process.replicas) (sym c.self.view_is)
     (c.requires.numbers c.in_default.ensures.none.0 c.in_default.ensures.none.1))
 
 pub send_all-requires-clause-few : goal.send_all-requires-clause-few

@@ -3,7 +3,7 @@ use Rattle.group_run.specs.Fitting.{Fits}
 use Rattle.group_run.specs.World.{receive_node}
 use Rattle.group_calls.specs.declared.event.Answer.TheVariants as says
 use Rattle.group_node.specs.declared.node.NodeOut.{NodeOut}
-use Rattle.group_node.specs.Standing.{Standing, standing}
+use Rattle.group_node.specs.Standing.{NodeStanding, node_standing}
 use Rattle.group_node.specs.Steps.{made}
 use Rattle.group_node.proofs.Delivered.{hears, takes}
 use Rattle.group_node.proofs.Treated.{few-received}
@@ -12,7 +12,7 @@ use Rattle.group_node.proofs.node.Node.receive.Goals.{in-Notice, in_default}
 
 pub send_all-requires-clause-few : goal.send_all-requires-clause-few
 send_all-requires-clause-few c =
-    let fits = subst (λ (v : Standing). Fits v.shape c.args.from c.args.message.now v.node.process) (sym c.self.view_is) c.requires.comes.fits in
+    let fits = subst (λ (v : NodeStanding). Fits v.shape c.args.from c.args.message.now v.node.process) (sym c.self.view_is) c.requires.comes.fits in
     few-received c.self.inside.shape c.self.inside.process.shape c.self.inside.process.process c.receive.new.self.process c.args.from c.args.message.now c.in_ok-step.step
     c.sends_few.ensures c.make_room.ensures.shape c.self.invariant.shape fits c.in_ok-step.ensures.step
 
@@ -21,23 +21,23 @@ returns-clause-step c = elim c.match-message.branch [
   | in-Notice w ↦
       let n = c.self.inside in
       let out : NodeOut = record { answer = says.Done; settled = c.in_ok-step.step.settled } in
-      let fits = subst (λ (v : Standing). Fits v.shape c.args.from c.args.message.now v.node.process) (sym c.self.view_is) c.requires.comes.fits in
-      subst (λ (v : Standing). receive_node v.shape c.args.from c.args.message.now v.node ≡ made c.match-message.self.node out) c.self.view_is
+      let fits = subst (λ (v : NodeStanding). Fits v.shape c.args.from c.args.message.now v.node.process) (sym c.self.view_is) c.requires.comes.fits in
+      subst (λ (v : NodeStanding). receive_node v.shape c.args.from c.args.message.now v.node ≡ made c.match-message.self.node out) c.self.view_is
       (hears n.shape n.process.shape c.args.from c.args.message.now
-      (standing n.shape n.process n.links n.dead n.down).node c.in_ok-step.step c.receive.new.self.process c.known.result
+      (node_standing n.shape n.process n.links n.dead n.down).node c.in_ok-step.step c.receive.new.self.process c.known.result
       n.links c.make_room.new.links c.send_all.new.links c.self.invariant.shape c.in_ok-step.ensures.step refl c.make_room.ensures.messages c.known.ensures
       c.send_all.ensures.messages
       w.in-Notice.dead w.cut.new.self w.index_of.result _ w.in-Notice.is fits
       (c.send_all.ensures.many ∙ c.make_room.ensures.many ∙ c.self.invariant.many) w.index_of.ensures w.cut.ensures
-      ∙ ap (λ (v : Standing). made v.node out) (sym w.self-is))
+      ∙ ap (λ (v : NodeStanding). made v.node out) (sym w.self-is))
   | in_default w ↦
       let n = c.self.inside in
       let out : NodeOut = record { answer = says.Done; settled = c.in_ok-step.step.settled } in
-      subst (λ (v : Standing). receive_node v.shape c.args.from c.args.message.now v.node ≡ made c.match-message.self.node out) c.self.view_is
+      subst (λ (v : NodeStanding). receive_node v.shape c.args.from c.args.message.now v.node ≡ made c.match-message.self.node out) c.self.view_is
       (takes n.shape n.process.shape c.args.from c.args.message.now
-      (standing n.shape n.process n.links n.dead n.down).node c.in_ok-step.step c.receive.new.self.process c.known.result
+      (node_standing n.shape n.process n.links n.dead n.down).node c.in_ok-step.step c.receive.new.self.process c.known.result
       n.links c.make_room.new.links c.send_all.new.links c.self.invariant.shape c.in_ok-step.ensures.step refl c.make_room.ensures.messages c.known.ensures
       c.send_all.ensures.messages
       w.in_default.not-Notice
-      ∙ ap (λ (v : Standing). made v.node out) (sym w.self-is))
+      ∙ ap (λ (v : NodeStanding). made v.node out) (sym w.self-is))
 ]

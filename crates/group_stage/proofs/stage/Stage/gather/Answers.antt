@@ -1,5 +1,5 @@
 use Rattle.std.proofs.Common.{◌≡◌, ℕ, List, [], ◌∷◌, ◌++◌, length, map, ap, subst, ◌∙◌, arith, length-append}
-use Rattle.group_node.specs.Standing.{Standing}
+use Rattle.group_node.specs.Standing.{NodeStanding}
 use Rattle.group_stage.specs.Kept.{IsWhole}
 use Rattle.group_stage.specs.Seated.{view_of}
 use Rattle.group_stage.specs.Steps.{Sat}
@@ -66,7 +66,7 @@ seats-preserved c =
       table = c.join_seat.ensures.0 ∙ i.table;
       some = omega (arith, sum, some);
       parts = omega (arith, sum, one, many, more, before);
-      idle = ap (λ (v : View). v.held) view ∙ ap (λ (hs : List (ℕ × Standing)). hs ++ (view_of seat).held) i.idle ∙ seat.is_seat.idle;
+      idle = ap (λ (v : View). v.held) view ∙ ap (λ (hs : List (ℕ × NodeStanding)). hs ++ (view_of seat).held) i.idle ∙ seat.is_seat.idle;
       of_stage = both.0;
       whole = λ es whole. i.whole es (next-whole c.args.self.now.plan.shape c.seats.all.me.0 c.join_seat.new.seat.me.0 c.seats.rest.seats c.take-in-seats.new.self.seats seat is view es whole);
     }
