@@ -1,4 +1,5 @@
 pub mod Answering
+pub mod Appending
 pub mod Barrier
 pub mod Calling
 pub mod Changes

@@ -2,6 +2,7 @@ pub mod Sets
 pub mod State
 pub mod Actions
 pub mod Sending
+pub mod Appending
 pub mod Serving
 pub mod Stepping
 pub mod May

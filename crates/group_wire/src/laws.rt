@@ -1,3 +1,4 @@
+ghost use Rattle.group_wire.specs.Appending.{CallsAppendAlike, MessagesAppendAlike};
 ghost use Rattle.group_wire.specs.Composition.{MisfitsNeverCome, NoticesFit, PositionsAlways, RunsCompose};
 ghost use Rattle.group_wire.specs.Laws.{BarrierAlways, FewAreNamed, MoreDataThanParity, PermitsExactly, ShownByLiving};
 ghost use Rattle.group_wire.specs.Shown.{ShownIsLogged, ShownIsMade};
@@ -60,4 +61,15 @@ pub fn shown_is_made()
 /// since the call began.
 pub fn shown_is_logged()
     ensures { ShownIsLogged }
+{}
+
+/// What a node's step for a call appends to its links, answers and settles depends on its process alone, not on what stands
+/// in its links.
+pub fn calls_append_alike()
+    ensures { CallsAppendAlike }
+{}
+
+/// Nor does what it makes of a message, but that the link to a process whose death is told is emptied.
+pub fn messages_append_alike()
+    ensures { MessagesAppendAlike }
 {}
