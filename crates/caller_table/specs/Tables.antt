@@ -10,7 +10,7 @@ use Rattle.memc_proto.specs.declared.end.CallEnd.TheVariants as ends
 use Rattle.group_calls.specs.Log.{table_of}
 use Rattle.group_calls.specs.Turns.{CallName, entry_of}
 use Rattle.group_run.specs.World.{World, opening}
-use Rattle.front_end.specs.Calls.{Call, Made, Failed, Ways, Leads, ways_of}
+use Rattle.front_end.specs.Calls.{Call, Made, Failed, Ways, Leads}
 use Rattle.world_caller.specs.Callers.{GroupCaller, HasCalled, HasGone, IsOrdered}
 
 -- the caller of a connection: its group, whose calls it makes, and whether it takes orders that a process fail
@@ -19,7 +19,7 @@ Caller = GroupCaller
 
 -- what calls make of a group
 abbrev pub group_ways : Ways GroupCaller
-group_ways = ways_of HasCalled IsOrdered HasGone
+group_ways = record { made = HasCalled; failed = IsOrdered; kept = HasGone }
 
 -- the first caller of a group at its start, with orders taken that a process fail
 abbrev pub fresh : Dimensions → GroupCaller

@@ -4,26 +4,26 @@ use Rattle.edge_io.specs.Moving.{Appends}
 use Rattle.memc_proto.specs.declared.request.Request.{Request}
 use Rattle.front_end.specs.Answers.{Stand, IsAnswered, AreAnswered}
 use Rattle.front_end.specs.Calls.{Call, Ways, Leads}
-use Rattle.front_end.specs.Turns.{Turn, AreWhole, answer_text, calls_in, text_in, requests_in}
+use Rattle.front_end.specs.Turns.{Exchange, AreWhole, answer_text, calls_in, text_in, requests_in}
 
 leads-append : {C : Type 0} (ways : Ways C) (before middle after : C) (calls more : List Call) → Leads ways before calls middle → Leads ways middle more after → Leads ways before (calls ++ more) after
 leads-append ways before middle after [] more first then = subst (λ (c : _). Leads ways c more after) first then
 leads-append ways before middle after (call ∷ calls) more first then = (first.0, first.1, leads-append ways first.0 middle after calls more first.2 then)
 
-whole-append : (told : Option ℕ) (turns more : List Turn) → AreWhole told turns → AreWhole told more → AreWhole told (turns ++ more)
+whole-append : (told : Option ℕ) (turns more : List Exchange) → AreWhole told turns → AreWhole told more → AreWhole told (turns ++ more)
 whole-append told [] more first then = then
 whole-append told (turn ∷ turns) more first then = (first.0, whole-append told turns more first.1 then)
 
-calls_in-append : (turns more : List Turn) → calls_in (turns ++ more) ≡ calls_in turns ++ calls_in more
+calls_in-append : (turns more : List Exchange) → calls_in (turns ++ more) ≡ calls_in turns ++ calls_in more
 calls_in-append [] more = refl
 calls_in-append (turn ∷ turns) more = ap (λ (calls : List Call). turn.calls ++ calls) (calls_in-append turns more) ∙ sym (append_assoc turn.calls (calls_in turns) (calls_in more))
 
-text_in-append : (turns more : List Turn) → text_in (turns ++ more) ≡ text_in turns ++ text_in more
+text_in-append : (turns more : List Exchange) → text_in (turns ++ more) ≡ text_in turns ++ text_in more
 text_in-append [] more = refl
 text_in-append (turn ∷ turns) more =
     let text : List ℕ = answer_text turn.request turn.calls in ap (λ (bs : List ℕ). text ++ bs) (text_in-append turns more) ∙ sym (append_assoc text (text_in turns) (text_in more))
 
-requests_in-append : (turns more : List Turn) → requests_in (turns ++ more) ≡ requests_in turns ++ requests_in more
+requests_in-append : (turns more : List Exchange) → requests_in (turns ++ more) ≡ requests_in turns ++ requests_in more
 requests_in-append [] more = refl
 requests_in-append (turn ∷ turns) more = ap (λ (rs : List Request). turn.request ∷ rs) (requests_in-append turns more)
 

@@ -11,7 +11,7 @@ use Rattle.memc_proto.specs.declared.request.Request.{Request}
 use Rattle.memc_proto.specs.declared.request.Request.TheVariants as request
 use Rattle.front_end.specs.Calls.{Call, Ways, LeadsBy, Leads}
 use Rattle.front_end.specs.Faults.{StandsAt}
-use Rattle.front_end.specs.Turns.{Turn, Acts, IsMoment, IsCallOf, AreCallsOf, AreWhole, dues_of}
+use Rattle.front_end.specs.Turns.{Exchange, Acts, IsMoment, IsCallOf, AreCallsOf, AreWhole, dues_of}
 use Rattle.front_end.specs.Turns.{is_replied, key_text, answer_text, calls_in, text_in, requests_in}
 use Rattle.front_end.specs.declared.end.ConnectionFault.{ConnectionFault}
 
@@ -23,78 +23,79 @@ pub record Stand (C : Type 0) : Type 0 where
 abbrev pub stand : {C : Type 0} → C → List ℕ → Stand C
 stand caller held = record { caller = caller; held = held }
 
--- a call of this act was made, and ended so
-pub record IsMade {C : Type 0} (ways : Ways C) (told : Option ℕ) (before after : C) (asked : Act) (end : CallEnd) : Type 0 where
-  pub op : Asked
-  pub act_is : op.act ≡ asked
-  pub moment : IsMoment told op.moment
-  pub made : ways.made before op end after
-
--- a key of a get was asked, and the text of its call is written
-pub record IsKeyAnswered {C : Type 0} (ways : Ways C) (told : Option ℕ) (before after : Stand C) (with_cas : Bool) (key : List ℕ)
-    (replied : Bool) : Type 0 where
-  pub call : Call
-  pub is_call : IsCallOf told (Acts (Get key)) call
-  pub leads : LeadsBy ways before.caller call after.caller
-  pub bytes : Appends before.held after.held (key_text with_cas key call)
-  pub replied_is : replied ≡ is_replied call
-
--- a request was answered
-pub record IsAnswered {C : Type 0} (ways : Ways C) (told : Option ℕ) (before after : Stand C) (request : Request) : Type 0 where
-  pub calls : List Call
-  pub whole : AreCallsOf told true (dues_of request) calls
-  pub leads : Leads ways before.caller calls after.caller
-  pub bytes : Appends before.held after.held (answer_text request calls)
-
--- a fault came while a request was answered: it made the first of its calls, and the front of their text is written
-pub record IsBroken {C : Type 0} (ways : Ways C) (told : Option ℕ) (before after : Stand C) (fault : ConnectionFault) (request : Request) : Type 0 where
-  pub calls : List Call
-  pub first : AreCallsOf told false (dues_of request) calls
-  pub led : C
-  pub leads : Leads ways before.caller calls led
-  pub stands : StandsAt ways led after.caller fault
-  pub count : ℕ
-  pub bytes : Appends before.held after.held (take count (answer_text request calls))
-
--- what came of a request: it was answered, or a fault came while it was
-abbrev pub ComesOf : {C : Type 0} → Ways C → Option ℕ → Stand C → Stand C → Request → Result (Unit {0}) ConnectionFault → Type 0
-ComesOf ways told before after request result = MatchResult result (λ _. IsAnswered ways told before after request) (λ fault. IsBroken ways told before after fault request)
-
--- what came of the first of the keys that a get still asks
-abbrev pub ComesOfKey : {C : Type 0} → Ways C → Option ℕ → Stand C → Stand C → Bool → List ℕ → Result Bool ConnectionFault → Type 0
-ComesOfKey ways told before after with_cas key result =
-    MatchResult result (λ replied. IsKeyAnswered ways told before after with_cas key replied)
-    (λ fault. (keys : List (List ℕ)) → IsBroken ways told before after fault (request.Get (key ∷ keys) with_cas))
-
--- requests were answered in order, and behind their text this was written
-pub record AreAnswered {C : Type 0} (ways : Ways C) (told : Option ℕ) (before after : Stand C) (requests : List Request) (more : List ℕ) : Type 0 where
-  pub turns : List Turn
-  pub asked : requests_in turns ≡ requests
-  pub whole : AreWhole told turns
-  pub leads : Leads ways before.caller (calls_in turns) after.caller
-  pub bytes : Appends before.held after.held (text_in turns ++ more)
-
--- a fault came while one of the requests was answered, all before it being answered, the first at least
-pub record AreBroken {C : Type 0} (ways : Ways C) (told : Option ℕ) (before after : Stand C) (fault : ConnectionFault)
-    (first requests : List Request) : Type 0 where
-  pub next : List Request
-  pub request : Request
-  pub others : List Request
-  pub given : requests ≡ first ++ next ++ request ∷ others
-  pub middle : Stand C
-  pub answered : AreAnswered ways told before middle (first ++ next) []
-  pub broken : IsBroken ways told middle after fault request
-
--- what came of requests that are answered in order
-abbrev pub ComesOfAll : {C : Type 0} → Ways C → Option ℕ → Stand C → Stand C → List Request → Result (Unit {0}) ConnectionFault → Type 0
-ComesOfAll ways told before after requests result =
-    MatchResult result (λ _. AreAnswered ways told before after requests []) (λ fault. AreBroken ways told before after fault [] requests)
-
 -- what is written behind the answers: nothing, or at a line that is too long the front of its text
 abbrev pub IsClosing : List ℕ → List ℕ → Type 0
 IsClosing rest more = (more ≡ []) ⊎ (IsTooLong rest × ((count : ℕ) × (more ≡ take count too_long_text)))
 
--- a fault came while requests were answered, or behind their answers
-abbrev pub AreHalted : {C : Type 0} → Ways C → Option ℕ → Stand C → Stand C → ConnectionFault → List Request → List Request → List ℕ → Type 0
-AreHalted ways told before after fault first requests rest =
-    AreBroken ways told before after fault first requests ⊎ ((more : List ℕ) × IsClosing rest more × AreAnswered ways told before after requests more)
+module _ {C : Type 0} (ways : Ways C) (told : Option ℕ) where
+  -- a call of this act was made, and ended so
+  pub record IsMade (before after : C) (asked : Act) (end : CallEnd) : Type 0 where
+    pub op : Asked
+    pub act_is : op.act ≡ asked
+    pub moment : IsMoment told op.moment
+    pub made : ways.made before op end after
+
+  -- a key of a get was asked, and the text of its call is written
+  pub record IsKeyAnswered (before after : Stand C) (with_cas : Bool) (key : List ℕ)
+      (replied : Bool) : Type 0 where
+    pub call : Call
+    pub is_call : IsCallOf told (Acts (Get key)) call
+    pub leads : LeadsBy ways before.caller call after.caller
+    pub bytes : Appends before.held after.held (key_text with_cas key call)
+    pub replied_is : replied ≡ is_replied call
+
+  -- a request was answered
+  pub record IsAnswered (before after : Stand C) (request : Request) : Type 0 where
+    pub calls : List Call
+    pub whole : AreCallsOf told true (dues_of request) calls
+    pub leads : Leads ways before.caller calls after.caller
+    pub bytes : Appends before.held after.held (answer_text request calls)
+
+  -- a fault came while a request was answered: it made the first of its calls, and the front of their text is written
+  pub record IsBroken (before after : Stand C) (fault : ConnectionFault) (request : Request) : Type 0 where
+    pub calls : List Call
+    pub first : AreCallsOf told false (dues_of request) calls
+    pub led : C
+    pub leads : Leads ways before.caller calls led
+    pub stands : StandsAt ways led after.caller fault
+    pub count : ℕ
+    pub bytes : Appends before.held after.held (take count (answer_text request calls))
+
+  -- what came of a request: it was answered, or a fault came while it was
+  abbrev pub ComesOf : Stand C → Stand C → Request → Result (Unit {0}) ConnectionFault → Type 0
+  ComesOf before after request result = MatchResult result (λ _. IsAnswered before after request) (λ fault. IsBroken before after fault request)
+
+  -- what came of the first of the keys that a get still asks
+  abbrev pub ComesOfKey : Stand C → Stand C → Bool → List ℕ → Result Bool ConnectionFault → Type 0
+  ComesOfKey before after with_cas key result =
+      MatchResult result (λ replied. IsKeyAnswered before after with_cas key replied)
+      (λ fault. (keys : List (List ℕ)) → IsBroken before after fault (request.Get (key ∷ keys) with_cas))
+
+  -- requests were answered in order, and behind their text this was written
+  pub record AreAnswered (before after : Stand C) (requests : List Request) (more : List ℕ) : Type 0 where
+    pub turns : List Exchange
+    pub asked : requests_in turns ≡ requests
+    pub whole : AreWhole told turns
+    pub leads : Leads ways before.caller (calls_in turns) after.caller
+    pub bytes : Appends before.held after.held (text_in turns ++ more)
+
+  -- a fault came while one of the requests was answered, all before it being answered, the first at least
+  pub record AreBroken (before after : Stand C) (fault : ConnectionFault)
+      (first requests : List Request) : Type 0 where
+    pub next : List Request
+    pub request : Request
+    pub others : List Request
+    pub given : requests ≡ first ++ next ++ request ∷ others
+    pub middle : Stand C
+    pub answered : AreAnswered before middle (first ++ next) []
+    pub broken : IsBroken middle after fault request
+
+  -- what came of requests that are answered in order
+  abbrev pub ComesOfAll : Stand C → Stand C → List Request → Result (Unit {0}) ConnectionFault → Type 0
+  ComesOfAll before after requests result =
+      MatchResult result (λ _. AreAnswered before after requests []) (λ fault. AreBroken before after fault [] requests)
+
+  -- a fault came while requests were answered, or behind their answers
+  abbrev pub AreHalted : Stand C → Stand C → ConnectionFault → List Request → List Request → List ℕ → Type 0
+  AreHalted before after fault first requests rest =
+      AreBroken before after fault first requests ⊎ ((more : List ℕ) × IsClosing rest more × AreAnswered before after requests more)

@@ -25,6 +25,3 @@ LeadsBy ways before (Failed at keep end) after = ways.failed before at keep end 
 abbrev pub Leads : {C : Type 0} → Ways C → C → List Call → C → Type 0
 Leads ways before [] after = after ≡ before
 Leads {C} ways before (call ∷ calls) after = (next : C) × LeadsBy ways before call next × Leads ways next calls after
-
-abbrev pub ways_of : {C : Type 0} → (C → Asked → CallEnd → C → Type 0) → (C → ProcessId → ℕ → FailEnd → C → Type 0) → (C → C → Type 0) → Ways C
-ways_of made failed kept = record { made = made; failed = failed; kept = kept }

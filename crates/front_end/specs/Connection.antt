@@ -19,14 +19,6 @@ pub record IsOpen (read : List ℕ) (requests : List Request) (rest : List ℕ) 
   pub no_quit : list_any is_quit requests ≡ false
   pub short : ¬ (IsTooLong rest)
 
--- all requests read are answered, and the connection waits for more bytes
-pub record IsWaiting {C : Type 0} (ways : Ways C) (told : Option ℕ) (input input_now : Input) (before after : Stand C) (rest : List ℕ) : Type 0 where
-  pub read : List ℕ
-  pub consumed : Takes input input_now read
-  pub requests : List Request
-  pub is_open : IsOpen read requests rest
-  pub answered : AreAnswered ways told before after requests []
-
 -- a piece came to a connection that was open: before it the first requests were read, with it these requests and this rest
 pub record HasCome (input input_now : Input) (first requests : List Request) (rest : List ℕ) : Type 0 where
   pub front : List ℕ
@@ -36,32 +28,6 @@ pub record HasCome (input input_now : Input) (first requests : List Request) (re
   pub left_over : List ℕ
   pub is_open : IsOpen front first left_over
   pub reads : Reads (front ++ piece) requests rest
-
--- the piece that came last was answered as a whole, and behind the answers this was written
-pub record HasStopped {C : Type 0} (ways : Ways C) (told : Option ℕ) (input input_now : Input) (before after : Stand C) (more : List ℕ) : Type 0 where
-  pub first : List Request
-  pub requests : List Request
-  pub rest : List ℕ
-  pub came : HasCome input input_now first requests rest
-  pub answered : AreAnswered ways told before after requests more
-
--- a write failed while the piece that came last was answered: all requests before it are answered
-pub record HasHalted {C : Type 0} (ways : Ways C) (told : Option ℕ) (input input_now : Input) (before after : Stand C) : Type 0 where
-  pub first : List Request
-  pub requests : List Request
-  pub rest : List ℕ
-  pub came : HasCome input input_now first requests rest
-  pub halted : AreHalted ways told before after WriteFault first requests rest
-
--- there was no memory: for reading what was taken from the source, or for answering what was read
-pub record HasWanted {C : Type 0} (ways : Ways C) (told : Option ℕ) (input input_now : Input) (before after : Stand C) : Type 0 where
-  pub read : List ℕ
-  pub unread : List ℕ
-  pub consumed : Takes input input_now (read ++ unread)
-  pub requests : List Request
-  pub rest : List ℕ
-  pub reads : Reads read requests rest
-  pub halted : AreHalted ways told before after Want [] requests rest
 
 -- the end of a connection where its input ends with this rest
 abbrev pub IsEndAt : List ℕ → End → Type 0
@@ -75,19 +41,54 @@ IsEndAt rest Worn = ⊥
 abbrev pub longest_input : ℕ
 longest_input = 2 ^ 62
 
--- what stands at each end of a connection, and at each fault
-abbrev pub HasServed : {C : Type 0} → Ways C → Option ℕ → Input → Input → Stand C → Stand C → Result End ConnectionFault → Type 0
-HasServed ways told input input_now before after (Ok Quit) =
-    (stopped : HasStopped ways told input input_now before after []) × (list_any is_quit stopped.requests ≡ true)
-HasServed ways told input input_now before after (Ok LineTooLong) =
-    (stopped : HasStopped ways told input input_now before after too_long_text) × (list_any is_quit stopped.requests ≡ false) × IsTooLong stopped.rest
-HasServed ways told input input_now before after (Ok Ended) =
-    (waiting : IsWaiting ways told input input_now before after []) × (length waiting.read < longest_input) × IsEnded input_now
-HasServed ways told input input_now before after (Ok Cut) =
-    (rest : List ℕ) × (waiting : IsWaiting ways told input input_now before after rest) × (length waiting.read < longest_input) × IsEnded input_now × (rest ≢ [])
-HasServed ways told input input_now before after (Ok Worn) =
-    (rest : List ℕ) × (waiting : IsWaiting ways told input input_now before after rest) × (length waiting.read ≡ longest_input)
-HasServed ways told input input_now before after (Err ReadFault) =
-    (rest : List ℕ) × IsWaiting ways told input input_now before after rest
-HasServed ways told input input_now before after (Err WriteFault) = HasHalted ways told input input_now before after
-HasServed ways told input input_now before after (Err Want) = HasWanted ways told input input_now before after
+module _ {C : Type 0} (ways : Ways C) (told : Option ℕ) where
+  -- all requests read are answered, and the connection waits for more bytes
+  pub record IsWaiting (input input_now : Input) (before after : Stand C) (rest : List ℕ) : Type 0 where
+    pub read : List ℕ
+    pub consumed : Takes input input_now read
+    pub requests : List Request
+    pub is_open : IsOpen read requests rest
+    pub answered : AreAnswered ways told before after requests []
+
+  -- the piece that came last was answered as a whole, and behind the answers this was written
+  pub record HasStopped (input input_now : Input) (before after : Stand C) (more : List ℕ) : Type 0 where
+    pub first : List Request
+    pub requests : List Request
+    pub rest : List ℕ
+    pub came : HasCome input input_now first requests rest
+    pub answered : AreAnswered ways told before after requests more
+
+  -- a write failed while the piece that came last was answered: all requests before it are answered
+  pub record HasHalted (input input_now : Input) (before after : Stand C) : Type 0 where
+    pub first : List Request
+    pub requests : List Request
+    pub rest : List ℕ
+    pub came : HasCome input input_now first requests rest
+    pub halted : AreHalted ways told before after WriteFault first requests rest
+
+  -- there was no memory: for reading what was taken from the source, or for answering what was read
+  pub record HasWanted (input input_now : Input) (before after : Stand C) : Type 0 where
+    pub read : List ℕ
+    pub unread : List ℕ
+    pub consumed : Takes input input_now (read ++ unread)
+    pub requests : List Request
+    pub rest : List ℕ
+    pub reads : Reads read requests rest
+    pub halted : AreHalted ways told before after Want [] requests rest
+
+  -- what stands at each end of a connection, and at each fault
+  abbrev pub HasServed : Input → Input → Stand C → Stand C → Result End ConnectionFault → Type 0
+  HasServed input input_now before after (Ok Quit) =
+      (stopped : HasStopped input input_now before after []) × (list_any is_quit stopped.requests ≡ true)
+  HasServed input input_now before after (Ok LineTooLong) =
+      (stopped : HasStopped input input_now before after too_long_text) × (list_any is_quit stopped.requests ≡ false) × IsTooLong stopped.rest
+  HasServed input input_now before after (Ok Ended) =
+      (waiting : IsWaiting input input_now before after []) × (length waiting.read < longest_input) × IsEnded input_now
+  HasServed input input_now before after (Ok Cut) =
+      (rest : List ℕ) × (waiting : IsWaiting input input_now before after rest) × (length waiting.read < longest_input) × IsEnded input_now × (rest ≢ [])
+  HasServed input input_now before after (Ok Worn) =
+      (rest : List ℕ) × (waiting : IsWaiting input input_now before after rest) × (length waiting.read ≡ longest_input)
+  HasServed input input_now before after (Err ReadFault) =
+      (rest : List ℕ) × IsWaiting input input_now before after rest
+  HasServed input input_now before after (Err WriteFault) = HasHalted input input_now before after
+  HasServed input input_now before after (Err Want) = HasWanted input input_now before after

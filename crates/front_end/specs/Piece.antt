@@ -17,22 +17,23 @@ pub record HasTaken (kept : Kept) (input : List ℕ) (earlier : List Request) (p
   pub given : List Request
   pub has_read : HasRead kept (input ++ piece) (earlier ++ given)
 
--- the requests of the piece were answered, and it ended the connection or did not; or a fault came
-abbrev pub IsServed : {C : Type 0} → Ways C → Option ℕ → Stand C → Stand C → Kept → List ℕ → List Request → List ℕ
-    → Result (Option End) ConnectionFault → Type 0
-IsServed ways told before after kept input earlier piece (Ok None) =
-    (taken : HasTaken kept input earlier piece) × AreAnswered ways told before after taken.given []
-    × (list_any is_quit (earlier ++ taken.given) ≡ false) × ¬ (IsTooLong taken.has_read.rest)
-IsServed ways told before after kept input earlier piece (Ok (Some Quit)) =
-    (taken : HasTaken kept input earlier piece) × AreAnswered ways told before after taken.given [] × (list_any is_quit (earlier ++ taken.given) ≡ true)
-IsServed ways told before after kept input earlier piece (Ok (Some LineTooLong)) =
-    (taken : HasTaken kept input earlier piece) × AreAnswered ways told before after taken.given too_long_text
-    × (list_any is_quit (earlier ++ taken.given) ≡ false) × IsTooLong taken.has_read.rest
-IsServed ways told before after kept input earlier piece (Ok (Some Ended)) = ⊥
-IsServed ways told before after kept input earlier piece (Ok (Some Cut)) = ⊥
-IsServed ways told before after kept input earlier piece (Ok (Some Worn)) = ⊥
-IsServed ways told before after kept input earlier piece (Err ReadFault) = ⊥
-IsServed ways told before after kept input earlier piece (Err WriteFault) =
-    (taken : HasTaken kept input earlier piece) × AreHalted ways told before after WriteFault [] taken.given taken.has_read.rest
-IsServed ways told before after kept input earlier piece (Err Want) =
-    (after ≡ before) ⊎ ((taken : HasTaken kept input earlier piece) × AreHalted ways told before after Want [] taken.given taken.has_read.rest)
+module _ {C : Type 0} (ways : Ways C) (told : Option ℕ) where
+  -- the requests of the piece were answered, and it ended the connection or did not; or a fault came
+  abbrev pub IsServed : Stand C → Stand C → Kept → List ℕ → List Request → List ℕ
+      → Result (Option End) ConnectionFault → Type 0
+  IsServed before after kept input earlier piece (Ok None) =
+      (taken : HasTaken kept input earlier piece) × AreAnswered ways told before after taken.given []
+      × (list_any is_quit (earlier ++ taken.given) ≡ false) × ¬ (IsTooLong taken.has_read.rest)
+  IsServed before after kept input earlier piece (Ok (Some Quit)) =
+      (taken : HasTaken kept input earlier piece) × AreAnswered ways told before after taken.given [] × (list_any is_quit (earlier ++ taken.given) ≡ true)
+  IsServed before after kept input earlier piece (Ok (Some LineTooLong)) =
+      (taken : HasTaken kept input earlier piece) × AreAnswered ways told before after taken.given too_long_text
+      × (list_any is_quit (earlier ++ taken.given) ≡ false) × IsTooLong taken.has_read.rest
+  IsServed before after kept input earlier piece (Ok (Some Ended)) = ⊥
+  IsServed before after kept input earlier piece (Ok (Some Cut)) = ⊥
+  IsServed before after kept input earlier piece (Ok (Some Worn)) = ⊥
+  IsServed before after kept input earlier piece (Err ReadFault) = ⊥
+  IsServed before after kept input earlier piece (Err WriteFault) =
+      (taken : HasTaken kept input earlier piece) × AreHalted ways told before after WriteFault [] taken.given taken.has_read.rest
+  IsServed before after kept input earlier piece (Err Want) =
+      (after ≡ before) ⊎ ((taken : HasTaken kept input earlier piece) × AreHalted ways told before after Want [] taken.given taken.has_read.rest)

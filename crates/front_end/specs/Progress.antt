@@ -36,30 +36,31 @@ abbrev pub waiting_behind : ℕ → List Request → List Request
 waiting_behind n [] = []
 waiting_behind n (request ∷ others) = behind n request ∷ others
 
--- the first key of a get was answered by a reply, and the get of the others waits
-pub record IsKeyTaken {C : Type 0} (ways : Ways C) (told : Option ℕ) (before after : Stand C) (request next : Request) : Type 0 where
-  pub key : List ℕ
-  pub keys : List (List ℕ)
-  pub with_cas : Bool
-  pub request_is : request ≡ Get (key ∷ keys) with_cas
-  pub answered : IsKeyAnswered ways told before after with_cas key true
-  pub next_is : next ≡ Get keys with_cas
+module _ {C : Type 0} (ways : Ways C) (told : Option ℕ) where
+  -- the first key of a get was answered by a reply, and the get of the others waits
+  pub record IsKeyTaken (before after : Stand C) (request next : Request) : Type 0 where
+    pub key : List ℕ
+    pub keys : List (List ℕ)
+    pub with_cas : Bool
+    pub request_is : request ≡ Get (key ∷ keys) with_cas
+    pub answered : IsKeyAnswered ways told before after with_cas key true
+    pub next_is : next ≡ Get keys with_cas
 
--- what came of a step at a request: it was answered (true), or its first key was; or a fault came
-abbrev pub ComesOfStep : {C : Type 0} → Ways C → Option ℕ → Stand C → Stand C → Request → Request → Result Bool ConnectionFault → Type 0
-ComesOfStep ways told before after request next result =
-    MatchResult result (λ whole. MatchBool whole (IsAnswered ways told before after request) (IsKeyTaken ways told before after request next)) (λ fault. IsBroken ways told before after fault request)
+  -- what came of a step at a request: it was answered (true), or its first key was; or a fault came
+  abbrev pub ComesOfStep : Stand C → Stand C → Request → Request → Result Bool ConnectionFault → Type 0
+  ComesOfStep before after request next result =
+      MatchResult result (λ whole. MatchBool whole (IsAnswered ways told before after request) (IsKeyTaken before after request next)) (λ fault. IsBroken ways told before after fault request)
 
--- the first of the requests that waited was answered, or its first key was
-abbrev pub HasStepped : {C : Type 0} → Ways C → Option ℕ → Stand C → Stand C → List Request → List Request → Type 0
-HasStepped ways told before after [] now = ⊥
-HasStepped ways told before after (request ∷ others) now =
-    (IsAnswered ways told before after request × (now ≡ others)) ⊎ ((next : Request) × IsKeyTaken ways told before after request next × (now ≡ next ∷ others))
+  -- the first of the requests that waited was answered, or its first key was
+  abbrev pub HasStepped : Stand C → Stand C → List Request → List Request → Type 0
+  HasStepped before after [] now = ⊥
+  HasStepped before after (request ∷ others) now =
+      (IsAnswered ways told before after request × (now ≡ others)) ⊎ ((next : Request) × IsKeyTaken before after request next × (now ≡ next ∷ others))
 
--- a fault came at the first of the requests that waited
-abbrev pub BreaksAt : {C : Type 0} → Ways C → Option ℕ → Stand C → Stand C → ConnectionFault → List Request → Type 0
-BreaksAt ways told before after fault [] = ⊥
-BreaksAt ways told before after fault (request ∷ others) = IsBroken ways told before after fault request
+  -- a fault came at the first of the requests that waited
+  abbrev pub BreaksAt : Stand C → Stand C → ConnectionFault → List Request → Type 0
+  BreaksAt before after fault [] = ⊥
+  BreaksAt before after fault (request ∷ others) = IsBroken ways told before after fault request
 
 -- whether a connection of which all requests are answered ends, by its quits and the rest that was read, and what was written
 abbrev pub IsClosed : Bool → List ℕ → List ℕ → List ℕ → Result (Option End) ConnectionFault → Type 0

@@ -88,25 +88,25 @@ answer_text (Fail _ _) calls = fail_answer calls
 answer_text (Refused refusal) _ = refusal_text refusal
 
 -- a request that was answered, and the calls made for it
-pub record Turn : Type 0 where
+pub record Exchange : Type 0 where
   pub request : Request
   pub calls : List Call
 
 -- all calls that are due were made, in each turn
-abbrev pub AreWhole : Option ℕ → List Turn → Type 0
+abbrev pub AreWhole : Option ℕ → List Exchange → Type 0
 AreWhole told [] = ⊤
 AreWhole told (turn ∷ turns) = AreCallsOf told true (dues_of turn.request) turn.calls × AreWhole told turns
 
 -- the calls of turns, one after the other
-abbrev pub calls_in : List Turn → List Call
+abbrev pub calls_in : List Exchange → List Call
 calls_in [] = []
 calls_in (turn ∷ turns) = turn.calls ++ calls_in turns
 
 -- the text of turns
-abbrev pub text_in : List Turn → List ℕ
+abbrev pub text_in : List Exchange → List ℕ
 text_in [] = []
 text_in (turn ∷ turns) = answer_text turn.request turn.calls ++ text_in turns
 
 -- the requests of turns
-abbrev pub requests_in : List Turn → List Request
+abbrev pub requests_in : List Exchange → List Request
 requests_in turns = map (λ turn. turn.request) turns

@@ -3,7 +3,6 @@ ghost use Rattle.edge_io.specs.Moving.{Appends};
 ghost use Rattle.edge_io.specs.Writing.{HasWritten};
 ghost use Rattle.memc_proto.specs.Text.{end_text};
 ghost use Rattle.front_end.specs.Answers.{stand, ComesOf, ComesOfKey, IsMade};
-ghost use Rattle.front_end.specs.Calls.{ways_of};
 ghost use Rattle.front_end.specs.Faults.{HasSinkCause};
 ghost use Rattle.front_end.specs.Progress.{is_get, ComesOfStep};
 ghost use Rattle.front_end.specs.Turns.{is_reply, last_text};
@@ -27,9 +26,8 @@ pub(crate) fn answer_request<C: Caller, K: Sink, T: Clock>(
     request: &Request,
 ) -> Result<(), ConnectionFault>
     requires no_get { is_get request.now ≡ false }
-    ensures answer { ComesOf (ways_of C.made C.failed C.kept) (T.moment clock.now)
-        (stand caller.old (K.held sink.old)) (stand caller.new (K.held sink.new))
-        request.now result }
+    ensures answer { ComesOf C.ways (T.moment clock.now) (stand caller.old (K.held sink.old))
+        (stand caller.new (K.held sink.new)) request.now result }
     ensures cause { HasSinkCause (K.faults sink.old) (K.faults sink.new) result }
 {
     match request {
@@ -55,9 +53,8 @@ fn answer_change<C: Caller, K: Sink, T: Clock>(
     act: &Act,
     noreply: bool,
 ) -> Result<(), ConnectionFault>
-    ensures answer { ComesOf (ways_of C.made C.failed C.kept) (T.moment clock.now)
-        (stand caller.old (K.held sink.old)) (stand caller.new (K.held sink.new))
-        (Request.Change act.now noreply) result }
+    ensures answer { ComesOf C.ways (T.moment clock.now) (stand caller.old (K.held sink.old))
+        (stand caller.new (K.held sink.new)) (Request.Change act.now noreply) result }
     ensures cause { HasSinkCause (K.faults sink.old) (K.faults sink.new) result }
 {
     let end = ask(caller, clock, copy_of(act)?)?;
@@ -76,9 +73,9 @@ pub(crate) fn answer_first<C: Caller, K: Sink, T: Clock>(
     keys: &[Key],
     with_cas: bool,
 ) -> Result<bool, ConnectionFault>
-    ensures answer { ComesOfStep (ways_of C.made C.failed C.kept) (T.moment clock.now)
-        (stand caller.old (K.held sink.old)) (stand caller.new (K.held sink.new))
-        (Request.Get keys.now with_cas) (Request.Get (drop 1 keys.now) with_cas) result }
+    ensures answer { ComesOfStep C.ways (T.moment clock.now) (stand caller.old (K.held sink.old))
+        (stand caller.new (K.held sink.new)) (Request.Get keys.now with_cas) (Request.Get (drop 1 keys.now) with_cas)
+        result }
     ensures cause { HasSinkCause (K.faults sink.old) (K.faults sink.new) result }
 {
     let Some((key, others)) = keys.split_first() else {
@@ -102,9 +99,8 @@ fn answer_last_key<C: Caller, K: Sink, T: Clock>(
     key: &Key,
     with_cas: bool,
 ) -> Result<(), ConnectionFault>
-    ensures answer { ComesOf (ways_of C.made C.failed C.kept) (T.moment clock.now)
-        (stand caller.old (K.held sink.old)) (stand caller.new (K.held sink.new))
-        (Request.Get (key.now ∷ []) with_cas) result }
+    ensures answer { ComesOf C.ways (T.moment clock.now) (stand caller.old (K.held sink.old))
+        (stand caller.new (K.held sink.new)) (Request.Get (key.now ∷ []) with_cas) result }
     ensures cause { HasSinkCause (K.faults sink.old) (K.faults sink.new) result }
 {
     let end = ask(caller, clock, get_of(key)?)?;
@@ -139,9 +135,8 @@ fn answer_key<C: Caller, K: Sink, T: Clock>(
     key: &Key,
     with_cas: bool,
 ) -> Result<bool, ConnectionFault>
-    ensures answer { ComesOfKey (ways_of C.made C.failed C.kept) (T.moment clock.now)
-        (stand caller.old (K.held sink.old)) (stand caller.new (K.held sink.new))
-        with_cas key.now result }
+    ensures answer { ComesOfKey C.ways (T.moment clock.now) (stand caller.old (K.held sink.old))
+        (stand caller.new (K.held sink.new)) with_cas key.now result }
     ensures cause { HasSinkCause (K.faults sink.old) (K.faults sink.new) result }
 {
     let end = ask(caller, clock, get_of(key)?)?;
@@ -152,9 +147,8 @@ fn answer_key<C: Caller, K: Sink, T: Clock>(
 
 /// Makes a call at a moment of its own.
 fn ask<C: Caller, T: Clock>(caller: &mut C, clock: &T, act: Act) -> Result<CallEnd, AllocError>
-    ensures made { IfOk result (IsMade (ways_of C.made C.failed C.kept)
-        (T.moment clock.now) caller.old caller.new act) }
-    ensures want { OnErr result (C.kept caller.old caller.new) }
+    ensures made { IfOk result (IsMade C.ways (T.moment clock.now) caller.old caller.new act) }
+    ensures want { OnErr result (C.ways.kept caller.old caller.new) }
 {
     let op = Op::new(clock.now(), act);
     caller.call(&op)

@@ -1,6 +1,5 @@
 ghost use Rattle.std.specs.Prelude.{◌≡◌, [], OnOk};
 ghost use Rattle.front_end.specs.Answers.{stand, ComesOfAll};
-ghost use Rattle.front_end.specs.Calls.{ways_of};
 ghost use Rattle.front_end.specs.Faults.{HasSinkCause};
 
 use crate::caller::Caller;
@@ -17,8 +16,8 @@ pub(crate) fn answer_all<C: Caller, K: Sink, T: Clock>(
     clock: &T,
     connection: &mut Connection,
 ) -> Result<(), ConnectionFault>
-    ensures answer { ComesOfAll (ways_of C.made C.failed C.kept) (T.moment clock.now)
-        (stand caller.old (K.held sink.old)) (stand caller.new (K.held sink.new)) connection.old.waiting result }
+    ensures answer { ComesOfAll C.ways (T.moment clock.now) (stand caller.old (K.held sink.old))
+        (stand caller.new (K.held sink.new)) connection.old.waiting result }
     ensures none { OnOk result (connection.new.waiting ≡ []) }
     ensures kept { connection.new.kept ≡ connection.old.kept }
     ensures quits { connection.new.quits ≡ connection.old.quits }

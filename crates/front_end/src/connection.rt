@@ -52,7 +52,6 @@ impl Model for Connection {
 impl Connection {
     ghost use Rattle.std.specs.Prelude.{◌≡◌, ◌≢◌, ◌+◌, ◌≤◌, ◌↔◌, ◌^◌, IfOk, OnOk, IfErr, OnErr, IsTrue};
     ghost use Rattle.front_end.specs.Answers.{stand};
-    ghost use Rattle.front_end.specs.Calls.{ways_of};
     ghost use Rattle.front_end.specs.Piece.{IsServed};
     ghost use Rattle.front_end.specs.Progress.{HasStepped, BreaksAt};
 
@@ -89,6 +88,8 @@ impl Connection {
     }
 
     /// Takes the next piece of the input, once no request waits: those that are whole with it wait from then on.
+    ///
+    /// `AllocError`: nothing of the piece was taken.
     pub fn take(&mut self, piece: &[u8]) -> Result<(), AllocError>
         requires idle { self.old.waiting ≡ [] }
         requires room { self.old.count + length piece.now ≤ 2 ^ 62 }
@@ -117,9 +118,9 @@ impl Connection {
         clock: &T,
     ) -> Result<(), ConnectionFault>
         requires some { self.old.waiting ≢ [] }
-        ensures answer { OnOk result (HasStepped (ways_of C.made C.failed C.kept) (T.moment clock.now)
-            (stand caller.old (K.held sink.old)) (stand caller.new (K.held sink.new)) self.old.waiting self.new.waiting) }
-        ensures broken { IfErr result (λ fault. BreaksAt (ways_of C.made C.failed C.kept) (T.moment clock.now)
+        ensures answer { OnOk result (HasStepped C.ways (T.moment clock.now) (stand caller.old (K.held sink.old))
+            (stand caller.new (K.held sink.new)) self.old.waiting self.new.waiting) }
+        ensures broken { IfErr result (λ fault. BreaksAt C.ways (T.moment clock.now)
             (stand caller.old (K.held sink.old)) (stand caller.new (K.held sink.new)) fault self.old.waiting) }
         ensures stays { OnErr result (self.new ≡ self.old) }
         ensures kept { self.new.kept ≡ self.old.kept }
@@ -149,6 +150,7 @@ impl Connection {
     }
 
     /// How the connection ends by what was read, if it does, once all of it is answered: a line that is too long is told.
+    /// A fault comes of the sink alone.
     pub fn close<K: Sink>(&self, sink: &mut K) -> Result<Option<End>, ConnectionFault>
         ensures closed { (input : List ℕ) (requests : List Request) → (read : HasRead self.now.kept input requests)
             → list_any is_quit requests ≡ self.now.quits

@@ -2,7 +2,6 @@ ghost use Rattle.std.specs.Prelude.{◌≡◌, [], length};
 ghost use Rattle.edge_io.specs.Faults.{HasCauseOf};
 ghost use Rattle.memc_proto.specs.Reader.{HasRead};
 ghost use Rattle.front_end.specs.Answers.{stand};
-ghost use Rattle.front_end.specs.Calls.{ways_of};
 ghost use Rattle.front_end.specs.Connection.{HasServed};
 
 use crate::caller::Caller;
@@ -12,7 +11,11 @@ use crate::piece::serve_piece;
 use edge_io::{Clock, Sink, Source};
 use std::alloc::Global;
 
-/// Serves one connection to its end.
+/// Serves one connection to its end: `Quit`, `Ended` (the input ended between two requests), `Cut` (inside one),
+/// `LineTooLong`, or `Worn` (2^62 bytes).
+///
+/// `ReadFault`, `WriteFault`: the source or the sink counted a fault. `Want`: there was no memory. What was answered until
+/// then is told by the contract.
 pub fn serve_connection<C: Caller, S: Source, K: Sink, T: Clock>(
     alloc: Global,
     caller: &mut C,
@@ -20,8 +23,7 @@ pub fn serve_connection<C: Caller, S: Source, K: Sink, T: Clock>(
     sink: &mut K,
     clock: &T,
 ) -> Result<End, ConnectionFault>
-    ensures served { HasServed (ways_of C.made C.failed C.kept) (T.moment clock.now)
-        (S.input source.old) (S.input source.new)
+    ensures served { HasServed C.ways (T.moment clock.now) (S.input source.old) (S.input source.new)
         (stand caller.old (K.held sink.old)) (stand caller.new (K.held sink.new)) result }
     ensures read { HasCauseOf (S.faults source.old) (S.faults source.new) result ConnectionFault.ReadFault }
     ensures write { HasCauseOf (K.faults sink.old) (K.faults sink.new) result ConnectionFault.WriteFault }
@@ -53,8 +55,7 @@ fn serve_pieces<C: Caller, S: Source, K: Sink, T: Clock>(
     requires fresh { HasRead connection.old.kept [] [] }
     requires idle { connection.old.waiting ≡ [] }
     requires unread { connection.old.count ≡ 0 }
-    ensures served { HasServed (ways_of C.made C.failed C.kept) (T.moment clock.now)
-        (S.input source.old) (S.input source.new)
+    ensures served { HasServed C.ways (T.moment clock.now) (S.input source.old) (S.input source.new)
         (stand caller.old (K.held sink.old)) (stand caller.new (K.held sink.new)) result }
     ensures read { HasCauseOf (S.faults source.old) (S.faults source.new) result ConnectionFault.ReadFault }
     ensures write { HasCauseOf (K.faults sink.old) (K.faults sink.new) result ConnectionFault.WriteFault }

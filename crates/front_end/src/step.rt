@@ -1,6 +1,5 @@
 ghost use Rattle.std.specs.Prelude.{◌≡◌, ◌≢◌, ◌+◌, ◌<◌, ◌^◌, [], drop, false, IfOk};
 ghost use Rattle.front_end.specs.Answers.{stand};
-ghost use Rattle.front_end.specs.Calls.{ways_of};
 ghost use Rattle.front_end.specs.Faults.{HasSinkCause};
 ghost use Rattle.front_end.specs.Progress.{behind, ComesOfStep};
 
@@ -22,9 +21,8 @@ pub(crate) fn answer_at<C: Caller, K: Sink, T: Clock>(
     request: &Request,
     answered: usize,
 ) -> Result<bool, ConnectionFault>
-    ensures answer { ComesOfStep (ways_of C.made C.failed C.kept) (T.moment clock.now)
-        (stand caller.old (K.held sink.old)) (stand caller.new (K.held sink.new))
-        (behind answered request.now) (behind (answered + 1) request.now) result }
+    ensures answer { ComesOfStep C.ways (T.moment clock.now) (stand caller.old (K.held sink.old))
+        (stand caller.new (K.held sink.new)) (behind answered request.now) (behind (answered + 1) request.now) result }
     ensures fits { IfOk result (λ whole. whole ≡ false → answered + 1 < 2 ^ 64) }
     ensures cause { HasSinkCause (K.faults sink.old) (K.faults sink.new) result }
 {

@@ -23,6 +23,8 @@ struct Accepted<'a, L> {
 /// Serves the connections of a listener until `connections` of them were accepted, where that isn't 0, or the
 /// listener says that none comes. While fewer than `workers` are being served a thread of its own serves the next;
 /// else, or where no thread can be made, the accepting thread does. It returns once all are served.
+///
+/// `AcceptFault`: the listener counted a fault; those that were accepted before are served.
 pub fn serve_all<R: Threads + Wait + Sync, L: Listener, P: Port, G: Gate, T: Clock>(
     rt: &R,
     alloc: Global,

@@ -2,7 +2,6 @@ ghost use Rattle.std.specs.Prelude.{◌≡◌, ◌≢◌, ◌≤◌, ◌^◌, �
 ghost use Rattle.edge_io.specs.Faults.{Rose};
 ghost use Rattle.edge_io.specs.Moving.{Input};
 ghost use Rattle.memc_proto.specs.Reader.{HasRead};
-ghost use Rattle.front_end.specs.Calls.{ways_of};
 ghost use Rattle.ready_client.specs.Coming.{end_by, Comes};
 
 use crate::step::{Step, advance};
@@ -70,9 +69,9 @@ impl<S: TryStream> Client<S> {
     ) -> Turn
         requires room { length room.old ≡ 65536 }
         ensures comes { (input : Input) (before : List ℕ)
-            → Comes (ways_of C.made C.failed C.kept) (T.moment clock.now) input (S.input self.old.stream) before
+            → Comes C.ways (T.moment clock.now) input (S.input self.old.stream) before
             (S.held self.old.stream ++ self.old.outbox) self.old.connection self.old.end
-            → Comes (ways_of C.made C.failed C.kept) (T.moment clock.now) input (S.input self.new.stream) before
+            → Comes C.ways (T.moment clock.now) input (S.input self.new.stream) before
             (S.held self.new.stream ++ self.new.outbox) self.new.connection self.new.end }
         ensures over { result ≡ Turn.Over
             → ((self.new.end ≢ None) × (self.new.outbox ≡ [])) ⊎ Rose (S.faults self.old.stream) (S.faults self.new.stream) }
@@ -125,9 +124,9 @@ impl<S: TryStream> Client<S> {
         requires none { self.old.end ≡ None }
         requires room { length room.old ≡ 65536 }
         ensures comes { (input : Input) (before : List ℕ)
-            → Comes (ways_of C.made C.failed C.kept) (T.moment clock.now) input (S.input self.old.stream) before
+            → Comes C.ways (T.moment clock.now) input (S.input self.old.stream) before
             (S.held self.old.stream ++ self.old.outbox) self.old.connection self.old.end
-            → Comes (ways_of C.made C.failed C.kept) (T.moment clock.now) input (S.input self.new.stream) before
+            → Comes C.ways (T.moment clock.now) input (S.input self.new.stream) before
             (S.held self.new.stream ++ self.new.outbox) self.new.connection self.new.end }
         ensures later { S.faults self.old.stream ≤ S.faults self.new.stream }
         ensures room { length room.new ≡ 65536 }

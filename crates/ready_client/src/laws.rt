@@ -1,7 +1,6 @@
 ghost use Rattle.std.specs.Prelude.{◌≡◌, ◌++◌, ℕ, List, Option, [], None};
 ghost use Rattle.edge_io.specs.Moving.{Input};
 ghost use Rattle.memc_proto.specs.Reader.{HasRead};
-ghost use Rattle.front_end.specs.Calls.{ways_of};
 ghost use Rattle.front_end.specs.Progress.{Progress};
 ghost use Rattle.ready_client.specs.Coming.{Comes};
 
@@ -11,5 +10,5 @@ use front_end::Caller;
 pub fn begins<C: Caller>()
     ensures { (told : Option ℕ) (input : Input) (held : List ℕ) (progress : Progress)
         → HasRead progress.kept [] [] → progress.waiting ≡ [] → progress.count ≡ 0
-        → Comes (ways_of C.made C.failed C.kept) told input input held (held ++ []) progress None }
+        → Comes C.ways told input input held (held ++ []) progress None }
 {}

@@ -1,6 +1,5 @@
 ghost use Rattle.std.specs.Prelude.{◌≡◌, ◌≢◌, ◌+◌, ◌≤◌, ◌^◌, ◌++◌, ℕ, List, Option, [], None, length};
 ghost use Rattle.edge_io.specs.Moving.{Input, Takes};
-ghost use Rattle.front_end.specs.Calls.{ways_of};
 ghost use Rattle.ready_client.specs.Coming.{by_close, end_by, Comes, GoesOnApart, IsUnderWayApart};
 
 use edge_io::{Clock, Failed};
@@ -36,9 +35,9 @@ pub(crate) fn advance<C: Caller, S: TryStream, T: Clock>(
     requires room { length room.old ≡ 65536 }
     requires within { connection.old.count ≤ 2 ^ 62 }
     ensures comes { (input : Input) (before : List ℕ)
-        → Comes (ways_of C.made C.failed C.kept) (T.moment clock.now) input (S.input stream.old) before
+        → Comes C.ways (T.moment clock.now) input (S.input stream.old) before
         (S.held stream.old ++ outbox.old) connection.old None
-        → Comes (ways_of C.made C.failed C.kept) (T.moment clock.now) input (S.input stream.new) before
+        → Comes C.ways (T.moment clock.now) input (S.input stream.new) before
         (S.held stream.new ++ outbox.new) connection.new (end_by result) }
     ensures within { connection.new.count ≤ 2 ^ 62 }
     ensures later { S.faults stream.old ≤ S.faults stream.new }
@@ -61,9 +60,9 @@ fn answer<C: Caller, T: Clock>(
 ) -> Result<Step, ConnectionFault>
     requires some { connection.old.waiting ≢ [] }
     ensures comes { (input input_now : Input) (before sent : List ℕ)
-        → IsUnderWayApart (ways_of C.made C.failed C.kept) (T.moment clock.now) input input_now before
+        → IsUnderWayApart C.ways (T.moment clock.now) input input_now before
         (sent ++ outbox.old) connection.old
-        → Comes (ways_of C.made C.failed C.kept) (T.moment clock.now) input input_now before
+        → Comes C.ways (T.moment clock.now) input input_now before
         (sent ++ outbox.new) connection.new (end_by result) }
     ensures count { connection.new.count ≡ connection.old.count }
 {
@@ -84,9 +83,9 @@ fn read<C: Caller, S: TryStream>(
     requires within { connection.old.count ≤ 2 ^ 62 }
     requires room { length room.old ≡ 65536 }
     ensures comes { (told : Option ℕ) (input : Input) (before : List ℕ)
-        → GoesOnApart (ways_of C.made C.failed C.kept) told input (S.input stream.old) before
+        → GoesOnApart C.ways told input (S.input stream.old) before
         (S.held stream.old ++ outbox.old) connection.old
-        → Comes (ways_of C.made C.failed C.kept) told input (S.input stream.new) before
+        → Comes C.ways told input (S.input stream.new) before
         (S.held stream.new ++ outbox.new) connection.new (end_by result) }
     ensures within { connection.new.count ≤ 2 ^ 62 }
     ensures later { S.faults stream.old ≤ S.faults stream.new }
@@ -115,10 +114,10 @@ fn take<C: Caller>(
     requires room { connection.old.count + length piece.now ≤ 2 ^ 62 }
     requires short { length piece.now ≤ 65536 }
     ensures comes { (told : Option ℕ) (input input_then input_now : Input) (before sent : List ℕ)
-        → GoesOnApart (ways_of C.made C.failed C.kept) told input input_then before
+        → GoesOnApart C.ways told input input_then before
         (sent ++ outbox.old) connection.old
         → Takes input_then input_now piece.now
-        → Comes (ways_of C.made C.failed C.kept) told input input_now before
+        → Comes C.ways told input input_now before
         (sent ++ outbox.new) connection.new (end_by result) }
     ensures within { connection.new.count ≤ 2 ^ 62 }
 {
@@ -131,9 +130,9 @@ fn take<C: Caller>(
 /// Closes a connection that has nothing to answer any more, if what was read ends it.
 fn go_on<C: Caller>(connection: &Connection, outbox: &mut Outbox) -> Result<Step, ConnectionFault>
     ensures comes { (told : Option ℕ) (input input_now : Input) (before sent : List ℕ)
-        → IsUnderWayApart (ways_of C.made C.failed C.kept) told input input_now before
+        → IsUnderWayApart C.ways told input input_now before
         (sent ++ outbox.old) connection.now
-        → Comes (ways_of C.made C.failed C.kept) told input input_now before
+        → Comes C.ways told input input_now before
         (sent ++ outbox.new) connection.now (end_by result) }
 {
     if connection.has_waiting() {

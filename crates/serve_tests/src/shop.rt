@@ -55,11 +55,7 @@ pub struct Till<'t, R> {
 impl<R: Wait> Caller for Till<'_, R> {
     ghost use Rattle.std.specs.Prelude.{⊤};
 
-    ghost made = { λ _ _ _ _. ⊤ };
-
-    ghost failed = { λ _ _ _ _ _. ⊤ };
-
-    ghost kept = { λ _ _. ⊤ };
+    ghost ways = { record { made = λ _ _ _ _. ⊤; failed = λ _ _ _ _ _. ⊤; kept = λ _ _. ⊤ } };
 
     fn call(&mut self, op: &Op) -> Result<CallEnd, AllocError> {
         let mut table = self.table.lock(&self.rt);

@@ -66,11 +66,7 @@ impl<'a> StageCaller<'a> {
 impl<'a> Caller for StageCaller<'a> {
     ghost use Rattle.stage_caller.specs.Ordering.{HasCalled, HasGone, HasMadeNone, IsOrdered};
 
-    ghost made = { HasCalled };
-
-    ghost failed = { IsOrdered };
-
-    ghost kept = { HasGone };
+    ghost ways = { record { made = HasCalled; failed = IsOrdered; kept = HasGone } };
 
     fn call(&mut self, op: &Op) -> Result<CallEnd, AllocError> {
         make_call(self.stage, &mut self.seat, op, Phase::Asks)

@@ -57,11 +57,7 @@ impl Caller for WorldCaller {
     ghost use Rattle.std.specs.Prelude.{◌≡◌, IfOk, OnErr};
     ghost use Rattle.world_caller.specs.Callers.{HasCalled, HasGone, IsOrdered};
 
-    ghost made = { HasCalled };
-
-    ghost failed = { IsOrdered };
-
-    ghost kept = { HasGone };
+    ghost ways = { record { made = HasCalled; failed = IsOrdered; kept = HasGone } };
 
     fn call(&mut self, op: &Op) -> Result<CallEnd, AllocError> {
         make_call(&mut self.world, self.caller, op)
