@@ -22,7 +22,7 @@ use Rattle.cluster_run.specs.declared.fault.ClusterFault.TheVariants.{BadLayout,
 use Rattle.cluster_run.proofs.Leading.{Leads, led-on, opened}
 use Rattle.cluster_run.proofs.Promises.{logged-all, scripts_keep_promises}
 use Rattle.cluster_run.proofs.Running.{GoesOn, line-leads, line-opens}
-use Rattle.cluster_play.specs.Doing.{AreLight, HasDone, IsReady, IsReadyFor, log_len, most_of_a_line}
+use Rattle.cluster_play.specs.Doing.{AreLight, HasDone, ClusterGoesOn, IsReadyFor, log_len, most_of_a_line}
 use Rattle.cluster_play.specs.Language.{cluster_scripts, told_at}
 
 -- a line that goes on
@@ -73,7 +73,7 @@ leads-log c d turns leads =
 
 -- what a line leaves
 record Left (n : ℕ) (before now : Option ClusterPlay) (turns : List ClusterTurn) : Type 0 where
-  ready : IsReady (n + 1) now
+  ready : ClusterGoesOn (n + 1) now
   logged : log_len now ≡ log_len before + many turns
 
 -- the opening cluster has made no event
@@ -85,17 +85,17 @@ opening-light plan n j low =
 
 opens-left : (n : ℕ) (now : Option ClusterPlay) (turns : List ClusterTurn) → turns ≡ [] → (now ≡ None) ⊎ ((plan : Plan) × IsPlan plan × (now ≡ Some (record { cluster = opening_of plan; moment = 0 }))) → Left n None now turns
 opens-left n now turns quiet (inl none) = record {
-  ready = subst (IsReady (n + 1)) (sym none) tt;
+  ready = subst (ClusterGoesOn (n + 1)) (sym none) tt;
   logged = let here = ap log_len none in let silent = ap many quiet in omega (arith, here, silent);
 }
 opens-left n now turns quiet (inr (plan, limits, some)) = record {
-  ready = subst (IsReady (n + 1)) (sym some) (record { plan = plan; led = opened plan limits; light = opening-light plan ((n + 1) * most_of_a_line) });
+  ready = subst (ClusterGoesOn (n + 1)) (sym some) (record { plan = plan; led = opened plan limits; light = opening-light plan ((n + 1) * most_of_a_line) });
   logged = let here = ap log_len some in let silent = ap many quiet in omega (arith, here, silent);
 }
 
 goes-left : (n : ℕ) (p : ClusterPlay) (now : Option ClusterPlay) (turns : List ClusterTurn) → (ready : IsReadyFor (n * most_of_a_line) p.cluster) → GoesOn ready.plan p.cluster now turns → Left n (Some p) now turns
 goes-left n p now turns ready on = record {
-  ready = subst (IsReady (n + 1)) (sym on.is) (record {
+  ready = subst (ClusterGoesOn (n + 1)) (sym on.is) (record {
     plan = ready.plan;
     led = led-on ready.plan p.cluster on.play.cluster turns ready.led on.leads;
     light = λ j low. (let more = on.light j low in let light = ready.light j low in omega (arith, light, more));
@@ -103,13 +103,13 @@ goes-left n p now turns ready on = record {
   logged = ap log_len on.is ∙ leads-log p.cluster on.play.cluster turns on.leads;
 }
 
-left : (n : ℕ) (before now : Option ClusterPlay) (bytes text : List ℕ) → IsReady n before → (w : Went before now bytes text) → Left n before now w.turns
+left : (n : ℕ) (before now : Option ClusterPlay) (bytes text : List ℕ) → ClusterGoesOn n before → (w : Went before now bytes text) → Left n before now w.turns
 left n None now bytes text ready w = let opens = line-opens bytes now w.turns text w.next in opens-left n now w.turns opens.quiet opens.is
 left n (Some p) now bytes text ready w = goes-left n p now w.turns ready (line-leads ready.plan p bytes now w.turns text ready.led w.next)
 
 -- what a cluster's player tells
 abbrev pub tells : Telling (Option ClusterPlay)
-tells = treating.tells next_of BadLine told_at log_len many IsReady
+tells = treating.tells next_of BadLine told_at log_len many ClusterGoesOn
 
 tells-refusal : (n : ℕ) (bad : LayoutField) → IsRefusal (told_at n (BadLayout bad))
 tells-refusal n field.Groups = tt
@@ -117,17 +117,17 @@ tells-refusal n field.Nodes = tt
 tells-refusal n (field.Shape f) = tt
 
 module _ (n : ℕ) (before now : Option ClusterPlay) (bytes : List ℕ) where
-  pub treated-on : (text : List ℕ) → IsReady n before → HasDone before (next_of before bytes) now (Ok (Some text)) → HasTreatedLine tells n before now bytes (Ok (Some text))
+  pub treated-on : (text : List ℕ) → ClusterGoesOn n before → HasDone before (next_of before bytes) now (Ok (Some text)) → HasTreatedLine tells n before now bytes (Ok (Some text))
   treated-on text ready done =
       let on : Went before now bytes text = went before now bytes text done in
       let behind : Left n before now on.turns = left n before now bytes text ready on in
-      treating.goes-on next_of BadLine told_at log_len many IsReady n before now bytes on.turns text on.next (many-append on.turns) behind.logged behind.ready
+      treating.goes-on next_of BadLine told_at log_len many ClusterGoesOn n before now bytes on.turns text on.next (many-append on.turns) behind.logged behind.ready
 
   pub treated-last : HasDone before (next_of before bytes) now (Ok None) → HasTreatedLine tells n before now bytes (Ok None)
   treated-last done =
       let end = ended before (next_of before bytes) now done in (
-        treating.ends-at next_of BadLine told_at log_len many IsReady n before bytes end.0,
-        treating.ends-entries next_of BadLine told_at log_len many IsReady before now bytes end.0 end.1,
+        treating.ends-at next_of BadLine told_at log_len many ClusterGoesOn n before bytes end.0,
+        treating.ends-entries next_of BadLine told_at log_len many ClusterGoesOn before now bytes end.0 end.1,
       )
 
   pub treated-refused : (cause : ClusterFault) → HasDone before (next_of before bytes) now (Err cause) → HasTreatedLine tells n before now bytes (Err (told_at n cause))
@@ -135,11 +135,11 @@ module _ (n : ℕ) (before now : Option ClusterPlay) (bytes : List ℕ) where
   treated-refused BadLine done = which (refused before (next_of before bytes) now BadLine done) where
     which : (BadLine ≡ Want) ⊎ (next_of before bytes ≡ Refused BadLine) → HasTreatedLine tells n before now bytes (Err (told_at n BadLine))
     which (inl want) = absurd (cc want)
-    which (inr next) = inr (tt, treating.refused-at next_of BadLine told_at log_len many IsReady n before bytes BadLine next)
+    which (inr next) = inr (tt, treating.refused-at next_of BadLine told_at log_len many ClusterGoesOn n before bytes BadLine next)
   treated-refused (BadLayout bad) done = which (refused before (next_of before bytes) now (BadLayout bad) done) where
     which : (BadLayout bad ≡ Want) ⊎ (next_of before bytes ≡ Refused (BadLayout bad)) → HasTreatedLine tells n before now bytes (Err (told_at n (BadLayout bad)))
     which (inl want) = absurd (cc want)
-    which (inr next) = inr (tells-refusal n bad, treating.refused-at next_of BadLine told_at log_len many IsReady n before bytes (BadLayout bad) next)
+    which (inr next) = inr (tells-refusal n bad, treating.refused-at next_of BadLine told_at log_len many ClusterGoesOn n before bytes (BadLayout bad) next)
 
 -- a script of which all is done keeps its promises
 told-done : (n : ℕ) (cause : ClusterFault) → ¬ (told_at n cause ≡ status.Done)

@@ -24,9 +24,9 @@ pub record IsReadyFor (n : ℕ) (c : Cluster) : Type 0 where
   pub light : AreLight n plan.groups c
 
 -- a line of this number may come
-abbrev pub IsReady : ℕ → Option ClusterPlay → Type 0
-IsReady n None = ⊤
-IsReady n (Some p) = IsReadyFor (n * most_of_a_line) p.cluster
+abbrev pub ClusterGoesOn : ℕ → Option ClusterPlay → Type 0
+ClusterGoesOn n None = ⊤
+ClusterGoesOn n (Some p) = IsReadyFor (n * most_of_a_line) p.cluster
 
 -- how many entries the groups have logged
 abbrev pub log_len : Option ClusterPlay → ℕ

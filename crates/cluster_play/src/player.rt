@@ -39,7 +39,7 @@ impl Player for ClusterPlayer {
     ghost use Rattle.scenario_play.specs.Status.{told_of};
     ghost use Rattle.cluster_run.specs.Playing.{log_of, next_of};
     ghost use Rattle.cluster_run.specs.declared.fault.ClusterFault.TheVariants.{BadLine};
-    ghost use Rattle.cluster_play.specs.Doing.{IsReady, log_len};
+    ghost use Rattle.cluster_play.specs.Doing.{ClusterGoesOn, log_len};
     ghost use Rattle.cluster_play.specs.Language.{told_at};
 
     ghost text = { λ play lines. text_in next_of play lines };
@@ -48,7 +48,7 @@ impl Player for ClusterPlayer {
 
     ghost entries = { λ play lines. log_len play + length (log_of (turns_in next_of play lines)) };
 
-    ghost ready = { IsReady };
+    ghost ready = { ClusterGoesOn };
 
     fn treat(
         &mut self,

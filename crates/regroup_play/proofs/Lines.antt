@@ -19,7 +19,7 @@ use Rattle.regroup_run.specs.Script.{first_fault}
 use Rattle.regroup_run.proofs.Leading as leading
 use Rattle.regroup_run.proofs.Promises.{scripts_keep_promises}
 use Rattle.regroup_run.proofs.Running as running
-use Rattle.regroup_play.specs.Doing.{HasDone, IsReady, IsReadyFor, end_in, log_len}
+use Rattle.regroup_play.specs.Doing.{HasDone, ErasGoOn, IsReadyFor, end_in, log_len}
 use Rattle.regroup_play.specs.Language.{era_scripts}
 
 -- deeds that led to eras, from their first shape
@@ -57,37 +57,37 @@ refused before Ends now BadLine done = absurd done
 refused before Ends now (BadShape bad) done = absurd done
 
 -- the script may go on
-opens-ready : (now : Option EraPlay) (deeds : List Deed) (text : List ℕ) → running.Opens now deeds text → IsReady now
+opens-ready : (now : Option EraPlay) (deeds : List Deed) (text : List ℕ) → running.Opens now deeds text → ErasGoOn now
 opens-ready now deeds text opens = by opens.is where
-  by : (now ≡ None) ⊎ ((s : Dimensions) × IsShape s × (now ≡ Some (record { eras = first_era (opening s); moment = 0 }))) → IsReady now
-  by (inl none) = subst IsReady (sym none) tt
-  by (inr (s, limits, some)) = subst IsReady (sym some) (record { led = leading.is-led s (first_era (opening s)) (leading.opened s limits); moment = omega arith })
+  by : (now ≡ None) ⊎ ((s : Dimensions) × IsShape s × (now ≡ Some (record { eras = first_era (opening s); moment = 0 }))) → ErasGoOn now
+  by (inl none) = subst ErasGoOn (sym none) tt
+  by (inr (s, limits, some)) = subst ErasGoOn (sym some) (record { led = leading.is-led s (first_era (opening s)) (leading.opened s limits); moment = omega arith })
 
-goes-ready : (p : EraPlay) (now : Option EraPlay) (deeds : List Deed) → IsReadyFor p → running.GoesOn p now deeds → IsReady now
+goes-ready : (p : EraPlay) (now : Option EraPlay) (deeds : List Deed) → IsReadyFor p → running.GoesOn p now deeds → ErasGoOn now
 goes-ready p now deeds ready on =
-    subst IsReady (sym on.is) (record { led = leading.is-led ready.led.s on.play.eras (leading.led-on ready.led.s p.eras on.play.eras deeds (led-to p.eras ready.led) on.leads); moment = on.moment })
+    subst ErasGoOn (sym on.is) (record { led = leading.is-led ready.led.s on.play.eras (leading.led-on ready.led.s p.eras on.play.eras deeds (led-to p.eras ready.led) on.leads); moment = on.moment })
 
-ready-on : (before now : Option EraPlay) (bytes text : List ℕ) → IsReady before → Went before now bytes text → IsReady now
+ready-on : (before now : Option EraPlay) (bytes text : List ℕ) → ErasGoOn before → Went before now bytes text → ErasGoOn now
 ready-on None now bytes text ready w = opens-ready now w.deeds text (running.line-opens bytes now w.deeds text w.next)
 ready-on (Some p) now bytes text ready w = goes-ready p now w.deeds ready (running.line-leads ready.led.s p bytes now w.deeds text (ready-to p ready) w.next)
 
 -- what a player over eras tells
 abbrev pub tells : Telling (Option EraPlay)
-tells = telling (λ play lines. text_in next_of play lines) (λ n play lines. told_of told_at (fault_in next_of BadLine n play lines)) (λ play lines. log_len (end_in play lines)) (λ n play. IsReady play)
+tells = telling (λ play lines. text_in next_of play lines) (λ n play lines. told_of told_at (fault_in next_of BadLine n play lines)) (λ play lines. log_len (end_in play lines)) (λ n play. ErasGoOn play)
 
 -- the same without its entries
 abbrev bare : Telling (Option EraPlay)
-bare = treating.tells next_of BadLine told_at (λ play. 0) (λ deeds. 0) (λ n play. IsReady play)
+bare = treating.tells next_of BadLine told_at (λ play. 0) (λ deeds. 0) (λ n play. ErasGoOn play)
 
 end-on : (before : Option EraPlay) (line : List ℕ) (lines : List (List ℕ)) (next : EraNext) → next_of before line ≡ next
     → end_in before (line ∷ lines) ≡ elim next [ Goes play deeds text ↦ end_in play lines | Ends ↦ before | Refused fault ↦ before ]
 end-on before line lines next is = ap (λ (x : EraNext). elim x [ Goes play deeds text ↦ end_in play lines | Ends ↦ before | Refused fault ↦ before ]) is
 
 module _ (n : ℕ) (before now : Option EraPlay) (bytes : List ℕ) where
-  pub treated-on : (text : List ℕ) → IsReady before → HasDone before (next_of before bytes) now (Ok (Some text)) → HasTreatedLine tells n before now bytes (Ok (Some text))
+  pub treated-on : (text : List ℕ) → ErasGoOn before → HasDone before (next_of before bytes) now (Ok (Some text)) → HasTreatedLine tells n before now bytes (Ok (Some text))
   treated-on text ready done =
       let on : Went before now bytes text = went before now bytes text done in
-      let goes : GoesOn bare n before now bytes text = treating.goes-on next_of BadLine told_at (λ play. 0) (λ deeds. 0) (λ n play. IsReady play) n before now bytes on.deeds text on.next (λ more. refl) refl
+      let goes : GoesOn bare n before now bytes text = treating.goes-on next_of BadLine told_at (λ play. 0) (λ deeds. 0) (λ n play. ErasGoOn play) n before now bytes on.deeds text on.next (λ more. refl) refl
       (ready-on before now bytes text ready on) in
       record {
         text = goes.text;
@@ -102,12 +102,12 @@ module _ (n : ℕ) (before now : Option EraPlay) (bytes : List ℕ) where
   pub treated-last : HasDone before (next_of before bytes) now (Ok None) → HasTreatedLine tells n before now bytes (Ok None)
   treated-last done =
       let end = ended before (next_of before bytes) now done in (
-        ends-here status.Done (treating.ends-at next_of BadLine told_at (λ play. 0) (λ deeds. 0) (λ n play. IsReady play) n before bytes end.0),
+        ends-here status.Done (treating.ends-at next_of BadLine told_at (λ play. 0) (λ deeds. 0) (λ n play. ErasGoOn play) n before bytes end.0),
         λ lines. ap log_len (end-on before bytes lines Ends end.0 ∙ sym end.1),
       )
 
   refuses : (cause : LineFault) → next_of before bytes ≡ Refused cause → EndsAt tells n before bytes (told_at n cause)
-  refuses cause next = ends-here (told_at n cause) (treating.refused-at next_of BadLine told_at (λ play. 0) (λ deeds. 0) (λ n play. IsReady play) n before bytes cause next)
+  refuses cause next = ends-here (told_at n cause) (treating.refused-at next_of BadLine told_at (λ play. 0) (λ deeds. 0) (λ n play. ErasGoOn play) n before bytes cause next)
 
   pub treated-refused : (cause : LineFault) → HasDone before (next_of before bytes) now (Err cause) → HasTreatedLine tells n before now bytes (Err (told_at n cause))
   treated-refused Want done = inl refl

@@ -12,9 +12,9 @@ pub record IsReadyFor (p : EraPlay) : Type 0 where
   pub moment : p.moment ≤ 2 ^ 62
 
 -- a line may come
-abbrev pub IsReady : Option EraPlay → Type 0
-IsReady None = ⊤
-IsReady (Some p) = IsReadyFor p
+abbrev pub ErasGoOn : Option EraPlay → Type 0
+ErasGoOn None = ⊤
+ErasGoOn (Some p) = IsReadyFor p
 
 -- what lines leave, up to the end or to a line that is refused
 abbrev pub end_in : Option EraPlay → List (List ℕ) → Option EraPlay

@@ -37,7 +37,7 @@ impl Player for EraPlayer {
     ghost use Rattle.scenario_play.specs.Status.{told_at, told_of};
     ghost use Rattle.scenario_text.specs.declared.line.LineFault.TheVariants.{BadLine};
     ghost use Rattle.regroup_run.specs.Playing.{next_of};
-    ghost use Rattle.regroup_play.specs.Doing.{IsReady, end_in, log_len};
+    ghost use Rattle.regroup_play.specs.Doing.{ErasGoOn, end_in, log_len};
 
     ghost text = { λ play lines. text_in next_of play lines };
 
@@ -45,7 +45,7 @@ impl Player for EraPlayer {
 
     ghost entries = { λ play lines. log_len (end_in play lines) };
 
-    ghost ready = { λ n play. IsReady play };
+    ghost ready = { λ n play. ErasGoOn play };
 
     fn treat(
         &mut self,

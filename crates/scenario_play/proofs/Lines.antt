@@ -15,7 +15,7 @@ use Rattle.scenario_run.proofs.Draining.{load-opening}
 use Rattle.scenario_run.proofs.Leading.{IsLedTo, leads-log, led-on, opened}
 use Rattle.scenario_run.proofs.Promises.{scripts_keep_promises}
 use Rattle.scenario_run.proofs.Running.{GoesOn, line-leads, line-opens}
-use Rattle.scenario_play.specs.Ends.{HasDone, IsLight, IsLightAt, IsReady, log_len, most_of_a_line}
+use Rattle.scenario_play.specs.Ends.{HasDone, IsLight, IsLightAt, PlayGoesOn, log_len, most_of_a_line}
 use Rattle.scenario_play.specs.Player.{HasTreatedLine, Telling}
 use Rattle.scenario_play.specs.Status.{told_at, told_of, verdict}
 use Rattle.scenario_play.specs.declared.status.Status.TheVariants.{Done}
@@ -50,7 +50,7 @@ refused before Ends now (line.BadShape field) done = absurd done
 
 -- what a line leaves
 record Left (n : ℕ) (before now : Option Play) (turns : List Turn) : Type 0 where
-  ready : IsReady (n + 1) now
+  ready : PlayGoesOn (n + 1) now
   logged : log_len now ≡ log_len before + length (log_of turns)
 
 light-at : (n : ℕ) (s : Dimensions) (p : Play) → IsLedTo s p.world → IsLight (n * most_of_a_line) p → IsLightAt n p
@@ -58,21 +58,21 @@ light-at n s p led light = record { shape = s; events = led.events; run = led.ru
 
 opens-left : (n : ℕ) (now : Option Play) (turns : List Turn) → turns ≡ [] → (now ≡ None) ⊎ ((s : Dimensions) × IsShape s × (now ≡ Some (record { world = opening s; moment = 0 }))) → Left n None now turns
 opens-left n now turns quiet (inl none) = record {
-  ready = subst (IsReady (n + 1)) (sym none) tt;
+  ready = subst (PlayGoesOn (n + 1)) (sym none) tt;
   logged = let here = ap log_len none in let silent = ap (λ (ts : List Turn). length (log_of ts)) quiet in omega (arith, here, silent);
 }
 opens-left n now turns quiet (inr (s, limits, some)) = record {
-  ready = subst (IsReady (n + 1)) (sym some) (light-at (n + 1) s (record { world = opening s; moment = 0 }) (opened s limits) (let none = load-opening s in omega (arith, none)));
+  ready = subst (PlayGoesOn (n + 1)) (sym some) (light-at (n + 1) s (record { world = opening s; moment = 0 }) (opened s limits) (let none = load-opening s in omega (arith, none)));
   logged = let here = ap log_len some in let silent = ap (λ (ts : List Turn). length (log_of ts)) quiet in omega (arith, here, silent);
 }
 
 goes-left : (n : ℕ) (s : Dimensions) (p : Play) (now : Option Play) (turns : List Turn) → IsLedTo s p.world → IsLight (n * most_of_a_line) p → GoesOn p.world now turns → Left n (Some p) now turns
 goes-left n s p now turns led light on = record {
-  ready = subst (IsReady (n + 1)) (sym on.is) (light-at (n + 1) s on.play (led-on s p.world on.play.world turns led on.leads) (let more = on.light in omega (arith, light, more)));
+  ready = subst (PlayGoesOn (n + 1)) (sym on.is) (light-at (n + 1) s on.play (led-on s p.world on.play.world turns led on.leads) (let more = on.light in omega (arith, light, more)));
   logged = ap log_len on.is ∙ ap length (leads-log p.world on.play.world turns on.leads) ∙ length-append p.world.log (log_of turns);
 }
 
-left : (n : ℕ) (before now : Option Play) (bytes text : List ℕ) → IsReady n before → (w : Went before now bytes text) → Left n before now w.turns
+left : (n : ℕ) (before now : Option Play) (bytes text : List ℕ) → PlayGoesOn n before → (w : Went before now bytes text) → Left n before now w.turns
 left n None now bytes text ready w = let opens = line-opens bytes now w.turns text w.next in opens-left n now w.turns opens.quiet opens.is
 left n (Some p) now bytes text ready w =
     let led : IsLedTo ready.shape p.world = record { events = ready.events; run = ready.run; is = ready.is } in
@@ -90,20 +90,20 @@ many-append ts us = ap length (all ts) ∙ length-append (log_of ts) (log_of us)
 
 -- what a group's player tells
 abbrev pub tells : Telling (Option Play)
-tells = treating.tells next_of line.BadLine told_at log_len many IsReady
+tells = treating.tells next_of line.BadLine told_at log_len many PlayGoesOn
 
 module _ (n : ℕ) (before now : Option Play) (bytes : List ℕ) where
-  pub treated-on : (text : List ℕ) → IsReady n before → HasDone before (next_of before bytes) now (Ok (Some text)) → HasTreatedLine tells n before now bytes (Ok (Some text))
+  pub treated-on : (text : List ℕ) → PlayGoesOn n before → HasDone before (next_of before bytes) now (Ok (Some text)) → HasTreatedLine tells n before now bytes (Ok (Some text))
   treated-on text ready done =
       let on : Went before now bytes text = went before now bytes text done in
       let behind : Left n before now on.turns = left n before now bytes text ready on in
-      treating.goes-on next_of line.BadLine told_at log_len many IsReady n before now bytes on.turns text on.next (many-append on.turns) behind.logged behind.ready
+      treating.goes-on next_of line.BadLine told_at log_len many PlayGoesOn n before now bytes on.turns text on.next (many-append on.turns) behind.logged behind.ready
 
   pub treated-last : HasDone before (next_of before bytes) now (Ok None) → HasTreatedLine tells n before now bytes (Ok None)
   treated-last done =
       let end = ended before (next_of before bytes) now done in (
-        treating.ends-at next_of line.BadLine told_at log_len many IsReady n before bytes end.0,
-        treating.ends-entries next_of line.BadLine told_at log_len many IsReady before now bytes end.0 end.1,
+        treating.ends-at next_of line.BadLine told_at log_len many PlayGoesOn n before bytes end.0,
+        treating.ends-entries next_of line.BadLine told_at log_len many PlayGoesOn before now bytes end.0 end.1,
       )
 
   pub treated-refused : (cause : LineFault) → HasDone before (next_of before bytes) now (Err cause) → HasTreatedLine tells n before now bytes (Err (told_at n cause))
@@ -111,11 +111,11 @@ module _ (n : ℕ) (before now : Option Play) (bytes : List ℕ) where
   treated-refused line.BadLine done = which (refused before (next_of before bytes) now line.BadLine done) where
     which : (line.BadLine ≡ line.Want) ⊎ (next_of before bytes ≡ Refused line.BadLine) → HasTreatedLine tells n before now bytes (Err (told_at n line.BadLine))
     which (inl want) = absurd (cc want)
-    which (inr next) = inr (tt, treating.refused-at next_of line.BadLine told_at log_len many IsReady n before bytes line.BadLine next)
+    which (inr next) = inr (tt, treating.refused-at next_of line.BadLine told_at log_len many PlayGoesOn n before bytes line.BadLine next)
   treated-refused (line.BadShape field) done = which (refused before (next_of before bytes) now (line.BadShape field) done) where
     which : (line.BadShape field ≡ line.Want) ⊎ (next_of before bytes ≡ Refused (line.BadShape field)) → HasTreatedLine tells n before now bytes (Err (told_at n (line.BadShape field)))
     which (inl want) = absurd (cc want)
-    which (inr next) = inr (tt, treating.refused-at next_of line.BadLine told_at log_len many IsReady n before bytes (line.BadShape field) next)
+    which (inr next) = inr (tt, treating.refused-at next_of line.BadLine told_at log_len many PlayGoesOn n before bytes (line.BadShape field) next)
 
 -- a script of which all is done keeps its promises
 pub all-kept : (text : List ℕ) → verdict text ≡ Done → KeepsPromises text

@@ -34,9 +34,9 @@ pub record IsLightAt (n : ℕ) (p : Play) : Type 0 where
   pub is : p.world ≡ after shape events
   pub light : IsLight (n * most_of_a_line) p
 
-abbrev pub IsReady : ℕ → Option Play → Type 0
-IsReady n None = ⊤
-IsReady n (Some p) = IsLightAt n p
+abbrev pub PlayGoesOn : ℕ → Option Play → Type 0
+PlayGoesOn n None = ⊤
+PlayGoesOn n (Some p) = IsLightAt n p
 
 -- how many entries a script's group has logged
 abbrev pub log_len : Option Play → ℕ

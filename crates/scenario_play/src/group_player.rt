@@ -50,7 +50,7 @@ impl Player for GroupPlayer {
     ghost use Rattle.scenario_text.specs.declared.line.LineFault.TheVariants.{BadLine};
     ghost use Rattle.scenario_run.specs.Course.{fault_in, text_in, turns_in};
     ghost use Rattle.scenario_run.specs.Playing.{next_of};
-    ghost use Rattle.scenario_play.specs.Ends.{IsReady, log_len};
+    ghost use Rattle.scenario_play.specs.Ends.{PlayGoesOn, log_len};
     ghost use Rattle.scenario_play.specs.Status.{told_at, told_of};
 
     ghost text = { λ play lines. text_in next_of play lines };
@@ -59,7 +59,7 @@ impl Player for GroupPlayer {
 
     ghost entries = { λ play lines. log_len play + length (log_of (turns_in next_of play lines)) };
 
-    ghost ready = { IsReady };
+    ghost ready = { PlayGoesOn };
 
     fn treat(
         &mut self,
