@@ -161,7 +161,9 @@ def page(all_modules):
         "",
         "A proof says no more than its statement. These are the definitions that the statements stand on, file by file in the order of the",
         "crates; a file's other definitions are behind other contracts. Words of the standard library are left out. This page is written by",
-        "`docs/believe.py`, and `docs/believe.py --check` says whether it is up to date.",
+        "`docs/believe.py`, and `docs/believe.py --check` says whether it is up to date. Where a row ends in a number, the file has the rest.",
+        "",
+        "In words the headline, and what is promised of threads, connections and the program, is in [PROMISES.md](PROMISES.md).",
     ]
     known = set()
     for title, crate, place, names in ROOTS:
