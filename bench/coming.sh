@@ -1,5 +1,6 @@
 #!/bin/sh
-# Nanoseconds that a node takes to judge an update of 100 bytes that comes from outside, by hand: sh bench/coming.sh
+# Nanoseconds that a node takes to judge an update of 100 bytes that comes from outside, by hand: sh bench/coming.sh. The proof of its program takes
+# more than five minutes.
 set -eu
 top=$(cd "$(dirname "$0")/.." && pwd)
 work=$(mktemp -d)
