@@ -29,7 +29,7 @@ use crate::reading::read_block;
 use crate::values::Values;
 use group_calls::Answer;
 use group_message::{Message, Session};
-use group_types::{Partition, Payload, ProcessId, Rank, Run, Shape, home};
+use group_types::{Key, Partition, Payload, ProcessId, Rank, Run, Shape, home};
 use head_service::{Asking, Call, CallStep, Sent};
 use membership::Members;
 use memc_table::Op;
@@ -167,12 +167,11 @@ impl DataProcess {
         self.service.waiting()
     }
 
-    /// Whether the partition of an op has numbers left, which is a condition of `ask`.
-    pub fn has_numbers(&self, op: &Op) -> bool
-        ensures { IsTrue result ↔ last_of (replica_of self.now.process (home_of (key_of op.now.act) self.now.shape.k))
-            < 2 ^ 62 }
+    /// Whether the partition of a key has numbers left, as `ask` requires.
+    pub fn may_ask(&self, key: &Key) -> bool
+        ensures { IsTrue result ↔ last_of (replica_of self.now.process (home_of key.now self.now.shape.k)) < 2 ^ 62 }
     {
-        let partition = home(op.act().key(), self.service.shape().k());
+        let partition = home(key, self.service.shape().k());
         self.service.last(partition) < 1 << 62
     }
 

@@ -1,12 +1,11 @@
-ghost use Rattle.std.specs.Prelude.{◌↔◌, ◌<◌, All, IsTrue};
+ghost use Rattle.std.specs.Prelude.{◌↔◌, IsTrue};
 ghost use Rattle.group_types.specs.Names.{IsProcess};
-ghost use Rattle.memc_table.specs.Act.{value_of};
 ghost use Rattle.group_run.specs.Headline.{MayCome};
 
 use crate::world::World;
 use group_calls::Event;
 use group_types::{CALLERS, ProcessId, Shape};
-use memc_table::Act;
+use memc_table::values_are_bytes;
 
 impl World {
     /// Whether the group has the process.
@@ -55,29 +54,4 @@ fn is_process(shape: Shape, name: ProcessId) -> bool
         ProcessId::DataNode(d) => d < shape.k(),
         ProcessId::ParityNode(i) => i < shape.m(),
     }
-}
-
-/// A value consists of bytes.
-pub fn values_are_bytes(act: &Act)
-    ensures { All (λ b. b < 256) (value_of act.now) }
-{
-    match act {
-        Act::Set { value, .. } => are_bytes(value.bytes()),
-        Act::Add { value, .. } => are_bytes(value.bytes()),
-        Act::Replace { value, .. } => are_bytes(value.bytes()),
-        Act::Cas { value, .. } => are_bytes(value.bytes()),
-        Act::Append { value, .. } => are_bytes(value.bytes()),
-        Act::Prepend { value, .. } => are_bytes(value.bytes()),
-        Act::Get { .. } => {}
-        Act::Delete { .. } => {}
-        Act::Touch { .. } => {}
-        Act::Incr { .. } => {}
-        Act::Decr { .. } => {}
-    }
-}
-
-fn are_bytes(bytes: &[u8])
-    ensures { All (λ b. b < 256) bytes.now }
-{
-    let _long = bytes.len();
 }

@@ -16,7 +16,6 @@ mod reading;
 mod turning;
 mod world;
 
-pub use coming::values_are_bytes;
 pub use failing::fail_at;
 pub use items::ItemHead;
 pub use nodes::Nodes;

@@ -53,7 +53,7 @@ emptied s dead node old new x n named long links here is =
     ∙ without-is s dead (messages old) named (messages-long old ∙ long) ∙ ap (links_without s dead) (sym links) in
     ap (λ (ls : List (List Message)). record node { links = ls }) (sym after)
 
-not-emptied : (s : Dimensions) (m : Message) (node : Node) → ((dead : ProcessId) → m ≢ tells.Notice dead) → link_emptied s m node ≡ node
+pub not-emptied : (s : Dimensions) (m : Message) (node : Node) → ((dead : ProcessId) → m ≢ tells.Notice dead) → link_emptied s m node ≡ node
 not-emptied s (tells.Notice dead) node other = absurd (other dead refl)
 not-emptied s (tells.Update r d u stable) node other = refl
 not-emptied s (tells.Ack r d n) node other = refl
@@ -91,7 +91,7 @@ module _ (s t : Dimensions) (from : ProcessId) (m : Message) (node : Node) (step
       → x ≡ index_of s dead → cut ≡ with_link after x [] n
       → receive_node s from m node ≡ record { node = record acted { links = messages cut }; answer = says.Done; settled = step.settled.items }
   hears dead cut x n notice fits long here made =
-      let named : IsProcess s dead = (subst (λ (y : Message). Fits s from y node.process) notice fits).process in
+      let named : IsProcess s dead = (subst (λ (y : Message). Fits s from y node.process) notice fits).1.process in
       steps
       ∙ ap (λ (y : Message). record { node = link_emptied s y acted; answer = says.Done; settled = step.settled.items }) notice
       ∙ ap (λ (n : Node). record { node = n; answer = says.Done; settled = step.settled.items }) (emptied s dead acted after cut x n named long refl here made)

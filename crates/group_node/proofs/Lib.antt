@@ -1,5 +1,5 @@
 pub mod Names
-mod Numbers
+pub mod Numbers
 mod Paging
 pub mod Ranges
 pub mod Links
@@ -10,3 +10,5 @@ pub mod Cut
 pub mod Treated
 pub mod Delivered
 mod Admitting
+mod Dropped
+mod Unmade

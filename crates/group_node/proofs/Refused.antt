@@ -27,7 +27,7 @@ use Rattle.group_node.specs.Standing.{node_standing}
 use Rattle.group_node.specs.Steps.{IsRefusal}
 use Rattle.group_node.proofs.Sent.{nothing-behind}
 
-issues : (outcome : Outcome) → accepts (reply_from outcome) ≡ true
+pub issues : (outcome : Outcome) → accepts (reply_from outcome) ≡ true
 issues ends.Stored = refl
 issues ends.Deleted = refl
 issues ends.Touched = refl
@@ -59,15 +59,22 @@ module _ (s : Dimensions) (name : CallName) (op : Asked) (p : Process) where
   pub refused-quiet : IsRefusal (ask_process s name op p).answer → (ask_process s name op p).step ≡ quiet p
   refused-quiet refused = by-head (home_of (key_of op.act) s.k) (head_at p (home_of (key_of op.act) s.k)) refused
 
--- nor does its node
-pub refused-stays : (s t : Dimensions) (name : CallName) (op : Asked) (old new : whole.Standing) (own roomy after : List (Link Message)) (known : Membership) (step : code.CallStep)
-    (dead down : Bool) → t ≡ s → length own ≡ s.k + s.m → ask_process t name op old.process ≡ called new.process step → IsRefusal step.answer
-    → messages roomy ≡ messages own → messages after ≡ links_after s known step.sent.items (messages roomy)
+-- nor does its node, and that of any process that does nothing
+pub quiet-stays : (s t : Dimensions) (name : CallName) (op : Asked) (old new : whole.Standing) (own roomy after : List (Link Message)) (known : Membership) (step : code.CallStep)
+    (dead down : Bool) → t ≡ s → length own ≡ s.k + s.m → ask_process t name op old.process ≡ called new.process step
+    → (ask_process t name op old.process).step ≡ quiet old.process → messages roomy ≡ messages own → messages after ≡ links_after s known step.sent.items (messages roomy)
     → node_standing s new after dead down ≡ node_standing s old own dead down
-refused-stays s t name op old new own roomy after known step dead down same long is refused room behind =
-    let quietly : (ask_process t name op old.process).step ≡ quiet old.process = refused-quiet t name op old.process (subst (λ (c : CallStep). IsRefusal c.answer) (sym is) refused) in
+quiet-stays s t name op old new own roomy after known step dead down same long is quietly room behind =
     let process : new.process ≡ old.process = sym (ap (λ (c : CallStep). c.step.process) is) ∙ ap (λ (x : ProcessStep). x.process) quietly in
     let sent : step.sent.items ≡ [] = sym (ap (λ (c : CallStep). c.step.sent) is) ∙ ap (λ (x : ProcessStep). x.sent) quietly in
     let links : messages after ≡ messages own =
     behind ∙ ap (λ (xs : List Sent). links_after s known xs (messages roomy)) sent ∙ nothing-behind s known (messages roomy) (ap length room ∙ messages-long own ∙ long) ∙ room in
     (λ i. record { shape = s; node = record { process = process i; links = links i; dead = dead; down = down } })
+
+pub refused-stays : (s t : Dimensions) (name : CallName) (op : Asked) (old new : whole.Standing) (own roomy after : List (Link Message)) (known : Membership) (step : code.CallStep)
+    (dead down : Bool) → t ≡ s → length own ≡ s.k + s.m → ask_process t name op old.process ≡ called new.process step → IsRefusal step.answer
+    → messages roomy ≡ messages own → messages after ≡ links_after s known step.sent.items (messages roomy)
+    → node_standing s new after dead down ≡ node_standing s old own dead down
+refused-stays s t name op old new own roomy after known step dead down same long is refused room behind =
+    quiet-stays s t name op old new own roomy after known step dead down same long is
+    (refused-quiet t name op old.process (subst (λ (c : CallStep). IsRefusal c.answer) (sym is) refused)) room behind

@@ -1,3 +1,4 @@
+pub mod Asking
 pub mod Delivering
 pub mod Roles
 pub mod Rooms

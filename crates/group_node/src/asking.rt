@@ -1,13 +1,15 @@
-ghost use Rattle.std.specs.Prelude.{◌≡◌, ◌<◌, ◌^◌, false, [], All, IfOk, IfSome, IfNone, OnErr};
-ghost use Rattle.group_run.specs.Replica.{callers, last_of};
+ghost use Rattle.std.specs.Prelude.{◌≡◌, ◌↔◌, ◌<◌, false, [], IsTrue, IfOk, IfSome, IfNone, OnErr};
+ghost use Rattle.memc_table.specs.Act.{key_of};
+ghost use Rattle.group_run.specs.Replica.{callers};
 ghost use Rattle.group_run.specs.World.{NodeStep, ask_node, collect_node, flush_node, if_up, trace_node, unchanged};
 ghost use Rattle.head_service.specs.Acting.{name_of};
+ghost use Rattle.group_node.specs.Asking.{ChangesNothing, HasNumbers, HasOpened};
 ghost use Rattle.group_node.specs.Steps.{IsRefusal, made};
 
 use crate::node::{Node, NodeOut};
 use crate::sending::{make_room, send_all};
 use group_calls::Answer;
-use group_types::Partition;
+use group_types::{Key, Partition};
 use head_service::Call;
 use law_answers::sends_few;
 use memc_table::Op;
@@ -18,13 +20,14 @@ impl Node {
     pub fn ask(&mut self, call: Call, op: &Op) -> Result<NodeOut, AllocError>
         requires caller { call.caller < callers }
         requires numbers { self.old.node.down ≡ false → self.old.node.dead ≡ false
-            → All (λ r. last_of r < 2 ^ 62) self.old.node.process.replicas }
-        requires sessions { self.old.node.down ≡ false → self.old.node.dead ≡ false
-            → self.old.node.process.as_leader.last_session < 2 ^ 62 }
+            → HasNumbers self.old.shape (key_of op.now.act) self.old.node.process }
         ensures shape { self.new.shape ≡ self.old.shape }
         ensures step { IfOk result (λ out. ask_node self.old.shape (name_of call) op.now self.old.node
             ≡ made self.new.node out) }
         ensures refusal { IfOk result (λ out. IsRefusal out.answer → self.new ≡ self.old) }
+        ensures stays { IfOk result (λ out. ChangesNothing op.now out.answer → self.new ≡ self.old) }
+        ensures opened { IfOk result (λ out. IsTrue out.opened
+            ↔ HasOpened self.old.node.process self.new.node.process) }
         ensures wanted { OnErr result ((self.old.node.down ≡ false) × (self.old.node.dead ≡ false)) }
         ensures err { OnErr result (self.new ≡ self.old) }
     {
@@ -32,13 +35,23 @@ impl Node {
             return Ok(NodeOut::only(self.alloc, answer));
         }
         make_room(self.shape, &mut self.links)?;
+        let last = self.process.last_session();
         let step = self.process.ask(call, op)?;
         sends_few();
         send_all(self.shape, self.process.known(), step.sent, &mut self.links);
         Ok(NodeOut {
             answer: step.answer,
             settled: step.settled,
+            opened: last < self.process.last_session(),
         })
+    }
+
+    /// Whether a call on a key can be asked: the numbers of its partition, and those of a parity process's block
+    /// sessions, are below 2^62.
+    pub fn may_ask(&self, key: &Key) -> bool
+        ensures { IsTrue result ↔ HasNumbers self.now.shape key.now self.now.node.process }
+    {
+        self.process.may_ask(key)
     }
 
     /// A held call is answered once its update is settled, and forgotten then. It takes no memory.

@@ -1,8 +1,10 @@
-ghost use Rattle.std.specs.Prelude.{◌≡◌, false, ℕ, List, [], ◌∷◌, IfOk, OnErr};
+ghost use Rattle.std.specs.Prelude.{◌≡◌, ◌↔◌, true, false, ℕ, List, [], ◌∷◌, IsTrue, IfOk, OnErr};
 ghost use Rattle.group_types.specs.Lists.{at};
 ghost use Rattle.group_types.specs.Names as names;
 ghost use Rattle.group_message.specs.declared.message.Message as told;
+ghost use Rattle.group_message.specs.declared.message.Message.TheVariants as tells;
 ghost use Rattle.group_run.specs.World.{deliver_nodes, receive_node};
+ghost use Rattle.process_service.specs.Current.{is_current};
 ghost use Rattle.group_node.specs.Delivering.{Comes};
 ghost use Rattle.group_node.specs.Steps.{made};
 
@@ -58,8 +60,12 @@ impl Node {
         ensures shape { self.new.shape ≡ self.old.shape }
         ensures step { IfOk result (λ out. receive_node self.old.shape from message.now self.old.node
             ≡ made self.new.node out) }
+        ensures wanted { OnErr result (is_current self.old.node.process message.now ≡ true) }
         ensures err { OnErr result (self.new ≡ self.old) }
     {
+        if !self.process.acts_on(message) {
+            return Ok(NodeOut::only(self.alloc, Answer::Done));
+        }
         make_room(self.shape, &mut self.links)?;
         let step = self.process.receive(from, message)?;
         sends_few();
@@ -70,6 +76,28 @@ impl Node {
         Ok(NodeOut {
             answer: Answer::Done,
             settled: step.settled,
+            opened: false,
         })
+    }
+
+    /// Whether the node can learn that a process is dead: it is another of the group, not known dead, and no more than
+    /// m are known dead with it.
+    pub fn may_learn(&self, dead: ProcessId) -> bool
+        ensures { IsTrue result ↔ Comes self.now.shape dead (tells.Notice dead) self.now.node.process }
+    {
+        self.may_come(dead, &Message::Notice { dead })
+    }
+
+    /// The node learns that a process is dead, as by the notice that stands last in the link of the dead. After want of
+    /// memory nothing but room has changed.
+    pub fn learn_death(&mut self, dead: ProcessId) -> Result<NodeOut, AllocError>
+        requires lives { self.old.node.dead ≡ false }
+        requires comes { Comes self.old.shape dead (tells.Notice dead) self.old.node.process }
+        ensures shape { self.new.shape ≡ self.old.shape }
+        ensures step { IfOk result (λ out. receive_node self.old.shape dead (tells.Notice dead) self.old.node
+            ≡ made self.new.node out) }
+        ensures err { OnErr result (self.new ≡ self.old) }
+    {
+        self.receive(dead, &Message::Notice { dead })
     }
 }

@@ -1,4 +1,4 @@
-ghost use Rattle.std.specs.Prelude.{◌≡◌, ◌↔◌, ◌==◌, ℕ, [], length, IsTrue, IfOk, ◌-◌, ◌^◌, min};
+ghost use Rattle.std.specs.Prelude.{◌≡◌, ◌↔◌, ◌==◌, ℕ, false, [], length, IsTrue, IfOk, ◌-◌, ◌^◌, min};
 ghost use Rattle.group_types.specs.Lists.{at};
 ghost use Rattle.group_types.specs.Names as names;
 ghost use Rattle.group_types.specs.Names.{IsProcess};
@@ -15,11 +15,12 @@ use link_core::Links;
 use std::alloc::{AllocError, Global};
 use std::marker::Model;
 
-/// What a node makes of an event: the answer, and what is settled, in order.
+/// What a node makes of an event: the answer, what is settled, in order, and whether a call opened a block session.
 #[derive(Debug, Drop)]
 pub struct NodeOut {
     pub answer: Answer,
     pub settled: Vec<Settlement>,
+    pub opened: bool,
 }
 
 impl NodeOut {
@@ -27,10 +28,12 @@ impl NodeOut {
     pub fn only(alloc: Global, answer: Answer) -> NodeOut
         ensures answer { result.answer ≡ answer }
         ensures settled { result.settled.items ≡ [] }
+        ensures opened { result.opened ≡ false }
     {
         NodeOut {
             answer,
             settled: Vec::new(alloc),
+            opened: false,
         }
     }
 }

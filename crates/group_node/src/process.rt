@@ -16,6 +16,7 @@ ghost use Rattle.head_service.specs.Paging.{MakesNoneOf};
 ghost use Rattle.process_service.specs.Noticing.{waiting};
 ghost use Rattle.process_service.specs.Paging.{CallMisses, MessageMisses};
 ghost use Rattle.process_service.specs.Steps.{called, stepped};
+ghost use Rattle.group_node.specs.Asking.{HasNumbers};
 ghost use Rattle.group_node.specs.Delivering.{Comes};
 ghost use Rattle.group_run.specs.Shown.{process_stamp};
 
@@ -76,9 +77,7 @@ impl Process {
     /// A call is asked. After want of memory nothing but room has changed.
     pub fn ask(&mut self, call: Call, op: &Op) -> Result<CallStep, AllocError>
         requires caller { call.caller < callers }
-        requires numbers { last_of (replica_of self.old.process (home_of (key_of op.now.act) self.old.shape.k))
-            < 2 ^ 62 }
-        requires sessions { self.old.process.as_leader.last_session < 2 ^ 62 }
+        requires numbers { HasNumbers self.old.shape (key_of op.now.act) self.old.process }
         ensures shape { self.new.shape ≡ self.old.shape }
         ensures pages { MakesNoneOf (CallMisses self.old.shape op.now self.old.process) self.old.made self.new.made }
         ensures name { self.new.process.name ≡ self.old.process.name }
@@ -175,6 +174,7 @@ impl Process {
             Role::Parity(process) => process.waiting(),
         }
     }
+
     /// The numbers up to which it has settled or applied, where its group has `k` partitions.
     pub fn stamp(&self, alloc: Global, k: u32) -> Result<Vec<u64>, AllocError>
         requires { k ≡ self.now.shape.k }

@@ -29,6 +29,14 @@ impl Node {
         self.process.replica(partition)
     }
 
+    /// The number up to which it has settled or applied a partition.
+    pub fn settled_to(&self, partition: Partition) -> u64
+        requires { partition.0 < self.now.shape.k }
+        ensures { result ≡ (replica_of self.now.node.process partition.0).applied }
+    {
+        self.replica(partition).applied()
+    }
+
     /// The bytes of a run of its space.
     pub fn bytes(&self, run: Run) -> Result<Payload, AllocError>
         requires { run.at + run.len ≤ space_of self.now.shape }

@@ -9,9 +9,9 @@ use crate::drain::{drain, make};
 use crate::getting::CARRIER;
 use crate::items::Parcel;
 use group_calls::Event;
-use group_core::{World, values_are_bytes};
+use group_core::World;
 use group_types::ProcessId;
-use memc_table::{Act, Op};
+use memc_table::{Act, Op, values_are_bytes};
 use std::alloc::AllocError;
 
 /// Sets items in a fresh group, one after the other, and drains after each.

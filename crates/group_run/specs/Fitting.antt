@@ -3,7 +3,7 @@
 use Rattle.std.specs.Prelude.{ℕ, suc, ◌≡◌, ◌≢◌, ◌+◌, ◌-◌, ◌<◌, ◌≤◌, ◌==◌, false, true, ⊤, List, [], ◌∷◌, length, drop, All, AllPairs, Contains, IfSome, Some, None}
 use Rattle.group_types.specs.Dimensions.{Dimensions, space_of}
 use Rattle.group_types.specs.Lists.{at}
-use Rattle.group_types.specs.Names.{IsProcess}
+use Rattle.group_types.specs.Names.{IsProcess, of_rank}
 use Rattle.group_types.specs.declared.process.ProcessId.{ProcessId}
 use Rattle.group_types.specs.declared.process.ProcessId.TheVariants.{DataNode, ParityNode}
 use Rattle.group_types.specs.declared.run.Run.{Run}
@@ -56,6 +56,11 @@ pub record IsRanked (s : Dimensions) (d r : ℕ) : Type 0 where
   pub partition : d < s.k
   pub rank : r ≤ s.m
 
+-- what a head tells comes from the process of its rank in a partition of the group
+pub record IsToldBy (s : Dimensions) (from : ProcessId) (d r : ℕ) : Type 0 where
+  pub ranked : IsRanked s d r
+  pub sender : from ≡ of_rank d r
+
 -- an update is the next one, once what is stable is applied
 pub record UpdateFits (s : Dimensions) (r : Replica) (u : Update) (stable : ℕ) : Type 0 where
   pub next : u.number ≡ suc (last_of r)
@@ -106,22 +111,22 @@ pub record RowFits (s : Dimensions) (from : ProcessId) (p : Process) (number : �
   pub sender : (i : ℕ) × (from ≡ ParityNode i) × (i < s.m) × IfSome (open_session p.as_leader number) (λ g. Contains g.rows i)
   pub long : length bytes ≡ s.block
 
--- a notice names another process that isn't known to be dead
+-- a notice names another process, which isn't known to be dead
 pub record NoticeFits (s : Dimensions) (p : Process) (dead : ProcessId) : Type 0 where
   pub process : IsProcess s dead
   pub other : dead ≢ p.name
   pub news : knows_dead p.known dead ≡ false
 
--- a message fits what the process holds that receives it; an update, a settled number and a new head's list only unless
--- their rank is stale, below the receiver's, and a mark only unless the row drops it
+-- a message fits what the process holds that receives it, and comes from whom it may; an update, a settled number and a new
+-- head's list fit only unless their rank is stale, below the receiver's, and a mark only unless the row drops it
 abbrev pub Fits : Dimensions → ProcessId → Message → Process → Type 0
-Fits s from (tells.Update r d u stable) p = IsRanked s d.0 r.0 × ((unless_stale : at 0 p.ranks d.0 ≤ r.0) → UpdateFits s (replica_of p d.0) u stable)
+Fits s from (tells.Update r d u stable) p = IsToldBy s from d.0 r.0 × ((unless_stale : at 0 p.ranks d.0 ≤ r.0) → UpdateFits s (replica_of p d.0) u stable)
 Fits s from (tells.Ack r d n) p = AckFits s from p r.0 d.0 n
-Fits s from (tells.Stable r d n) p = IsRanked s d.0 r.0 × ((unless_stale : at 0 p.ranks d.0 ≤ r.0) → n ≤ last_of (replica_of p d.0))
-Fits s from (tells.Adopt r d base list) p = IsRanked s d.0 r.0 × ((unless_stale : at 0 p.ranks d.0 ≤ r.0) → AdoptFits s (replica_of p d.0) base list)
+Fits s from (tells.Stable r d n) p = IsToldBy s from d.0 r.0 × ((unless_stale : at 0 p.ranks d.0 ≤ r.0) → n ≤ last_of (replica_of p d.0))
+Fits s from (tells.Adopt r d base list) p = IsToldBy s from d.0 r.0 × ((unless_stale : at 0 p.ranks d.0 ≤ r.0) → AdoptFits s (replica_of p d.0) base list)
 Fits s from (tells.ReadBlock session block rows) p = ReadFits s p session block rows
 Fits s from (tells.Block session bytes n) p = BlockFits s from p session.number bytes
 Fits s from (tells.Mark session r block d n) p = (unless_dropped : accepts_mark p (parity_number session.leader) session.number r.0 d.0 ≡ true) → MarkFits s p session block d.0 n
 Fits s from (tells.Row session bytes stamp) p = RowFits s from p session.number bytes
 Fits s from (tells.Cease upto) p = (i : ℕ) × (from ≡ ParityNode i) × (i < s.m)
-Fits s from (tells.Notice dead) p = NoticeFits s p dead
+Fits s from (tells.Notice dead) p = (from ≡ dead) × NoticeFits s p dead

@@ -12,11 +12,10 @@ use crate::answer::StageAnswer;
 use crate::plays::Calls;
 use crate::seat::Seat;
 use crate::stage::{RawSeat, Stage};
-use group_core::values_are_bytes;
 use group_node::index_of;
 use group_types::ProcessId;
 use head_service::Call;
-use memc_table::Op;
+use memc_table::{Op, values_are_bytes};
 use std::alloc::AllocError;
 use std::marker::Brand;
 

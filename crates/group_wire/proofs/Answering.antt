@@ -116,34 +116,47 @@ solid-call : (made more : List Made) (begun : ℕ → ℕ) (lost now : Bool) (li
 solid-call made more begun lost now lived later pinged more_pinged caller None within rises was sol = tt
 solid-call made more begun lost now lived later pinged more_pinged caller (Some o) within rises was sol = solid-kept made more begun lost now lived later pinged more_pinged caller o.position o.stage within rises was sol
 
+-- a stage from which a call goes on: it is asked again, or of unknown fate
+abbrev pub goes_on : Stage → Bool
+goes_on Unasked = true
+goes_on Unknown = true
+goes_on _ = false
+
+pub on-which : (stage : Stage) → goes_on stage ≡ true → (stage ≡ Unasked) ⊎ (stage ≡ Unknown)
+on-which Unasked is = inl refl
+on-which Unknown is = inr refl
+on-which (AskedOf x) is = cc is
+on-which (TracedAt x) is = cc is
+on-which (Answered t n) is = cc is
+
 -- a call that is told an answer is answered, or goes on
 pub told-which : (t : Told) (n : ℕ) (answer : Answer) (traced : Bool) → (stage_told t n answer traced ≡ Answered t n) ⊎ (stage_told t n answer traced ≡ Unasked) ⊎ (stage_told t n answer traced ≡ Unknown)
 told-which t n (says.Reply reply) traced = inl refl
 told-which t n says.NoSpace traced = inl refl
-told-which t n says.Gone true = inr (inl refl)
-told-which t n says.Gone false = inr (inl refl)
-told-which t n (says.Ticket m) true = inr (inr refl)
-told-which t n (says.Ticket m) false = inr (inl refl)
-told-which t n (says.Retry cause) true = inr (inr refl)
-told-which t n (says.Retry cause) false = inr (inl refl)
-told-which t n (says.Stale m) true = inr (inr refl)
-told-which t n (says.Stale m) false = inr (inl refl)
-told-which t n says.NotYet true = inr (inr refl)
-told-which t n says.NotYet false = inr (inl refl)
-told-which t n says.Moved true = inr (inr refl)
-told-which t n says.Moved false = inr (inl refl)
-told-which t n says.Lost true = inr (inr refl)
-told-which t n says.Lost false = inr (inl refl)
-told-which t n says.Down true = inr (inr refl)
-told-which t n says.Down false = inr (inl refl)
-told-which t n says.Idle true = inr (inr refl)
-told-which t n says.Idle false = inr (inl refl)
-told-which t n says.Stranger true = inr (inr refl)
-told-which t n says.Stranger false = inr (inl refl)
-told-which t n says.Done true = inr (inr refl)
-told-which t n says.Done false = inr (inl refl)
-told-which t n says.AlreadyDead true = inr (inr refl)
-told-which t n says.AlreadyDead false = inr (inl refl)
+told-which t n says.Gone true = inr (on-which (stage_told t n says.Gone true) refl)
+told-which t n says.Gone false = inr (on-which (stage_told t n says.Gone false) refl)
+told-which t n (says.Ticket m) true = inr (on-which (stage_told t n (says.Ticket m) true) refl)
+told-which t n (says.Ticket m) false = inr (on-which (stage_told t n (says.Ticket m) false) refl)
+told-which t n (says.Retry cause) true = inr (on-which (stage_told t n (says.Retry cause) true) refl)
+told-which t n (says.Retry cause) false = inr (on-which (stage_told t n (says.Retry cause) false) refl)
+told-which t n (says.Stale m) true = inr (on-which (stage_told t n (says.Stale m) true) refl)
+told-which t n (says.Stale m) false = inr (on-which (stage_told t n (says.Stale m) false) refl)
+told-which t n says.NotYet true = inr (on-which (stage_told t n says.NotYet true) refl)
+told-which t n says.NotYet false = inr (on-which (stage_told t n says.NotYet false) refl)
+told-which t n says.Moved true = inr (on-which (stage_told t n says.Moved true) refl)
+told-which t n says.Moved false = inr (on-which (stage_told t n says.Moved false) refl)
+told-which t n says.Lost true = inr (on-which (stage_told t n says.Lost true) refl)
+told-which t n says.Lost false = inr (on-which (stage_told t n says.Lost false) refl)
+told-which t n says.Down true = inr (on-which (stage_told t n says.Down true) refl)
+told-which t n says.Down false = inr (on-which (stage_told t n says.Down false) refl)
+told-which t n says.Idle true = inr (on-which (stage_told t n says.Idle true) refl)
+told-which t n says.Idle false = inr (on-which (stage_told t n says.Idle false) refl)
+told-which t n says.Stranger true = inr (on-which (stage_told t n says.Stranger true) refl)
+told-which t n says.Stranger false = inr (on-which (stage_told t n says.Stranger false) refl)
+told-which t n says.Done true = inr (on-which (stage_told t n says.Done true) refl)
+told-which t n says.Done false = inr (on-which (stage_told t n says.Done false) refl)
+told-which t n says.AlreadyDead true = inr (on-which (stage_told t n says.AlreadyDead true) refl)
+told-which t n says.AlreadyDead false = inr (on-which (stage_told t n says.AlreadyDead false) refl)
 
 begun-told : (before next position : ℕ) (t : Told) (n : ℕ) (answer : Answer) (traced : Bool) → (before ≤ position) × (position ≤ next) → BegunStage before next position (stage_told t n answer traced)
 begun-told before next position t n answer traced low = by (told-which t n answer traced) where

@@ -40,7 +40,7 @@ in-range : (s : Dimensions) (f : ℕ → List Message) (x : ℕ) → x < s.k + s
 in-range s f x within = at-map-range [] f (s.k + s.m) 0 x within ∙ ap f (omega arith)
 
 -- a step of its process appends to each link of a node
-link-behind : (s : Dimensions) (step : ProcessStep) (node : Node) (x : ℕ) → x < s.k + s.m
+pub link-behind : (s : Dimensions) (step : ProcessStep) (node : Node) (x : ℕ) → x < s.k + s.m
     → at [] (node_after s step node).links x ≡ at [] node.links x ++ more_to s x step
 link-behind s step node x within =
     in-range s (λ y. link_after (knows_dead step.process.known (process_at s y)) (at [] node.links y) (sent_to (process_at s y) step.sent)) x within
@@ -99,7 +99,7 @@ by_name : (s : Dimensions) (dead : ProcessId) (x : ℕ) (links : List (List Mess
 by_name s dead x links true same other = absurd (other (ap tells.Notice (sym (same-eq (process_at s x) dead same))))
 by_name s dead x links false same other = refl
 
-others-stay : (s : Dimensions) (m : Message) (node : Node) (x : ℕ) → x < s.k + s.m → m ≢ tells.Notice (process_at s x)
+pub others-stay : (s : Dimensions) (m : Message) (node : Node) (x : ℕ) → x < s.k + s.m → m ≢ tells.Notice (process_at s x)
     → at [] (link_emptied s m node).links x ≡ at [] node.links x
 others-stay s (tells.Notice dead) node x within other =
     in-range s (λ y. if same_process (process_at s y) dead then [] else at [] node.links y) x within
@@ -125,7 +125,7 @@ emptied-by : (s : Dimensions) (m : Message) (dead : ProcessId) (node : Node) →
     → at [] (link_emptied s m node).links (index_of s dead) ≡ []
 emptied-by s m dead node named is = ap (λ (x : Message). at [] (link_emptied s x node).links (index_of s dead)) is ∙ its-own s dead node named
 
-process-stays : (s : Dimensions) (m : Message) (node : Node) → (link_emptied s m node).process ≡ node.process
+pub process-stays : (s : Dimensions) (m : Message) (node : Node) → (link_emptied s m node).process ≡ node.process
 process-stays s (tells.Notice dead) node = refl
 process-stays s (tells.Update r d u stable) node = refl
 process-stays s (tells.Ack r d n) node = refl

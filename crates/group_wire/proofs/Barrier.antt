@@ -6,7 +6,7 @@ use Rattle.group_types.specs.Dimensions.{Dimensions}
 use Rattle.group_types.specs.Names.{IsProcess}
 use Rattle.group_types.specs.declared.process.ProcessId.{ProcessId}
 use Rattle.group_types.proofs.Names.{same-cases}
-use Rattle.group_wire.specs.Actions.{Action, Begin, Send, Read, Treat, Collect, Flush, Learn, Receive, GiveUp, Cut, Say, Hear, Permit, Take, Ping, Pong, Count, Show, Stop}
+use Rattle.group_wire.specs.Actions.{Action, Begin, Send, Read, Treat, Collect, Flush, Learn, Receive, GiveUp, Cut, Say, Hear, Permit, Take, Ping, Pong, Count, Show, LetGo, Stop}
 use Rattle.group_wire.specs.Composed.{Composed, failed_after}
 use Rattle.group_wire.specs.May.{MayAct}
 use Rattle.group_wire.specs.Sets.{IsWithin, Processes, changed, either, nobody, one_or, size_of, with_one}
@@ -41,7 +41,7 @@ pub record Barred (s : Dimensions) (w : Words) (failed : Processes) : Type 0 whe
   pub lost : size_of s failed ≤ s.m
   pub deposed : ((x : ProcessId) → failed x ≡ false) ⊎ Deposed s w failed
 
-any-push : (f : Processes → Bool) (sets : List Processes) (set : Processes) → list_any f (sets ++ set ∷ []) ≡ true → (list_any f sets ≡ true) ⊎ (f set ≡ true)
+pub any-push : (f : Processes → Bool) (sets : List Processes) (set : Processes) → list_any f (sets ++ set ∷ []) ≡ true → (list_any f sets ≡ true) ⊎ (f set ≡ true)
 any-push f [] set some = by (f set) some where
   by : (b : Bool) → (b || false) ≡ true → (false ≡ true) ⊎ (b ≡ true)
   by true is = inr refl
@@ -52,14 +52,14 @@ any-push f (y ∷ sets) set some = by (f y) (any-push f sets set) some where
   by true rest is = inl refl
   by false rest is = rest is
 
-or-which : (a b : Bool) → (a || b) ≡ true → (a ≡ true) ⊎ (b ≡ true)
+pub or-which : (a b : Bool) → (a || b) ≡ true → (a ≡ true) ⊎ (b ≡ true)
 or-which true b is = inl refl
 or-which false b is = inr is
 
 pub or-left : (a b : Bool) → a ≡ true → (a || b) ≡ true
 or-left a b is = ap (λ (c : Bool). c || b) is
 
-or-right : (a b : Bool) → b ≡ true → (a || b) ≡ true
+pub or-right : (a b : Bool) → b ≡ true → (a || b) ≡ true
 or-right true b is = refl
 or-right false b is = is
 
@@ -141,7 +141,7 @@ told-heard w y p (set ∷ rest) is r q x some = by (same-cases r y) (same-cases 
   by (inl ry) (inr other) some = apart (inr other) some
 
 -- what was heard is heard still
-heard-grows : (w : Words) (y p : ProcessId) (sets : List Processes) (q r : ProcessId) → IsWithin (w.heard q r) ((heard_first y p sets w).heard q r)
+pub heard-grows : (w : Words) (y p : ProcessId) (sets : List Processes) (q r : ProcessId) → IsWithin (w.heard q r) ((heard_first y p sets w).heard q r)
 heard-grows w y p [] q r x some = some
 heard-grows w y p (set ∷ rest) q r x some =
     changed-pairs (λ q r now. w.heard q r x ≡ true → now x ≡ true) w.heard p y (either (w.heard p y) set) (λ old. either-left (w.heard p y) set x old) (λ a b old. old) q r some
@@ -381,8 +381,9 @@ barred-step c (Say p) may b = barred-said c.group.shape c.group.words c.failed b
 barred-step c (Hear x p) may b = barred-heard c.group.shape c.group.words c.failed b x p (c.group.words.said x p) refl
 barred-step c (Permit p) may b = barred-permit c.group.shape c.group.words c.failed b p may.0.member may.1
 barred-step c (Take x p) may b = barred-taken c.group.shape c.group.words c.failed b x p may.2
-barred-step c (Ping p) may b = b
+barred-step c (Ping to p) may b = b
 barred-step c (Pong x p) may b = b
 barred-step c (Count x p) may b = b
 barred-step c (Show caller ping) may b = b
+barred-step c (LetGo caller) may b = b
 barred-step c (Stop p) may b = b

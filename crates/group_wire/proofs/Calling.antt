@@ -9,11 +9,11 @@ use Rattle.memc_table.specs.Act.{value_of}
 use Rattle.memc_table.specs.declared.act.Act.{Act}
 use Rattle.memc_table.specs.declared.act.Act.TheVariants as act
 use Rattle.group_calls.specs.declared.event.Answer.{Answer}
-use Rattle.group_calls.specs.declared.event.Answer.TheVariants as says
 use Rattle.group_wire.specs.Sets.{Processes, changed_at, changed_from, one_or}
 use Rattle.group_wire.specs.State.{Request, AskFor, TraceOf, Told, Stage, Unasked, AskedOf, Unknown, TracedAt, Answered, OpenCall, Gateways, gateway_of}
 use Rattle.group_wire.specs.Sending.{sent_on}
 use Rattle.group_wire.specs.Serving.{again, call_learned, stage_learned, stage_told}
+use Rattle.group_wire.proofs.Answering.{goes_on, on-which, told-which}
 use Rattle.group_wire.proofs.Changes.{changed-pairs, changed_at-each, changed_at-here}
 use Rattle.group_wire.proofs.Positions.{CallFits, NoneWait, Positioned, StageFits, call-kept}
 use Rattle.group_wire.proofs.Requests.{FitsAsked, Living, caller_in, is_ask, placed-sent, sent-which, waits, with_sent}
@@ -21,32 +21,11 @@ use Rattle.group_wire.proofs.Requests.{FitsAsked, Living, caller_in, is_ask, pla
 -- what is told of a call that was asked as often as its gateway says
 told-fits : (s : Dimensions) (failed : Processes) (wait : ProcessId → ℕ) (asked next position : ℕ) (t : Told) (pinged : ℕ) (answer : Answer) (traced : Bool)
     → (asked ≡ next) × NoneWait s failed wait × (t.call ≡ position) × (suc position ≡ next) → StageFits s failed wait asked next position (stage_told t pinged answer traced)
-told-fits s failed wait asked next position t pinged (says.Reply reply) traced f = f
-told-fits s failed wait asked next position t pinged says.NoSpace traced f = f
-told-fits s failed wait asked next position t pinged says.Gone true f = (f.0, f.1)
-told-fits s failed wait asked next position t pinged says.Gone false f = (f.0, f.1)
-told-fits s failed wait asked next position t pinged (says.Ticket n) true f = (f.0, f.1, f.3)
-told-fits s failed wait asked next position t pinged (says.Ticket n) false f = (f.0, f.1)
-told-fits s failed wait asked next position t pinged says.NotYet true f = (f.0, f.1, f.3)
-told-fits s failed wait asked next position t pinged says.NotYet false f = (f.0, f.1)
-told-fits s failed wait asked next position t pinged (says.Retry cause) true f = (f.0, f.1, f.3)
-told-fits s failed wait asked next position t pinged (says.Retry cause) false f = (f.0, f.1)
-told-fits s failed wait asked next position t pinged says.Moved true f = (f.0, f.1, f.3)
-told-fits s failed wait asked next position t pinged says.Moved false f = (f.0, f.1)
-told-fits s failed wait asked next position t pinged says.Lost true f = (f.0, f.1, f.3)
-told-fits s failed wait asked next position t pinged says.Lost false f = (f.0, f.1)
-told-fits s failed wait asked next position t pinged says.Down true f = (f.0, f.1, f.3)
-told-fits s failed wait asked next position t pinged says.Down false f = (f.0, f.1)
-told-fits s failed wait asked next position t pinged says.Idle true f = (f.0, f.1, f.3)
-told-fits s failed wait asked next position t pinged says.Idle false f = (f.0, f.1)
-told-fits s failed wait asked next position t pinged says.Stranger true f = (f.0, f.1, f.3)
-told-fits s failed wait asked next position t pinged says.Stranger false f = (f.0, f.1)
-told-fits s failed wait asked next position t pinged says.Done true f = (f.0, f.1, f.3)
-told-fits s failed wait asked next position t pinged says.Done false f = (f.0, f.1)
-told-fits s failed wait asked next position t pinged says.AlreadyDead true f = (f.0, f.1, f.3)
-told-fits s failed wait asked next position t pinged says.AlreadyDead false f = (f.0, f.1)
-told-fits s failed wait asked next position t pinged (says.Stale call) true f = (f.0, f.1, f.3)
-told-fits s failed wait asked next position t pinged (says.Stale call) false f = (f.0, f.1)
+told-fits s failed wait asked next position t pinged answer traced f = by (told-which t pinged answer traced) where
+  by : (stage_told t pinged answer traced ≡ Answered t pinged) ⊎ (stage_told t pinged answer traced ≡ Unasked) ⊎ (stage_told t pinged answer traced ≡ Unknown) → StageFits s failed wait asked next position (stage_told t pinged answer traced)
+  by (inl is) = subst (StageFits s failed wait asked next position) (sym is) f
+  by (inr (inl is)) = subst (StageFits s failed wait asked next position) (sym is) (f.0, f.1)
+  by (inr (inr is)) = subst (StageFits s failed wait asked next position) (sym is) (f.0, f.1, f.3)
 
 -- a call that waits for an answer learns it
 learned-fits : (s : Dimensions) (failed : Processes) (wait : ProcessId → ℕ) (asked next position : ℕ) (t : Told) (pinged : ℕ) (stage : Stage) → t.call ≡ position → t.call < asked
@@ -76,20 +55,30 @@ call-learns s failed wait asked next t pinged (Some o) low f = by (cases_eq o.po
   )
   by (inr other) = (f.0, subst (λ (b : Bool). StageFits s failed wait asked next o.position (one_or b (stage_learned t pinged o.stage) o.stage)) (sym (ne_eqb o.position t.call other)) f.1)
 
--- a call that is given up, once it was asked
+-- a call that is given up goes on
+again-goes : (a : Act) → goes_on (again a) ≡ true
+again-goes (act.Get key) = refl
+again-goes (act.Set key flags expiry value) = refl
+again-goes (act.Add key flags expiry value) = refl
+again-goes (act.Replace key flags expiry value) = refl
+again-goes (act.Cas key flags expiry cas value) = refl
+again-goes (act.Delete key) = refl
+again-goes (act.Touch key expiry) = refl
+again-goes (act.Append key value) = refl
+again-goes (act.Prepend key value) = refl
+again-goes (act.Incr key by) = refl
+again-goes (act.Decr key by) = refl
+
+pub again-which : (a : Act) → (again a ≡ Unasked) ⊎ (again a ≡ Unknown)
+again-which a = on-which (again a) (again-goes a)
+
+-- once it was asked
 pub given-up-fits : (s : Dimensions) (failed : Processes) (wait : ProcessId → ℕ) (asked next position : ℕ) (a : Act) → (asked ≡ next) × NoneWait s failed wait × (suc position ≡ next)
     → StageFits s failed wait asked next position (again a)
-given-up-fits s failed wait asked next position (act.Get key) f = (f.0, f.1)
-given-up-fits s failed wait asked next position (act.Set key flags expiry value) f = f
-given-up-fits s failed wait asked next position (act.Add key flags expiry value) f = f
-given-up-fits s failed wait asked next position (act.Replace key flags expiry value) f = f
-given-up-fits s failed wait asked next position (act.Cas key flags expiry cas value) f = f
-given-up-fits s failed wait asked next position (act.Delete key) f = f
-given-up-fits s failed wait asked next position (act.Touch key expiry) f = f
-given-up-fits s failed wait asked next position (act.Append key value) f = f
-given-up-fits s failed wait asked next position (act.Prepend key value) f = f
-given-up-fits s failed wait asked next position (act.Incr key by) f = f
-given-up-fits s failed wait asked next position (act.Decr key by) f = f
+given-up-fits s failed wait asked next position a f = by (again-which a) where
+  by : (again a ≡ Unasked) ⊎ (again a ≡ Unknown) → StageFits s failed wait asked next position (again a)
+  by (inl is) = subst (StageFits s failed wait asked next position) (sym is) (f.0, f.1)
+  by (inr is) = subst (StageFits s failed wait asked next position) (sym is) f
 
 module _ (s : Dimensions) (cut : ProcessId → Processes) (failed : Processes) (gw : Gateways) (asked : ℕ → ℕ) (b : Positioned s cut failed gw asked) where
   -- a gateway asks under the next position

@@ -11,7 +11,7 @@ use Rattle.group_types.specs.declared.process.ProcessId.{ProcessId}
 use Rattle.group_types.specs.declared.process.ProcessId.TheVariants.{DataNode, ParityNode}
 use Rattle.group_types.proofs.Names.{index-below, process_at-index, same-ne, same-refl}
 use Rattle.memc_table.specs.Act.{value_of}
-use Rattle.group_wire.specs.Actions.{Action, Begin, Send, Read, Treat, Collect, Flush, Learn, Receive, GiveUp, Cut, Say, Hear, Permit, Take, Ping, Pong, Count, Show, Stop}
+use Rattle.group_wire.specs.Actions.{Action, Begin, Send, Read, Treat, Collect, Flush, Learn, Receive, GiveUp, Cut, Say, Hear, Permit, Take, Ping, Pong, Count, Show, LetGo, Stop}
 use Rattle.group_wire.specs.Composed.{AreActions, AreActionsFrom, Composed, composed_with, opening_composed}
 use Rattle.group_wire.specs.May.{AllHaveSaid, CallIsTold, IsCaller, IsHere, IsToldBefore, MayAct, MayRead, MayReadOther, MayShow, WaitsForDead, answerers, call_waits_for}
 use Rattle.group_wire.specs.Rows.{small}
@@ -179,10 +179,11 @@ module _ (g : Group) where
   may_act (Hear x p) = may_read_other x p
   may_act (Permit p) = is_here p && all_have_said p
   may_act (Take x p) = is_here p && (is_process g.shape x && (g.words.permitted p x && not (g.words.taken p x)))
-  may_act (Ping p) = is_here p
+  may_act (Ping to p) = is_here p
   may_act (Pong x p) = may_read_other x p
   may_act (Count x p) = may_read_other x p
   may_act (Show caller ping) = is_caller caller && may_show caller ping
+  may_act (LetGo caller) = is_caller caller && is_none (call_waits_for (g.gateways.call caller))
   may_act (Stop p) = is_process g.shape p
 
   may-is : (a : Action) → ((p x : ProcessId) → g.words.cut p x ≡ true → IsProcess g.shape x) → may_act a ≡ true → MayAct g a
@@ -213,17 +214,18 @@ module _ (g : Group) where
       let two = both (is_process g.shape x) (g.words.permitted p x && not (g.words.taken p x)) one.1 in
       let three = both (g.words.permitted p x) (not (g.words.taken p x)) two.1 in
       (here-is p one.0, process-is g.shape x two.0, three.0, not-is (g.words.taken p x) three.1)
-  may-is (Ping p) inside is = here-is p is
+  may-is (Ping to p) inside is = here-is p is
   may-is (Pong x p) inside is = read-other-is x p is
   may-is (Count x p) inside is = read-other-is x p is
   may-is (Show caller ping) inside is = let parts = both (is_caller caller) (may_show caller ping) is in (caller-is caller parts.0, show-is caller ping parts.1)
+  may-is (LetGo caller) inside is = let parts = both (is_caller caller) (is_none (call_waits_for (g.gateways.call caller))) is in (caller-is caller parts.0, none-is (call_waits_for (g.gateways.call caller)) parts.1)
   may-is (Stop p) inside is = process-is g.shape p is
 
 -- members cut members
-abbrev CutsInside : Dimensions → Words → Type 0
+abbrev pub CutsInside : Dimensions → Words → Type 0
 CutsInside s words = (p x : ProcessId) → words.cut p x ≡ true → IsProcess s x
 
-cuts-inside : (g : Group) (a : Action) → MayAct g a → CutsInside g.shape g.words → CutsInside g.shape (words_after g.words a)
+pub cuts-inside : (g : Group) (a : Action) → MayAct g a → CutsInside g.shape g.words → CutsInside g.shape (words_after g.words a)
 cuts-inside g (Cut y p) may inside = λ q x.
     changed-each (λ q set. set x ≡ true → IsProcess g.shape x) g.words.cut p (with_one (g.words.cut p) y)
     (changed-each (λ x is. is ≡ true → IsProcess g.shape x) (g.words.cut p) y true (λ _. may.1) (λ x other is. inside p x is) x) (λ q other is. inside q x is) q
@@ -243,10 +245,11 @@ cuts-inside g (GiveUp caller) may inside = inside
 cuts-inside g (Say p) may inside = inside
 cuts-inside g (Permit p) may inside = inside
 cuts-inside g (Take x p) may inside = inside
-cuts-inside g (Ping p) may inside = inside
+cuts-inside g (Ping to p) may inside = inside
 cuts-inside g (Pong x p) may inside = inside
 cuts-inside g (Count x p) may inside = inside
 cuts-inside g (Show caller ping) may inside = inside
+cuts-inside g (LetGo caller) may inside = inside
 cuts-inside g (Stop p) may inside = inside
 
 abbrev pub all_may : Composed → List Action → Bool

@@ -15,8 +15,8 @@ use Rattle.group_calls.specs.declared.event.Event.{Event}
 use Rattle.group_calls.specs.declared.event.Event.TheVariants as event
 use Rattle.group_run.specs.Asking.{collect_from}
 use Rattle.group_run.specs.Heading.{partition}
-use Rattle.group_wire.specs.Actions.{Action, Begin, Send, Read, Treat, Collect, Flush, Learn, Receive, GiveUp, Cut, Say, Hear, Permit, Take, Ping, Pong, Count, Show, Stop}
-use Rattle.group_wire.specs.Composed.{AreActions, AreActionsFrom, Composed, Made, asks_among, call_given_up, composed, composed_from, composed_with, events_of, failures_at, given_up, lost_ask, made_by, message_made, opening_composed, request_made, stands_if}
+use Rattle.group_wire.specs.Actions.{Action, Begin, Send, Read, Treat, Collect, Flush, Learn, Receive, GiveUp, Cut, Say, Hear, Permit, Take, Ping, Pong, Count, Show, LetGo, Stop}
+use Rattle.group_wire.specs.Composed.{Composed, Made, asks_among, call_given_up, composed_with, events_of, failures_at, given_up, lost_ask, made_by, message_made, opening_composed, request_made, stands_if}
 use Rattle.group_wire.specs.May.{MayAct}
 use Rattle.group_wire.specs.Sets.{Processes, changed, changed_at, changed_from, either, one_or, with_one, without}
 use Rattle.group_wire.specs.State.{Request, AskFor, TraceOf, Told, Stage, Unasked, AskedOf, Unknown, TracedAt, Answered, OpenCall, Gateways, Group, gateway_of}
@@ -27,10 +27,10 @@ use Rattle.group_wire.proofs.Changes.{changed-each, changed_at-each, changed_at-
 use Rattle.group_wire.proofs.Placing.{failures-quiet, quiet-if, quiet-none}
 use Rattle.group_wire.proofs.Positions.{CallFits, StageFits, asked_by, asked_in, asks-made, asks-quiet}
 use Rattle.group_wire.proofs.Requests.{Living, each-entry, lane-none, park-none, waits}
-use Rattle.group_wire.proofs.Telling.{LearnedAt, learned-step}
+use Rattle.group_wire.proofs.Telling.{LearnedAt}
 use Rattle.group_wire.proofs.Wanting.{AskIs, Right, Rights, ask-none, ask-one, op_of, rights-as, rights-cut, rights-fail, rights-new, rights-none, rights-read, rights-sent, rights-taken, wants}
 use Rattle.group_wire.proofs.Wants.{AskCall, AskStage, FirmCall, asks-call, asks-call-learned, asks-given-up, asks-stay, firm-call, firm-call-learned, firm-given-up, op-learned}
-use Rattle.group_wire.proofs.Whole.{Whole, whole-opening, whole-step}
+use Rattle.group_wire.proofs.Whole.{Whole}
 
 -- what holds of what clients asked
 pub record Wanted (s : Dimensions) (cut : ProcessId → Processes) (failed : Processes) (lived : ProcessId → ℕ) (gw : Gateways) (made : List Made) : Type 0 where
@@ -63,7 +63,7 @@ wanted-tell g failed lived gw made p (t ∷ ts) b = wanted-tell g failed lived (
 
 module _ (c : Composed) (h : Whole c) (l : LearnedAt c) (b : WantedAt c) where
   -- whoever counts as living now, by the pings that it had sent, did before
-  was : (now : Processes) (later : ProcessId → ℕ) → ((g : ProcessId) (n : ℕ) → n ≤ c.group.signs.pinged g → (now g ≡ false) ⊎ (n < later g) → (c.failed g ≡ false) ⊎ (n < c.lived g))
+  pub was : (now : Processes) (later : ProcessId → ℕ) → ((g : ProcessId) (n : ℕ) → n ≤ c.group.signs.pinged g → (now g ≡ false) ⊎ (n < later g) → (c.failed g ≡ false) ⊎ (n < c.lived g))
       → (caller : ℕ) (o : OpenCall) (t : Told) (n : ℕ) → c.group.gateways.call caller ≡ Some o → o.stage ≡ Answered t n → (now (gateway_of c.group.shape caller) ≡ false) ⊎ (n < later (gateway_of c.group.shape caller))
       → (c.failed (gateway_of c.group.shape caller) ≡ false) ⊎ (n < c.lived (gateway_of c.group.shape caller))
   was now later alive caller o t n call stage which = alive (gateway_of c.group.shape caller) n sol.0 which where
@@ -141,44 +141,42 @@ module _ (c : Composed) (h : Whole c) (l : LearnedAt c) (b : WantedAt c) where
         which true _ = still
         which false lives = event-of r is lives
 
+  -- an ask that is given up is for what its client asked
+  pub lost-asks : (caller : ℕ) (o : OpenCall) (lost : Bool) → c.group.gateways.call caller ≡ Some o → Wanted c.group.shape c.group.words.cut c.failed c.lived c.group.gateways (c.made ++ stands_if lost (given_up (events_of c) caller o o.stage))
+  lost-asks caller o true is = still
+  lost-asks caller o false is = at o.stage where
+    lost-one : (x : ProcessId) (d : Bool) → Wanted c.group.shape c.group.words.cut c.failed c.lived c.group.gateways (c.made ++ lost_ask d caller o.op x)
+    lost-one x false = still
+    lost-one x true = one (record { event = event.Ask caller o.op x; answer = says.Lost }) (λ who q y other p gl call stage same. by who q other call (ap ask-caller same) (ap ask-op same)) where
+      ask-caller : Event → ℕ
+      ask-caller (event.Ask n a q) = n
+      ask-caller _ = caller
+
+      ask-op : Event → Asked
+      ask-op (event.Ask n a q) = a
+      ask-op _ = o.op
+
+      by : (who : ℕ) (q : OpenCall) (other : Asked) → c.group.gateways.call who ≡ Some q → caller ≡ who → o.op ≡ other → other ≡ q.op
+      by who q other call same_caller same_op =
+          let joined : Some o ≡ Some q = sym is ∙ ap c.group.gateways.call same_caller ∙ call in
+          sym same_op ∙ ap (λ (p : Option OpenCall). elim p [ None ↦ o.op | Some z ↦ z.op ]) joined
+
+    at : (stage : Stage) → Wanted c.group.shape c.group.words.cut c.failed c.lived c.group.gateways (c.made ++ given_up (events_of c) caller o stage)
+    at Unasked = still
+    at Unknown = still
+    at (TracedAt x) = still
+    at (Answered t n) = still
+    at (AskedOf x) = lost-one x (nat_le (asks_among caller (events_of c)) o.position)
+
   gives-up : (caller : ℕ) (call : Option OpenCall) (lost : Bool) → c.group.gateways.call caller ≡ call
       → Wanted c.group.shape c.group.words.cut c.failed c.lived (if_open call c.group.gateways (λ o. staged caller o (stage_given_up o.op o.stage) c.group.gateways)) (c.made ++ stands_if lost (call_given_up (events_of c) caller call))
   gives-up caller None true is = still
   gives-up caller None false is = still
-  gives-up caller (Some o) lost is = wanted-call c.group.shape c.group.words.cut c.failed c.lived c.group.gateways (c.made ++ stands_if lost (given_up (events_of c) caller o o.stage)) base caller (Some (record o { stage = stage_given_up o.op o.stage }))
+  gives-up caller (Some o) lost is = wanted-call c.group.shape c.group.words.cut c.failed c.lived c.group.gateways (c.made ++ stands_if lost (given_up (events_of c) caller o o.stage)) (lost-asks caller o lost is) caller (Some (record o { stage = stage_given_up o.op o.stage }))
       (sym (ap op_of is))
-      (λ gl. asks-given-up (c.made ++ stands_if lost (given_up (events_of c) caller o o.stage)) caller o.position o.op o.op o.stage (subst (AskCall (c.made ++ stands_if lost (given_up (events_of c) caller o o.stage)) caller) is (base.asks caller gl)))
+      (λ gl. asks-given-up (c.made ++ stands_if lost (given_up (events_of c) caller o o.stage)) caller o.position o.op o.op o.stage (subst (AskCall (c.made ++ stands_if lost (given_up (events_of c) caller o o.stage)) caller) is ((lost-asks caller o lost is).asks caller gl)))
       (firm-given-up (c.made ++ stands_if lost (given_up (events_of c) caller o o.stage)) caller (c.failed (gateway_of c.group.shape caller)) (c.lived (gateway_of c.group.shape caller)) o.position o.op o.op o.stage
-      (subst (FirmCall (c.made ++ stands_if lost (given_up (events_of c) caller o o.stage)) caller (c.failed (gateway_of c.group.shape caller)) (c.lived (gateway_of c.group.shape caller))) is (base.firm caller)))
-    where
-      lost-one : (x : ProcessId) (d : Bool) → Wanted c.group.shape c.group.words.cut c.failed c.lived c.group.gateways (c.made ++ lost_ask d caller o.op x)
-      lost-one x false = still
-      lost-one x true = one (record { event = event.Ask caller o.op x; answer = says.Lost }) (λ who q y other p gl call stage same. by who q other call (ap ask-caller same) (ap ask-op same)) where
-        ask-caller : Event → ℕ
-        ask-caller (event.Ask n a q) = n
-        ask-caller _ = caller
-
-        ask-op : Event → Asked
-        ask-op (event.Ask n a q) = a
-        ask-op _ = o.op
-
-        by : (who : ℕ) (q : OpenCall) (other : Asked) → c.group.gateways.call who ≡ Some q → caller ≡ who → o.op ≡ other → other ≡ q.op
-        by who q other call same_caller same_op =
-            let joined : Some o ≡ Some q = sym is ∙ ap c.group.gateways.call same_caller ∙ call in
-            sym same_op ∙ ap (λ (p : Option OpenCall). elim p [ None ↦ o.op | Some z ↦ z.op ]) joined
-
-      at : (stage : Stage) → Wanted c.group.shape c.group.words.cut c.failed c.lived c.group.gateways (c.made ++ given_up (events_of c) caller o stage)
-      at Unasked = still
-      at Unknown = still
-      at (TracedAt x) = still
-      at (Answered t n) = still
-      at (AskedOf x) = lost-one x (nat_le (asks_among caller (events_of c)) o.position)
-
-      base : Wanted c.group.shape c.group.words.cut c.failed c.lived c.group.gateways (c.made ++ stands_if lost (given_up (events_of c) caller o o.stage))
-      base = which lost where
-        which : (b : Bool) → Wanted c.group.shape c.group.words.cut c.failed c.lived c.group.gateways (c.made ++ stands_if b (given_up (events_of c) caller o o.stage))
-        which true = still
-        which false = at o.stage
+      (subst (FirmCall (c.made ++ stands_if lost (given_up (events_of c) caller o o.stage)) caller (c.failed (gateway_of c.group.shape caller)) (c.lived (gateway_of c.group.shape caller))) is ((lost-asks caller o lost is).firm caller)))
 
   sends : (caller : ℕ) (x : ProcessId) (call : Option OpenCall) → c.group.gateways.call caller ≡ call
       → Wanted c.group.shape c.group.words.cut c.failed c.lived (if_open call c.group.gateways (λ o. sends_by c.group caller x o o.stage)) (c.made ++ [])
@@ -261,7 +259,16 @@ module _ (c : Composed) (h : Whole c) (l : LearnedAt c) (b : WantedAt c) where
           was-living false same pl = same
           was-living true same pl = cc (h.barred.cut p x may.here.member pl same, may.uncut)
 
-  wanted-step : (a : Action) → MayAct c.group a → WantedAt (composed_with c a)
+  -- a call ends
+  ends : (caller : ℕ) → Wanted c.group.shape c.group.words.cut c.failed c.lived (record c.group.gateways { call = changed_at c.group.gateways.call caller None }) (c.made ++ [])
+  ends caller = record {
+    rights = rights-none c.group.shape c.group.words.cut c.failed c.group.gateways.requests c.group.gateways.parked (wants c.group.gateways) still.rights (wants (record c.group.gateways { call = changed_at c.group.gateways.call caller None })) caller
+        (λ d other. ap (λ (e : Bool). op_of (one_or e None (c.group.gateways.call d))) (ne_eqb d caller other)) (ap op_of (changed_at-here c.group.gateways.call caller None));
+    asks = changed_at-each (λ d call. c.failed (gateway_of c.group.shape d) ≡ false → AskCall (c.made ++ []) d call) c.group.gateways.call caller None (λ _. tt) (λ d _. still.asks d);
+    firm = changed_at-each (λ d call. FirmCall (c.made ++ []) d (c.failed (gateway_of c.group.shape d)) (c.lived (gateway_of c.group.shape d)) call) c.group.gateways.call caller None tt (λ d _. still.firm d);
+  }
+
+  pub wanted-step : (a : Action) → MayAct c.group a → WantedAt (composed_with c a)
   wanted-step (Begin caller op) may = begins caller op may.1
   wanted-step (Send caller x) may = sends caller x (c.group.gateways.call caller) refl
   wanted-step (Read x p) may = by (c.group.gateways.requests x p) refl where
@@ -314,22 +321,12 @@ module _ (c : Composed) (h : Whole c) (l : LearnedAt c) (b : WantedAt c) where
         (λ caller o x gl call stage at. asks-stay c.made (failures_at c.group.shape c.failed (c.group.words.cut p) (range_with_len 0 (c.group.shape.k + c.group.shape.m))) caller o.position o.op
         (asks-quiet c.made (failures_at c.group.shape c.failed (c.group.words.cut p) (range_with_len 0 (c.group.shape.k + c.group.shape.m))) (failures-quiet c.group.shape c.failed (c.group.words.cut p) (range_with_len 0 (c.group.shape.k + c.group.shape.m)))) at)
   wanted-step (Take x p) may = quiet (made_by c (Take x p)) (quiet-if c.made (c.failed p) (record { event = event.Deliver x p; answer = says.Done }) (λ _. refl))
-  wanted-step (Ping p) may = still
+  wanted-step (Ping to p) may = still
   wanted-step (Pong x p) may = still
   wanted-step (Count x p) may = still
-  wanted-step (Show caller ping) may = record {
-    rights = rights-none c.group.shape c.group.words.cut c.failed c.group.gateways.requests c.group.gateways.parked (wants c.group.gateways) still.rights (wants (record c.group.gateways { call = changed_at c.group.gateways.call caller None })) caller
-        (λ d other. ap (λ (e : Bool). op_of (one_or e None (c.group.gateways.call d))) (ne_eqb d caller other)) (ap op_of (changed_at-here c.group.gateways.call caller None));
-    asks = changed_at-each (λ d call. c.failed (gateway_of c.group.shape d) ≡ false → AskCall (c.made ++ []) d call) c.group.gateways.call caller None (λ _. tt) (λ d _. still.asks d);
-    firm = changed_at-each (λ d call. FirmCall (c.made ++ []) d (c.failed (gateway_of c.group.shape d)) (c.lived (gateway_of c.group.shape d)) call) c.group.gateways.call caller None tt (λ d _. still.firm d);
-  }
+  wanted-step (Show caller ping) may = ends caller
+  wanted-step (LetGo caller) may = ends caller
   wanted-step (Stop p) may = still
 
-wanted-from : (c : Composed) (actions : List Action) → AreActionsFrom c actions → Whole c → LearnedAt c → WantedAt c → WantedAt (composed_from c actions)
-wanted-from c [] run h l b = b
-wanted-from c (a ∷ rest) run h l b = wanted-from (composed_with c a) rest run.1 (whole-step c h a run.0) (learned-step c h l a run.0) (wanted-step c h l b a run.0)
-
-pub wanted : (s : Dimensions) (actions : List Action) → AreActions s actions → WantedAt (composed s actions)
-wanted s actions run = wanted-from (opening_composed s) actions run.1 (whole-opening s run.0)
-    (record { lanes = λ x g xl. tt; past = λ caller. omega arith; lively = λ p. omega arith; opened = λ caller gl. tt; solid = λ caller. tt })
-    (record { rights = record { lanes = λ g x lives uncut. tt; parks = λ x lives. tt }; asks = λ caller gl. tt; firm = λ caller. tt })
+pub wanted-opening : (s : Dimensions) → WantedAt (opening_composed s)
+wanted-opening s = record { rights = record { lanes = λ g x lives uncut. tt; parks = λ x lives. tt }; asks = λ caller gl. tt; firm = λ caller. tt }

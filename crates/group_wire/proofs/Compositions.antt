@@ -31,13 +31,13 @@ module _ (c : Composed) (h : Whole c) where
   shape = shape-after c.group.shape (events_of c) h.composes.makes.run
 
   -- the machine's process and link, in the group's shape
-  process-same : (p : ProcessId) → process_of (machine c) p ≡ (node_in c.group.shape (machine c).nodes p).process
+  pub process-same : (p : ProcessId) → process_of (machine c) p ≡ (node_in c.group.shape (machine c).nodes p).process
   process-same p = λ i. (node_in (shape i) (machine c).nodes p).process
 
-  link-same : (p q : ProcessId) → link (machine c) p q ≡ link_in c.group.shape (machine c).nodes p q
+  pub link-same : (p q : ProcessId) → link (machine c) p q ≡ link_in c.group.shape (machine c).nodes p q
   link-same p q = λ i. at [] (node_in (shape i) (machine c).nodes p).links (index_of (shape i) q)
 
-  dead-same : (p : ProcessId) → is_dead (machine c) p ≡ (node_in c.group.shape (machine c).nodes p).dead
+  pub dead-same : (p : ProcessId) → is_dead (machine c) p ≡ (node_in c.group.shape (machine c).nodes p).dead
   dead-same p = λ i. (node_in (shape i) (machine c).nodes p).dead
 
   pub is-composed : IsComposed c

@@ -18,7 +18,8 @@ use Rattle.group_run.specs.Receiving.{receive}
 use Rattle.group_run.specs.World.{NodeStep, DeliveryStep, World, after, all_change, delivered, flush_process, if_up, link_after, link_emptied, links_after, links_without, next_name, node_after, node_failed, node_in, node_of, nodes_told, opening, sent_to, step, treated, unchanged, with_link, with_node, world_after}
 use Rattle.law_moves.specs.State.{state_from}
 use Rattle.law_moves.proofs.Events.{emptied-dead}
-use Rattle.law_moves.proofs.Members.{Stands, is_notice}
+use Rattle.law_moves.proofs.Members.{Stands}
+use Rattle.law_moves.specs.Known.{is_notice}
 use Rattle.law_moves.proofs.Moves.{Died, Popped}
 use Rattle.law_moves.proofs.Reading.{at-indices, link-others, link-sent, node-back, node-here, node-other, size-with_node}
 use Rattle.law_moves.proofs.Runs.{runs_move}

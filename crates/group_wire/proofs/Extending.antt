@@ -120,6 +120,10 @@ module _ (s : Dimensions) (es : List Event) (run : IsRun s es) where
       → Stands x (node_in s (after s es).nodes x).dead (knows_dead (node_in s (after s es).nodes q).process.known x) (at [] (node_in s (after s es).nodes x).links (index_of s q))
   stands-after = members.stands
 
+  -- processes have their names
+  pub named-after : (p : ProcessId) → IsProcess s p → (node_in s (after s es).nodes p).process.name ≡ p
+  named-after = members.named
+
   -- a process that lives knows of no other that lives that it is dead
   pub unknown-after : (p q : ProcessId) → IsProcess s p → IsProcess s q → q ≢ p → (node_in s (after s es).nodes p).dead ≡ false → (node_in s (after s es).nodes q).dead ≡ false
       → knows_dead (node_in s (after s es).nodes p).process.known q ≡ false

@@ -18,7 +18,7 @@ use Rattle.group_calls.specs.declared.event.Event.TheVariants as event
 use Rattle.group_run.specs.Asking.{collect_from}
 use Rattle.group_run.specs.Heading.{partition}
 use Rattle.group_run.specs.World.{front_if}
-use Rattle.group_wire.specs.Actions.{Action, Begin, Send, Read, Treat, Collect, Flush, Learn, Receive, GiveUp, Cut, Say, Hear, Permit, Take, Ping, Pong, Count, Show, Stop}
+use Rattle.group_wire.specs.Actions.{Action, Begin, Send, Read, Treat, Collect, Flush, Learn, Receive, GiveUp, Cut, Say, Hear, Permit, Take, Ping, Pong, Count, Show, LetGo, Stop}
 use Rattle.group_wire.specs.Composed.{Composed, Made, asks_among, call_given_up, composed_with, events_of, failed_after, failures_at, given_up, lost_ask, message_made, request_made, stands_if}
 use Rattle.group_wire.specs.May.{CallIsTold, IsToldBefore, MayAct, WaitsForDead, call_waits_for, waits_for}
 use Rattle.group_wire.specs.Sets.{Processes, changed, either, one_or, with_one, without}
@@ -329,7 +329,7 @@ positioned-step c (Permit p) some may barred held b = by (c.failed p) where
   by false = positioned-as _ _ _ _ _ _ (asks-quiet c.made (failures_at c.group.shape c.failed (c.group.words.cut p) (range_with_len 0 (c.group.shape.k + c.group.shape.m))) (failures-quiet c.group.shape c.failed (c.group.words.cut p) (range_with_len 0 (c.group.shape.k + c.group.shape.m))))
       (positioned-fail c.group.shape c.group.words.cut c.failed c.group.gateways (asked_in c) b (either c.failed (c.group.words.cut p)) (λ x out. (either-not c.failed (c.group.words.cut p) x out).0))
 positioned-step c (Take x p) some may barred held b = positioned-as _ _ _ _ _ _ (quiet-if c.made (c.failed p) (record { event = event.Deliver x p; answer = says.Done }) (λ _. refl)) b
-positioned-step c (Ping p) some may barred held b = positioned-as _ _ _ _ _ _ (quiet-none c.made) b
+positioned-step c (Ping to p) some may barred held b = positioned-as _ _ _ _ _ _ (quiet-none c.made) b
 positioned-step c (Pong x p) some may barred held b = positioned-as _ _ _ _ _ _ (quiet-none c.made) b
 positioned-step c (Count x p) some may barred held b = positioned-as _ _ _ _ _ _ (quiet-none c.made) b
 positioned-step c (Show caller ping) some may barred held b = positioned-as _ _ _ _ _ _ (quiet-none c.made)
@@ -347,4 +347,18 @@ positioned-step c (Show caller ping) some may barred held b = positioned-as _ _ 
         → CallIsTold c.group call ping → CallFits c.group.shape c.failed (waits c.group.shape c.group.words.cut c.group.gateways.requests c.group.gateways.parked caller) (asked_in c caller) (c.group.gateways.next caller) None
     shown None f told = absurd told
     shown (Some o) f told = at_end o o.stage f.1 told
+positioned-step c (LetGo caller) some may barred held b = positioned-as _ _ _ _ _ _ (quiet-none c.made)
+    (positioned-call c.group.shape c.group.words.cut c.failed c.group.gateways (asked_in c) b caller None (λ lives. goes (c.group.gateways.call caller) may.1 (b.calls caller lives)))
+  where
+    -- a call that waits for no member has no ask that can still be treated
+    at_end : (o : OpenCall) (stage : Stage) → waits_for stage ≡ None → StageFits c.group.shape c.failed (waits c.group.shape c.group.words.cut c.group.gateways.requests c.group.gateways.parked caller) (asked_in c caller) (c.group.gateways.next caller) o.position stage → CallFits c.group.shape c.failed (waits c.group.shape c.group.words.cut c.group.gateways.requests c.group.gateways.parked caller) (asked_in c caller) (c.group.gateways.next caller) None
+    at_end o Unasked none f = f
+    at_end o Unknown none f = (f.0, f.1)
+    at_end o (Answered t n) none f = (f.0, f.1)
+    at_end o (AskedOf y) none f = cc none
+    at_end o (TracedAt y) none f = cc none
+
+    goes : (call : Option OpenCall) → call_waits_for call ≡ None → CallFits c.group.shape c.failed (waits c.group.shape c.group.words.cut c.group.gateways.requests c.group.gateways.parked caller) (asked_in c caller) (c.group.gateways.next caller) call → CallFits c.group.shape c.failed (waits c.group.shape c.group.words.cut c.group.gateways.requests c.group.gateways.parked caller) (asked_in c caller) (c.group.gateways.next caller) None
+    goes None none f = f
+    goes (Some o) none f = at_end o o.stage none f.1
 positioned-step c (Stop p) some may barred held b = positioned-as _ _ _ _ _ _ (quiet-none c.made) b

@@ -28,14 +28,14 @@ use Rattle.group_wire.proofs.Answering.{Solid, SolidCall, SolidStage}
 use Rattle.group_wire.proofs.Extending.{events_in}
 use Rattle.group_wire.proofs.Honest.{honest, shown-alive}
 use Rattle.group_wire.proofs.Positions.{asked_by}
-use Rattle.group_wire.proofs.Clients.{wanted}
+use Rattle.group_wire.proofs.Spending.{carries}
 use Rattle.group_wire.proofs.Telling.{LearnedAt, learned}
 use Rattle.group_wire.proofs.Wanting.{AskIs}
 use Rattle.group_wire.proofs.Wants.{FirmCall, FirmStage}
 use Rattle.group_wire.proofs.Whole.{Whole, whole}
 
 -- a list of turns, and what was made beside it
-made-turn : (w : World) (made : List Made) (place : ℕ) (x : Made) → slice_get made place ≡ Some x → map (λ (t : Turn). t.answer) (turns_from w (events_in made)) ≡ map (λ x. x.answer) made
+pub made-turn : (w : World) (made : List Made) (place : ℕ) (x : Made) → slice_get made place ≡ Some x → map (λ (t : Turn). t.answer) (turns_from w (events_in made)) ≡ map (λ x. x.answer) made
     → (turn : Turn) × (slice_get (turns_from w (events_in made)) place ≡ Some turn) × (turn.event ≡ x.event) × (turn.answer ≡ x.answer)
 made-turn w [] place x is same = absurd (cc is)
 made-turn w (y ∷ made) zero x is same = (
@@ -54,13 +54,13 @@ made-turn w (y ∷ made) (suc place) x is same = made-turn (step w y.event).worl
   rest (a ∷ more) = more
 
 -- what was made beside a turn
-turn-made : (w : World) (made : List Made) (j : ℕ) (t : Turn) → slice_get (turns_from w (events_in made)) j ≡ Some t → (y : Made) × (slice_get made j ≡ Some y) × (y.event ≡ t.event)
+pub turn-made : (w : World) (made : List Made) (j : ℕ) (t : Turn) → slice_get (turns_from w (events_in made)) j ≡ Some t → (y : Made) × (slice_get made j ≡ Some y) × (y.event ≡ t.event)
 turn-made w [] j t is = absurd (cc is)
 turn-made w (y ∷ made) zero t is = (y, refl, ap (λ (o : Option Turn). elim o [ None ↦ y.event | Some z ↦ z.event ]) is)
 turn-made w (y ∷ made) (suc j) t is = turn-made (step w y.event).world made j t is
 
 -- the asks among the first turns are those among the first events
-asks-front : (w : World) (made : List Made) (n caller : ℕ) → asks_of caller (take n (turns_from w (events_in made))) ≡ asks_among caller (map (λ x. x.event) (take n made))
+pub asks-front : (w : World) (made : List Made) (n caller : ℕ) → asks_of caller (take n (turns_from w (events_in made))) ≡ asks_among caller (map (λ x. x.event) (take n made))
 asks-front w made zero caller = refl
 asks-front w [] (suc n) caller = refl
 asks-front w (y ∷ made) (suc n) caller = let rest = asks-front (step w y.event).world made n caller in omega (arith, rest)
@@ -115,7 +115,7 @@ asks-next caller (u ∷ turns) zero t is = let same : asks_in caller u.event ≡
 asks-next caller (u ∷ turns) (suc i) t is = let rest = asks-next caller turns i t is in omega (arith, rest)
 
 -- a gateway that shows an answer had not failed when it was told
-told-alive : (c : Composed) (caller ping : ℕ) (o : OpenCall) (t : Told) → SentAlive c (gateway_of c.group.shape caller) ping → MayAct c.group (Show caller ping) → (shows : Shows c caller o t)
+pub told-alive : (c : Composed) (caller ping : ℕ) (o : OpenCall) (t : Told) → SentAlive c (gateway_of c.group.shape caller) ping → MayAct c.group (Show caller ping) → (shows : Shows c caller o t)
     → (c.failed (gateway_of c.group.shape caller) ≡ false) ⊎ (shows.pinged < c.lived (gateway_of c.group.shape caller))
 told-alive c caller ping o t alive may shows = by alive where
   before : shows.pinged ≤ ping
@@ -238,4 +238,4 @@ shown_is_logged s actions caller ping o t reply run apart may shows told =
 
     firm : FirmStage c.made caller (c.failed (gateway_of c.group.shape caller)) (c.lived (gateway_of c.group.shape caller)) o.position o.op (Answered t shows.pinged)
     firm = subst (FirmStage c.made caller (c.failed (gateway_of c.group.shape caller)) (c.lived (gateway_of c.group.shape caller)) o.position o.op) shows.stage
-        (subst (FirmCall c.made caller (c.failed (gateway_of c.group.shape caller)) (c.lived (gateway_of c.group.shape caller))) shows.call ((wanted s actions run).firm caller))
+        (subst (FirmCall c.made caller (c.failed (gateway_of c.group.shape caller)) (c.lived (gateway_of c.group.shape caller))) shows.call ((carries s actions run).wanted.firm caller))

@@ -1,17 +1,18 @@
 -- Pings and pongs along runs: who answers a ping that was sent by a member after it failed has failed too.
-use Rattle.std.proofs.Common.{ℕ, suc, ◌≡◌, ◌≢◌, ◌<◌, ◌≤◌, Bool, true, false, List, [], ◌∷◌, ◌++◌, refl, ap, subst, arith}
+use Rattle.std.proofs.Common.{ℕ, suc, ◌≡◌, ◌≢◌, ◌<◌, ◌≤◌, nat_le, Bool, true, false, List, [], ◌∷◌, ◌++◌, refl, ap, subst, arith}
+use Rattle.std.proofs.lemmas.Grind.{common_steps}
 use Rattle.group_types.specs.Dimensions.{Dimensions}
 use Rattle.group_types.specs.Each.{Each}
 use Rattle.group_types.specs.declared.process.ProcessId.{ProcessId}
 use Rattle.group_types.proofs.Eaches.{each-append, each-weaker}
-use Rattle.group_wire.specs.Actions.{Action, Begin, Send, Read, Treat, Collect, Flush, Learn, Receive, GiveUp, Cut, Say, Hear, Permit, Take, Ping, Pong, Count, Show, Stop}
+use Rattle.group_wire.specs.Actions.{Action, Begin, Send, Read, Treat, Collect, Flush, Learn, Receive, GiveUp, Cut, Say, Hear, Permit, Take, Ping, Pong, Count, Show, LetGo, Stop}
 use Rattle.group_wire.specs.Composed.{Composed, failed_after, lived_after}
 use Rattle.group_wire.specs.May.{MayAct}
-use Rattle.group_wire.specs.Sets.{Processes, changed_at, either, nobody, one_or, with_one}
+use Rattle.group_wire.specs.Sets.{Processes, either, nobody, one_or, with_one}
 use Rattle.group_wire.specs.State.{Signs, opening_group}
 use Rattle.group_wire.specs.Stepping.{answered_first, counted_first, signs_after}
 use Rattle.group_wire.proofs.Barrier.{Barred}
-use Rattle.group_wire.proofs.Changes.{changed-each, changed-here, changed-pairs, changed_at-each, either-left, one_or-is}
+use Rattle.group_wire.proofs.Changes.{changed-each, changed-here, changed-pairs, either-left, one_or-is}
 
 -- x may have answered ping j of g: it was sent, and if g had failed by then x has failed too
 pub record Answers (pinged : ProcessId → ℕ) (failed : Processes) (lived : ProcessId → ℕ) (g x : ProcessId) (j : ℕ) : Type 0 where
@@ -27,30 +28,33 @@ pub record Signed (signs : Signs) (failed : Processes) (lived : ProcessId → �
 pub signed-opening : (s : Dimensions) → Signed (opening_group s).signs nobody (λ p. 0)
 signed-opening s = record { pings = λ g x. tt; pongs = λ x g. tt; answered = λ g x j is. cc is }
 
+le-is : (a b : ℕ) → nat_le a b ≡ true → a ≤ b
+le-is a b is = grind (arith, common_steps)
+
 module _ (s : Dimensions) (signs : Signs) (cut : ProcessId → Processes) (failed : Processes) (lived : ProcessId → ℕ) (b : Signed signs failed lived) where
   -- a member sends a ping
-  signed-ping : (p : ProcessId) → Signed (signs_after cut signs (Ping p)) failed lived
-  signed-ping p = record {
-    pings = λ g x. changed-each (λ g row. Each (λ j. j < more g) (row x)) signs.pings p (λ q. one_or (cut p q) (signs.pings p q) (signs.pings p q ++ signs.pinged p ∷ []))
-        (one_or-is (Each (λ j. j < more p)) (cut p x) (signs.pings p x) (signs.pings p x ++ signs.pinged p ∷ []) (λ _. old p x)
-        (λ _. each-append (λ j. j < more p) (signs.pings p x) (signs.pinged p ∷ []) (old p x) (last, tt)))
+  signed-ping : (to : Processes) (p : ProcessId) → Signed (signs_after cut signs (Ping to p)) failed lived
+  signed-ping to p = record {
+    pings = λ g x. changed-each (λ g row. Each (λ j. j < more g) (row x)) signs.pings p (λ q. one_or (cut p q) (signs.pings p q) (signs.pings p q ++ one_or (to q) (signs.pinged p ∷ []) []))
+        (one_or-is (Each (λ j. j < more p)) (cut p x) (signs.pings p x) (signs.pings p x ++ one_or (to x) (signs.pinged p ∷ []) []) (λ _. old p x)
+        (λ _. each-append (λ j. j < more p) (signs.pings p x) (one_or (to x) (signs.pinged p ∷ []) []) (old p x) (one_or-is (Each (λ j. j < more p)) (to x) (signs.pinged p ∷ []) [] (λ _. (last, tt)) (λ _. tt))))
         (λ g _. old g x) g;
-    pongs = λ x g. each-weaker (Answers signs.pinged failed lived g x) (Answers (signs_after cut signs (Ping p)).pinged failed lived g x) (later g x) (signs.pongs x g) (b.pongs x g);
+    pongs = λ x g. each-weaker (Answers signs.pinged failed lived g x) (Answers (signs_after cut signs (Ping to p)).pinged failed lived g x) (later g x) (signs.pongs x g) (b.pongs x g);
     answered = λ g x j is. (later g x j (b.answered g x j is).0, (b.answered g x j is).1);
   } where
     more : ProcessId → ℕ
-    more = (signs_after cut signs (Ping p)).pinged
+    more = (signs_after cut signs (Ping to p)).pinged
 
-    rises : (g : ProcessId) → signs.pinged g ≤ (signs_after cut signs (Ping p)).pinged g
+    rises : (g : ProcessId) → signs.pinged g ≤ (signs_after cut signs (Ping to p)).pinged g
     rises = changed-each (λ g n. signs.pinged g ≤ n) signs.pinged p (suc (signs.pinged p)) (omega arith) (λ g _. omega arith)
 
-    last : signs.pinged p < (signs_after cut signs (Ping p)).pinged p
-    last = let is : (signs_after cut signs (Ping p)).pinged p ≡ suc (signs.pinged p) = changed-here signs.pinged p (suc (signs.pinged p)) in omega (arith, is)
+    last : signs.pinged p < (signs_after cut signs (Ping to p)).pinged p
+    last = let is : (signs_after cut signs (Ping to p)).pinged p ≡ suc (signs.pinged p) = changed-here signs.pinged p (suc (signs.pinged p)) in omega (arith, is)
 
-    old : (g x : ProcessId) → Each (λ j. j < (signs_after cut signs (Ping p)).pinged g) (signs.pings g x)
-    old g x = each-weaker (λ j. j < signs.pinged g) (λ j. j < (signs_after cut signs (Ping p)).pinged g) (λ j low. let up = rises g in omega (arith, low, up)) (signs.pings g x) (b.pings g x)
+    old : (g x : ProcessId) → Each (λ j. j < (signs_after cut signs (Ping to p)).pinged g) (signs.pings g x)
+    old g x = each-weaker (λ j. j < signs.pinged g) (λ j. j < (signs_after cut signs (Ping to p)).pinged g) (λ j low. let up = rises g in omega (arith, low, up)) (signs.pings g x) (b.pings g x)
 
-    later : (g x : ProcessId) (j : ℕ) → Answers signs.pinged failed lived g x j → Answers (signs_after cut signs (Ping p)).pinged failed lived g x j
+    later : (g x : ProcessId) (j : ℕ) → Answers signs.pinged failed lived g x j → Answers (signs_after cut signs (Ping to p)).pinged failed lived g x j
     later g x j a = record { sent = let low = a.sent in let up = rises g in omega (arith, low, up); fails = a.fails }
 
   -- a member answers a ping of another that it hasn't cut
@@ -80,14 +84,18 @@ module _ (s : Dimensions) (signs : Signs) (cut : ProcessId → Processes) (faile
   signed-count x p other (j ∷ rest) is = record {
     pings = b.pings;
     pongs = changed-pairs (λ y g js. Each (Answers signs.pinged failed lived g y) js) signs.pongs x p rest here.1 b.pongs;
-    answered = λ g y n. changed-each (λ g row. row n y ≡ true → Answers signs.pinged failed lived g y n × (y ≢ g)) signs.answered p (changed_at (signs.answered p) j (with_one (signs.answered p j) x))
-        (changed_at-each (λ n set. set y ≡ true → Answers signs.pinged failed lived p y n × (y ≢ p)) (signs.answered p) j (with_one (signs.answered p j) x)
-        (changed-each (λ y is. is ≡ true → Answers signs.pinged failed lived p y j × (y ≢ p)) (signs.answered p j) x true (λ _. (here.0, other)) (λ y _ is. b.answered p y j is) y)
-        (λ n _ is. b.answered p y n is) n)
+    answered = λ g y n. changed-each (λ g row. row n y ≡ true → Answers signs.pinged failed lived g y n × (y ≢ g)) signs.answered p (λ i. one_or (nat_le i j) (with_one (signs.answered p i) x) (signs.answered p i))
+        (one_or-is (λ set. set y ≡ true → Answers signs.pinged failed lived p y n × (y ≢ p)) (nat_le n j) (with_one (signs.answered p n) x) (signs.answered p n)
+        (λ low. changed-each (λ y is. is ≡ true → Answers signs.pinged failed lived p y n × (y ≢ p)) (signs.answered p n) x true (λ _. (earlier n (le-is n j low), other)) (λ y _ is. b.answered p y n is) y)
+        (λ _ is. b.answered p y n is))
         (λ g _ is. b.answered g y n is) g;
   } where
     here : Each (Answers signs.pinged failed lived p x) (j ∷ rest)
     here = subst (Each (Answers signs.pinged failed lived p x)) is (b.pongs x p)
+
+    -- it answers the pings before it too
+    earlier : (i : ℕ) → i ≤ j → Answers signs.pinged failed lived p x i
+    earlier i low = record { sent = let sent = here.0.sent in omega (arith, low, sent); fails = λ fails late. here.0.fails fails (omega (arith, low, late)) }
 
   -- more fail: pings that were sent before stand, since they were sent by then
   signed-fail : (set : Processes) → Signed signs (either failed set) (λ x. one_or (failed x) (lived x) (signs.pinged x))
@@ -133,8 +141,9 @@ signed-step c (Say p) may barred b = b
 signed-step c (Hear x p) may barred b = b
 signed-step c (Take x p) may barred b = b
 signed-step c (Show caller ping) may barred b = b
+signed-step c (LetGo caller) may barred b = b
 signed-step c (Stop p) may barred b = b
-signed-step c (Ping p) may barred b = signed-ping c.group.shape c.group.signs c.group.words.cut c.failed c.lived b p
+signed-step c (Ping to p) may barred b = signed-ping c.group.shape c.group.signs c.group.words.cut c.failed c.lived b to p
 signed-step c (Pong x p) may barred b =
     signed-pong c.group.shape c.group.signs c.group.words.cut c.failed c.lived b x p
     (λ lives fails. cc (barred.cut p x may.reads.here.member lives fails, may.reads.uncut)) (c.group.signs.pings x p) refl

@@ -10,12 +10,11 @@ use Rattle.group_types.specs.declared.process.ProcessId.{ProcessId}
 use Rattle.memc_table.specs.Act.{key_of}
 use Rattle.memc_table.specs.Asked.{Asked}
 use Rattle.memc_table.specs.declared.act.Act.{Act}
-use Rattle.memc_table.specs.declared.act.Act.TheVariants as act
 use Rattle.group_calls.specs.declared.event.Answer.{Answer}
 use Rattle.group_calls.specs.declared.event.Answer.TheVariants as says
 use Rattle.group_calls.specs.declared.event.Event.TheVariants as event
 use Rattle.group_run.specs.Asking.{collect_from}
-use Rattle.group_wire.specs.Actions.{Action, Begin, Send, Read, Treat, Collect, Flush, Learn, Receive, GiveUp, Cut, Say, Hear, Permit, Take, Ping, Pong, Count, Show, Stop}
+use Rattle.group_wire.specs.Actions.{Action, Begin, Send, Read, Treat, Collect, Flush, Learn, Receive, GiveUp, Cut, Say, Hear, Permit, Take, Ping, Pong, Count, Show, LetGo, Stop}
 use Rattle.group_wire.specs.Composed.{AreActions, AreActionsFrom, Composed, Made, composed, composed_from, composed_with, failures_at, made_by, opening_composed, request_event, request_made, stands_if}
 use Rattle.group_wire.specs.May.{MayAct}
 use Rattle.group_wire.specs.Sets.{Processes, changed, changed_at, changed_from, either, one_or, without}
@@ -25,6 +24,7 @@ use Rattle.group_wire.specs.Sending.{parked_at, sent_on, treating}
 use Rattle.group_wire.specs.Serving.{again, handed_to, if_open, learned_first, read_first, request_treated, sends_by, stage_given_up, staged, tell, told_of}
 use Rattle.group_wire.specs.Stepping.{answered_first, counted_first}
 use Rattle.group_wire.proofs.Answering.{BegunCall, BegunStage, Learned, SolidCall, SolidStage, asked_before, learned-begins, learned-call, learned-learns, learned-made, learned-more, learned-requests, learned-told, made-last}
+use Rattle.group_wire.proofs.Calling.{again-which}
 use Rattle.group_wire.proofs.Changes.{changed-each, changed_at-each, changed_at-here, either-not}
 use Rattle.group_wire.proofs.Positions.{CallFits, asked_by, asked_in}
 use Rattle.group_wire.proofs.Requests.{FitsAsked, Living, each-entry, waits}
@@ -175,17 +175,10 @@ module _ (c : Composed) (h : Whole c) (b : LearnedAt c) where
       (solids o.stage (subst (SolidCall (c.made ++ made) c.begun (c.failed (gateway_of c.group.shape caller)) (c.lived (gateway_of c.group.shape caller)) (c.group.signs.pinged (gateway_of c.group.shape caller)) caller) is ((more made).solid caller)))
     where
       goes : (a : Act) → (asked_before (c.made ++ made) c.begun caller ≤ o.position) × (o.position ≤ c.group.gateways.next caller) → BegunStage (asked_before (c.made ++ made) c.begun caller) (c.group.gateways.next caller) o.position (again a)
-      goes (act.Get key) low = let one = low.0 in let two = low.1 in omega (arith, one, two)
-      goes (act.Set key flags expiry value) low = low
-      goes (act.Add key flags expiry value) low = low
-      goes (act.Replace key flags expiry value) low = low
-      goes (act.Cas key flags expiry cas value) low = low
-      goes (act.Delete key) low = low
-      goes (act.Touch key expiry) low = low
-      goes (act.Append key value) low = low
-      goes (act.Prepend key value) low = low
-      goes (act.Incr key by) low = low
-      goes (act.Decr key by) low = low
+      goes a low = by (again-which a) where
+        by : (again a ≡ Unasked) ⊎ (again a ≡ Unknown) → BegunStage (asked_before (c.made ++ made) c.begun caller) (c.group.gateways.next caller) o.position (again a)
+        by (inl is) = subst (BegunStage (asked_before (c.made ++ made) c.begun caller) (c.group.gateways.next caller) o.position) (sym is) (let one = low.0 in let two = low.1 in omega (arith, one, two))
+        by (inr is) = subst (BegunStage (asked_before (c.made ++ made) c.begun caller) (c.group.gateways.next caller) o.position) (sym is) low
 
       begins : (stage : Stage) → BegunStage (asked_before (c.made ++ made) c.begun caller) (c.group.gateways.next caller) o.position stage → BegunStage (asked_before (c.made ++ made) c.begun caller) (c.group.gateways.next caller) o.position (stage_given_up o.op stage)
       begins Unasked low = low
@@ -195,17 +188,10 @@ module _ (c : Composed) (h : Whole c) (b : LearnedAt c) where
       begins (AskedOf x) low = goes o.op.act low
 
       restarts : (a : Act) → SolidStage (c.made ++ made) c.begun (c.failed (gateway_of c.group.shape caller)) (c.lived (gateway_of c.group.shape caller)) (c.group.signs.pinged (gateway_of c.group.shape caller)) caller o.position (again a)
-      restarts (act.Get key) = tt
-      restarts (act.Set key flags expiry value) = tt
-      restarts (act.Add key flags expiry value) = tt
-      restarts (act.Replace key flags expiry value) = tt
-      restarts (act.Cas key flags expiry cas value) = tt
-      restarts (act.Delete key) = tt
-      restarts (act.Touch key expiry) = tt
-      restarts (act.Append key value) = tt
-      restarts (act.Prepend key value) = tt
-      restarts (act.Incr key by) = tt
-      restarts (act.Decr key by) = tt
+      restarts a = by (again-which a) where
+        by : (again a ≡ Unasked) ⊎ (again a ≡ Unknown) → SolidStage (c.made ++ made) c.begun (c.failed (gateway_of c.group.shape caller)) (c.lived (gateway_of c.group.shape caller)) (c.group.signs.pinged (gateway_of c.group.shape caller)) caller o.position (again a)
+        by (inl is) = subst (SolidStage (c.made ++ made) c.begun (c.failed (gateway_of c.group.shape caller)) (c.lived (gateway_of c.group.shape caller)) (c.group.signs.pinged (gateway_of c.group.shape caller)) caller o.position) (sym is) tt
+        by (inr is) = subst (SolidStage (c.made ++ made) c.begun (c.failed (gateway_of c.group.shape caller)) (c.lived (gateway_of c.group.shape caller)) (c.group.signs.pinged (gateway_of c.group.shape caller)) caller o.position) (sym is) tt
 
       solids : (stage : Stage) → SolidStage (c.made ++ made) c.begun (c.failed (gateway_of c.group.shape caller)) (c.lived (gateway_of c.group.shape caller)) (c.group.signs.pinged (gateway_of c.group.shape caller)) caller o.position stage
           → SolidStage (c.made ++ made) c.begun (c.failed (gateway_of c.group.shape caller)) (c.lived (gateway_of c.group.shape caller)) (c.group.signs.pinged (gateway_of c.group.shape caller)) caller o.position (stage_given_up o.op stage)
@@ -276,7 +262,7 @@ module _ (c : Composed) (h : Whole c) (b : LearnedAt c) where
         (either c.failed (c.group.words.cut p)) (λ x. one_or (c.failed x) (c.lived x) (c.group.signs.pinged x)) c.group.signs.pinged (λ x out. (either-not c.failed (c.group.words.cut p) x out).0) (λ x. omega arith)
         (was (either c.failed (c.group.words.cut p)) (λ x out. (either-not c.failed (c.group.words.cut p) x out).0)) lively
   learned-step (Take x p) may = more (made_by c (Take x p))
-  learned-step (Ping p) may = learned-more c.group.shape c.failed c.lived c.group.signs.pinged c.group.gateways c.made c.begun b [] c.failed c.lived (changed c.group.signs.pinged p (suc (c.group.signs.pinged p)))
+  learned-step (Ping to p) may = learned-more c.group.shape c.failed c.lived c.group.signs.pinged c.group.gateways c.made c.begun b [] c.failed c.lived (changed c.group.signs.pinged p (suc (c.group.signs.pinged p)))
       (λ x is. is) rises (λ x n low is. is) (λ x. let low = b.lively x in let up = rises x in omega (arith, low, up))
     where
       rises : (x : ProcessId) → c.group.signs.pinged x ≤ changed c.group.signs.pinged p (suc (c.group.signs.pinged p)) x
@@ -290,17 +276,15 @@ module _ (c : Composed) (h : Whole c) (b : LearnedAt c) where
     by [] = more []
     by (j ∷ rest) = more []
   learned-step (Show caller ping) may = learned-call c.group.shape c.failed c.lived c.group.signs.pinged c.group.gateways (c.made ++ []) c.begun (more []) caller None (λ _. tt) tt
+  learned-step (LetGo caller) may = learned-call c.group.shape c.failed c.lived c.group.signs.pinged c.group.gateways (c.made ++ []) c.begun (more []) caller None (λ _. tt) tt
   learned-step (Stop p) may = more []
+
+pub learned-opening : (s : Dimensions) → LearnedAt (opening_composed s)
+learned-opening s = record { lanes = λ x g xl. tt; past = λ caller. omega arith; lively = λ p. omega arith; opened = λ caller gl. tt; solid = λ caller. tt }
 
 learned-from : (c : Composed) (actions : List Action) → AreActionsFrom c actions → Whole c → LearnedAt c → LearnedAt (composed_from c actions)
 learned-from c [] run h b = b
 learned-from c (a ∷ rest) run h b = learned-from (composed_with c a) rest run.1 (whole-step c h a run.0) (learned-step c h b a run.0)
 
 pub learned : (s : Dimensions) (actions : List Action) → AreActions s actions → LearnedAt (composed s actions)
-learned s actions run = learned-from (opening_composed s) actions run.1 (whole-opening s run.0) (record {
-  lanes = λ x g xl. tt;
-  past = λ caller. omega arith;
-  lively = λ p. omega arith;
-  opened = λ caller gl. tt;
-  solid = λ caller. tt;
-})
+learned s actions run = learned-from (opening_composed s) actions run.1 (whole-opening s run.0) (learned-opening s)

@@ -4,14 +4,13 @@ use Rattle.std.proofs.lemmas.Bool.{cases_eq, eq-eqb, ne_eqb}
 use Rattle.group_types.specs.Dimensions.{Dimensions}
 use Rattle.group_types.specs.declared.process.ProcessId.{ProcessId}
 use Rattle.memc_table.specs.Asked.{Asked}
-use Rattle.memc_table.specs.declared.act.Act.{Act}
-use Rattle.memc_table.specs.declared.act.Act.TheVariants as act
 use Rattle.group_calls.specs.declared.event.Answer.{Answer}
 use Rattle.group_wire.specs.Composed.{Made}
 use Rattle.group_wire.specs.Sets.{Processes, one_or}
 use Rattle.group_wire.specs.State.{Told, Stage, Unasked, AskedOf, Unknown, TracedAt, Answered, OpenCall}
 use Rattle.group_wire.specs.Serving.{again, call_learned, stage_given_up, stage_learned, stage_told}
 use Rattle.group_wire.proofs.Answering.{told-which}
+use Rattle.group_wire.proofs.Calling.{again-which}
 use Rattle.group_wire.proofs.Positions.{CallFits, NoneWait, StageFits, asked_by, asks-made}
 use Rattle.group_wire.proofs.Wanting.{AskIs, ask-none, ask-past, op_of}
 
@@ -170,35 +169,17 @@ asks-given-up made caller position op asked Unasked a = a
 asks-given-up made caller position op asked Unknown a = a
 asks-given-up made caller position op asked (Answered t n) a = a
 asks-given-up made caller position op asked (TracedAt x) a = a
-asks-given-up made caller position op asked (AskedOf x) a = by asked.act where
-  by : (c : Act) → AskStage made caller position op (again c)
-  by (act.Get key) = tt
-  by (act.Set key flags expiry value) = a
-  by (act.Add key flags expiry value) = a
-  by (act.Replace key flags expiry value) = a
-  by (act.Cas key flags expiry cas value) = a
-  by (act.Delete key) = a
-  by (act.Touch key expiry) = a
-  by (act.Append key value) = a
-  by (act.Prepend key value) = a
-  by (act.Incr key amount) = a
-  by (act.Decr key amount) = a
+asks-given-up made caller position op asked (AskedOf x) a = by (again-which asked.act) where
+  by : (again asked.act ≡ Unasked) ⊎ (again asked.act ≡ Unknown) → AskStage made caller position op (again asked.act)
+  by (inl is) = subst (AskStage made caller position op) (sym is) tt
+  by (inr is) = subst (AskStage made caller position op) (sym is) a
 
 pub firm-given-up : (made : List Made) (caller : ℕ) (lost : Bool) (lived position : ℕ) (op asked : Asked) (stage : Stage) → FirmStage made caller lost lived position op stage → FirmStage made caller lost lived position op (stage_given_up asked stage)
 firm-given-up made caller lost lived position op asked Unasked f = f
 firm-given-up made caller lost lived position op asked Unknown f = f
 firm-given-up made caller lost lived position op asked (Answered t n) f = f
 firm-given-up made caller lost lived position op asked (TracedAt x) f = tt
-firm-given-up made caller lost lived position op asked (AskedOf x) f = by asked.act where
-  by : (c : Act) → FirmStage made caller lost lived position op (again c)
-  by (act.Get key) = tt
-  by (act.Set key flags expiry value) = tt
-  by (act.Add key flags expiry value) = tt
-  by (act.Replace key flags expiry value) = tt
-  by (act.Cas key flags expiry cas value) = tt
-  by (act.Delete key) = tt
-  by (act.Touch key expiry) = tt
-  by (act.Append key value) = tt
-  by (act.Prepend key value) = tt
-  by (act.Incr key amount) = tt
-  by (act.Decr key amount) = tt
+firm-given-up made caller lost lived position op asked (AskedOf x) f = by (again-which asked.act) where
+  by : (again asked.act ≡ Unasked) ⊎ (again asked.act ≡ Unknown) → FirmStage made caller lost lived position op (again asked.act)
+  by (inl is) = subst (FirmStage made caller lost lived position op) (sym is) tt
+  by (inr is) = subst (FirmStage made caller lost lived position op) (sym is) tt

@@ -30,7 +30,7 @@ use Rattle.law_moves.proofs.State.{Opens}
 use Rattle.law_log.proofs.Turnings.{asks-self, get-last}
 use Rattle.law_headline.proofs.Headlines.{headline_always}
 use Rattle.law_answers.proofs.Entries.{turns-more}
-use Rattle.group_wire.specs.Actions.{Action, Begin, Send, Read, Treat, Collect, Flush, Learn, Receive, GiveUp, Cut, Say, Hear, Permit, Take, Ping, Pong, Count, Show, Stop}
+use Rattle.group_wire.specs.Actions.{Action, Begin, Send, Read, Treat, Collect, Flush, Learn, Receive, GiveUp, Cut, Say, Hear, Permit, Take, Ping, Pong, Count, Show, LetGo, Stop}
 use Rattle.group_wire.specs.Composed.{AreActions, AreActionsFrom, Composed, Made, asks_among, call_given_up, composed, composed_from, composed_with, events_of, failures_at, given_up, lost_ask, message_made, opening_composed, request_made, stands_if}
 use Rattle.group_wire.specs.May.{MayAct, call_waits_for, waits_for}
 use Rattle.group_wire.specs.Sets.{Processes, changed, changed_from, either, one_or, with_one}
@@ -256,10 +256,11 @@ module _ (c : Composed) (h : Whole c) where
     by false = composes-permit c.group.shape c.group.words.cut c.group.words.taken c.group.works c.failed (c.group.words.cut p)
         (λ q x ql is. h.barred.permits q ql.0 ql.1 x (h.barred.taken q x is)) c.made h.composes
   composes-step (Take x p) may = takes x p (c.failed p) may refl
-  composes-step (Ping p) may = same
+  composes-step (Ping to p) may = same
   composes-step (Pong x p) may = same
   composes-step (Count x p) may = same
   composes-step (Show caller ping) may = same
+  composes-step (LetGo caller) may = same
   composes-step (Stop p) may = same
 
   pub whole-step : (a : Action) → MayAct c.group a → Whole (composed_with c a)

@@ -2,6 +2,7 @@
 use Rattle.std.specs.Prelude.{ℕ}
 use Rattle.group_types.specs.declared.process.ProcessId.{ProcessId}
 use Rattle.memc_table.specs.Asked.{Asked}
+use Rattle.group_wire.specs.Sets.{Processes}
 
 pub data Action : Type 0 where
   -- a client's call begins at the gateway of the caller that it is lent
@@ -32,13 +33,15 @@ pub data Action : Type 0 where
   Permit : (at : ProcessId) → Action
   -- a member takes the death of x
   Take : (x at : ProcessId) → Action
-  -- a member sends a ping to all others
-  Ping : (at : ProcessId) → Action
+  -- a member sends a ping to these; m + 1 are enough where one of them may hang, each with one ping under way to it
+  Ping : (to : Processes) → (at : ProcessId) → Action
   -- a member answers the first ping of a wire
   Pong : (from at : ProcessId) → Action
-  -- a member counts the first pong of a wire
+  -- a member counts the first pong of a wire, for all pings up to its number
   Count : (from at : ProcessId) → Action
   -- the gateway shows the client the answer, by the answers to one of its pings
   Show : (caller ping : ℕ) → Action
+  -- the gateway lets go a call that waits for no member, and shows nothing of it
+  LetGo : (caller : ℕ) → Action
   -- a member's program ends, for ever
   Stop : (at : ProcessId) → Action

@@ -28,13 +28,14 @@ pub record Made : Type 0 where
   pub answer : Answer
 
 -- a group on its machines, beside what laws tell of it: who has failed, how many pings each had sent when it failed, the
--- events, and how many of these there were when each caller's open call began
+-- events, and how many of these there were, and which position was the next, when each caller's last call began
 pub record Composed : Type 0 where
   pub group : Group
   pub failed : Processes
   pub lived : ProcessId → ℕ
   pub made : List Made
   pub begun : ℕ → ℕ
+  pub first : ℕ → ℕ
 
 -- the events of the machine
 abbrev pub events_of : Composed → List Event
@@ -105,10 +106,15 @@ abbrev pub lived_after : Composed → Action → ProcessId → ℕ
 lived_after c (Permit p) x = one_or (c.failed x) (c.lived x) (c.group.signs.pinged x)
 lived_after c _ x = c.lived x
 
--- when each caller's call began
+-- when each caller's last call began
 abbrev pub begun_after : Composed → Action → ℕ → ℕ
 begun_after c (Begin caller op) = changed_at c.begun caller (length c.made)
 begun_after c _ = c.begun
+
+-- the first position under which it may be asked
+abbrev pub first_after : Composed → Action → ℕ → ℕ
+first_after c (Begin caller op) = changed_at c.first caller (c.group.gateways.next caller)
+first_after c _ = c.first
 
 -- one action more
 abbrev pub composed_with : Composed → Action → Composed
@@ -118,11 +124,12 @@ composed_with c a = record {
   lived = lived_after c a;
   made = c.made ++ made_by c a;
   begun = begun_after c a;
+  first = first_after c a;
 }
 
 -- the start
 abbrev pub opening_composed : Dimensions → Composed
-opening_composed s = record { group = opening_group s; failed = nobody; lived = λ p. 0; made = []; begun = λ caller. 0 }
+opening_composed s = record { group = opening_group s; failed = nobody; lived = λ p. 0; made = []; begun = λ caller. 0; first = λ caller. 0 }
 
 -- actions, one after the other
 abbrev pub composed_from : Composed → List Action → Composed

@@ -10,6 +10,10 @@ pub mod Composed
 pub mod Composition
 pub mod Laws
 pub mod Shown
+pub mod GoingOn
+pub mod FromWhom
+pub mod NoMisfits
+pub mod Once
 pub mod Rows
 pub mod RowsOfCalls
 pub mod RowsOfEnds
@@ -17,4 +21,6 @@ pub mod RowsOfFailures
 pub mod RowsOfFates
 pub mod RowsOfGateways
 pub mod RowsOfLosses
+pub mod RowsOfSigns
 pub mod RowsThatBreak
+pub mod Sizes

@@ -4,7 +4,7 @@ use Rattle.group_types.specs.Dimensions.{callers}
 use Rattle.group_types.specs.Names.{IsProcess}
 use Rattle.group_types.specs.declared.process.ProcessId.{ProcessId}
 use Rattle.memc_table.specs.Act.{value_of}
-use Rattle.group_wire.specs.Actions.{Action, Begin, Send, Read, Treat, Collect, Flush, Learn, Receive, GiveUp, Cut, Say, Hear, Permit, Take, Ping, Pong, Count, Show, Stop}
+use Rattle.group_wire.specs.Actions.{Action, Begin, Send, Read, Treat, Collect, Flush, Learn, Receive, GiveUp, Cut, Say, Hear, Permit, Take, Ping, Pong, Count, Show, LetGo, Stop}
 use Rattle.group_wire.specs.Sets.{IsWithin, Processes, size_of, with_one}
 use Rattle.group_wire.specs.State.{Stage, AskedOf, TracedAt, Answered, OpenCall, Group, gateway_of}
 
@@ -85,8 +85,9 @@ MayAct g (Say p) = IsHere g p
 MayAct g (Hear x p) = MayReadOther g x p
 MayAct g (Permit p) = IsHere g p × AllHaveSaid g p
 MayAct g (Take x p) = IsHere g p × IsProcess g.shape x × (g.words.permitted p x ≡ true) × (g.words.taken p x ≡ false)
-MayAct g (Ping p) = IsHere g p
+MayAct g (Ping to p) = IsHere g p
 MayAct g (Pong x p) = MayReadOther g x p
 MayAct g (Count x p) = MayReadOther g x p
 MayAct g (Show caller ping) = IsCaller g caller × MayShow g caller ping
+MayAct g (LetGo caller) = IsCaller g caller × (call_waits_for (g.gateways.call caller) ≡ None)
 MayAct g (Stop p) = IsProcess g.shape p

@@ -7,13 +7,14 @@ use Rattle.group_calls.specs.declared.event.Cause.TheVariants as cause
 use Rattle.group_run.specs.Heading.{partition}
 use Rattle.group_wire.specs.Actions.{Action, Begin, Send, Read, Treat, Collect, Flush, Learn, Receive, GiveUp, Cut, Say, Hear, Permit, Take, Ping, Pong, Count, Show}
 use Rattle.group_wire.specs.Rows.{BreaksAnswers, BreaksLink, BreaksShown, d0, d1, op, p0, p1, small}
+use Rattle.group_wire.specs.Sets.{everybody}
 
 -- A member permits itself a set before the others have said it: it receives what the machine has not.
 abbrev pub permitted_too_early_actions : List Action
 permitted_too_early_actions =
     Begin 86 (op (act.Get (113 ∷ 48 ∷ []))) ∷ Send 86 d0 ∷ Begin 1 (op (act.Incr (113 ∷ 48 ∷ []) 1)) ∷ Send 1 d0 ∷ Read d0 d0 ∷ Treat d0 0 ∷
-    Learn d0 d0 ∷ Ping d0 ∷ Pong d0 p1 ∷ Count p1 d0 ∷ Begin 171 (op (act.Delete (113 ∷ 48 ∷ []))) ∷ Send 171 d0 ∷ Read p1 d0 ∷ Treat d0 0 ∷
-    Learn d0 p1 ∷ Ping p1 ∷ Pong p1 d0 ∷ Pong p1 p0 ∷ Count d0 p1 ∷ Begin 85 (op (act.Append (113 ∷ 48 ∷ []) (51 ∷ []))) ∷ Send 85 d0 ∷
+    Learn d0 d0 ∷ Ping everybody d0 ∷ Pong d0 p1 ∷ Count p1 d0 ∷ Begin 171 (op (act.Delete (113 ∷ 48 ∷ []))) ∷ Send 171 d0 ∷ Read p1 d0 ∷ Treat d0 0 ∷
+    Learn d0 p1 ∷ Ping everybody p1 ∷ Pong p1 d0 ∷ Pong p1 p0 ∷ Count d0 p1 ∷ Begin 85 (op (act.Append (113 ∷ 48 ∷ []) (51 ∷ []))) ∷ Send 85 d0 ∷
     Begin 170 (op (act.Set (113 ∷ 48 ∷ []) 0 (pos 0) (49 ∷ 50 ∷ 48 ∷ []))) ∷ Send 170 d0 ∷ Read p1 d0 ∷ Treat d0 0 ∷ Receive d0 p1 ∷ Receive p1 d0 ∷
     Cut d0 p0 ∷ Say p0 ∷ Permit p0 ∷ Take d0 p0 ∷ GiveUp 85 ∷ GiveUp 86 ∷ Send 85 p0 ∷ Read p0 p0 ∷ Treat p0 0 ∷ Learn p0 p0 ∷ Flush d0 ∷ []
 
@@ -24,7 +25,7 @@ PermittedTooEarly = BreaksLink (small 1 2) permitted_too_early_actions 29 (Permi
 abbrev pub read_behind_the_cut_actions : List Action
 read_behind_the_cut_actions =
     Begin 0 (op (act.Set (113 ∷ 48 ∷ []) 0 (pos 0) (48 ∷ []))) ∷ Send 0 d0 ∷ Read d0 d0 ∷ Treat d0 0 ∷ Receive d0 p0 ∷
-    Begin 1 (op (act.Append (113 ∷ 49 ∷ []) (49 ∷ []))) ∷ Send 1 d0 ∷ Read d0 d0 ∷ Treat d0 0 ∷ Learn d0 d0 ∷ Ping d0 ∷ Pong d0 p0 ∷ Receive p0 d0 ∷
+    Begin 1 (op (act.Append (113 ∷ 49 ∷ []) (49 ∷ []))) ∷ Send 1 d0 ∷ Read d0 d0 ∷ Treat d0 0 ∷ Learn d0 d0 ∷ Ping everybody d0 ∷ Pong d0 p0 ∷ Receive p0 d0 ∷
     Begin 86 (op (act.Set (113 ∷ 50 ∷ []) 5 (pos 0) (48 ∷ []))) ∷ Send 86 d0 ∷ Count p0 d0 ∷
     Begin 170 (op (act.Set (113 ∷ 49 ∷ []) 0 (pos 0) (50 ∷ []))) ∷ Send 170 d0 ∷ Read p1 d0 ∷ Treat d0 0 ∷ Receive d0 p0 ∷
     Begin 171 (op (act.Set (113 ∷ 48 ∷ []) 0 (pos 0) (50 ∷ 51 ∷ 51 ∷ []))) ∷ Send 171 d0 ∷ Flush p1 ∷ Read p0 d0 ∷ Treat d0 0 ∷ Receive p0 d0 ∷
@@ -38,10 +39,10 @@ abbrev pub one_pong_too_few_actions : List Action
 one_pong_too_few_actions =
     Begin 0 (op (act.Set (113 ∷ 48 ∷ []) 0 (pos 0) (48 ∷ []))) ∷ Send 0 d0 ∷ Read d0 d0 ∷ Treat d0 0 ∷ Receive d0 p0 ∷
     Begin 128 (op (act.Set (113 ∷ 48 ∷ []) 0 (pos 0) (51 ∷ 51 ∷ 48 ∷ []))) ∷ Send 128 d0 ∷ Begin 129 (op (act.Get (113 ∷ 49 ∷ []))) ∷ Send 129 d0 ∷
-    Begin 1 (op (act.Get (113 ∷ 49 ∷ []))) ∷ Send 1 d0 ∷ Read d0 d0 ∷ Treat d0 0 ∷ Learn d0 d0 ∷ Ping d0 ∷ Show 1 0 ∷ Pong d0 p0 ∷ Cut d0 p0 ∷ Say p0 ∷
-    Begin 1 (op (act.Get (113 ∷ 48 ∷ []))) ∷ Send 1 d0 ∷ Read d0 d0 ∷ Treat d0 0 ∷ Learn d0 d0 ∷ Ping d0 ∷ Show 1 1 ∷ Receive p0 d0 ∷ Collect 0 0 d0 ∷
-    Learn d0 d0 ∷ Ping d0 ∷ Show 0 2 ∷ Permit p0 ∷ Take d0 p0 ∷ GiveUp 128 ∷ GiveUp 129 ∷ Begin 0 (op (act.Incr (113 ∷ 49 ∷ []) 7)) ∷ Send 0 d0 ∷
-    Read d0 d0 ∷ Treat d0 0 ∷ Learn d0 d0 ∷ Ping d0 ∷ Show 0 3 ∷ []
+    Begin 1 (op (act.Get (113 ∷ 49 ∷ []))) ∷ Send 1 d0 ∷ Read d0 d0 ∷ Treat d0 0 ∷ Learn d0 d0 ∷ Ping everybody d0 ∷ Show 1 0 ∷ Pong d0 p0 ∷ Cut d0 p0 ∷ Say p0 ∷
+    Begin 1 (op (act.Get (113 ∷ 48 ∷ []))) ∷ Send 1 d0 ∷ Read d0 d0 ∷ Treat d0 0 ∷ Learn d0 d0 ∷ Ping everybody d0 ∷ Show 1 1 ∷ Receive p0 d0 ∷ Collect 0 0 d0 ∷
+    Learn d0 d0 ∷ Ping everybody d0 ∷ Show 0 2 ∷ Permit p0 ∷ Take d0 p0 ∷ GiveUp 128 ∷ GiveUp 129 ∷ Begin 0 (op (act.Incr (113 ∷ 49 ∷ []) 7)) ∷ Send 0 d0 ∷
+    Read d0 d0 ∷ Treat d0 0 ∷ Learn d0 d0 ∷ Ping everybody d0 ∷ Show 0 3 ∷ []
 
 abbrev pub OnePongTooFew : Type 0
 OnePongTooFew = BreaksShown (small 1 1) one_pong_too_few_actions 15 (Show 1 0)
@@ -63,9 +64,9 @@ abbrev pub more_than_m_actions : List Action
 more_than_m_actions =
     Begin 171 (op (act.Append (113 ∷ 48 ∷ []) (51 ∷ []))) ∷ Send 171 d0 ∷ Begin 170 (op (act.Append (113 ∷ 51 ∷ []) (51 ∷ []))) ∷ Send 170 d1 ∷
     Begin 1 (op (act.Set (113 ∷ 51 ∷ []) 5 (pos 0) (50 ∷ 51 ∷ 50 ∷ []))) ∷ Send 1 d1 ∷ Read p0 d0 ∷ Treat d0 0 ∷ Read d0 d1 ∷ Treat d1 0 ∷
-    Receive d1 p0 ∷ Learn d0 p0 ∷ Ping p0 ∷ Begin 85 (op (act.Incr (113 ∷ 48 ∷ []) 7)) ∷ Send 85 d0 ∷ Read d1 d0 ∷ Treat d0 0 ∷ Read p0 d1 ∷ Treat d1 0 ∷
+    Receive d1 p0 ∷ Learn d0 p0 ∷ Ping everybody p0 ∷ Begin 85 (op (act.Incr (113 ∷ 48 ∷ []) 7)) ∷ Send 85 d0 ∷ Read d1 d0 ∷ Treat d0 0 ∷ Read p0 d1 ∷ Treat d1 0 ∷
     Learn d1 p0 ∷ Cut d1 d0 ∷ Receive p0 d1 ∷ Collect 1 0 d1 ∷ Say d0 ∷ Cut d0 d1 ∷ Pong p0 d0 ∷ Begin 0 (op (act.Delete (113 ∷ 48 ∷ []))) ∷ Send 0 d0 ∷
-    Read d0 d0 ∷ Treat d0 0 ∷ Learn d0 d0 ∷ Ping d0 ∷ Cut d0 p0 ∷ Pong p0 d1 ∷ Count d1 p0 ∷ Show 171 0 ∷
+    Read d0 d0 ∷ Treat d0 0 ∷ Learn d0 d0 ∷ Ping everybody d0 ∷ Cut d0 p0 ∷ Pong p0 d1 ∷ Count d1 p0 ∷ Show 171 0 ∷
     Begin 171 (op (act.Set (113 ∷ 48 ∷ []) 5 (pos 0) (48 ∷ []))) ∷ Send 171 d0 ∷ Cut d1 p0 ∷ Send 170 d1 ∷ Say p0 ∷
     Begin 86 (op (act.Incr (113 ∷ 50 ∷ []) 1)) ∷ Send 86 d0 ∷ Say d1 ∷ Permit p0 ∷ Take d0 p0 ∷ []
 
@@ -80,15 +81,15 @@ MoreThanM = BreaksAnswers (small 2 1) more_than_m_actions 38 (Cut d1 p0)
 abbrev pub answered_behind_the_cut_actions : List Action
 answered_behind_the_cut_actions =
     Begin 0 (op (act.Set (113 ∷ 48 ∷ []) 0 (pos 0) (48 ∷ 50 ∷ 51 ∷ []))) ∷ Send 0 d0 ∷ Read d0 d0 ∷ Treat d0 0 ∷
-    Begin 171 (op (act.Append (113 ∷ 51 ∷ []) (49 ∷ []))) ∷ Send 171 d1 ∷ Read p0 d1 ∷ Treat d1 0 ∷ Learn d1 p0 ∷ Ping p0 ∷
+    Begin 171 (op (act.Append (113 ∷ 51 ∷ []) (49 ∷ []))) ∷ Send 171 d1 ∷ Read p0 d1 ∷ Treat d1 0 ∷ Learn d1 p0 ∷ Ping everybody p0 ∷
     Begin 1 (op (act.Set (113 ∷ 51 ∷ []) 5 (pos 0) (51 ∷ 50 ∷ []))) ∷ Send 1 d1 ∷ Pong p0 d1 ∷ Begin 86 (op (act.Incr (113 ∷ 51 ∷ []) 7)) ∷ Send 86 d1 ∷
-    Read d1 d1 ∷ Treat d1 0 ∷ Learn d1 d1 ∷ Ping d1 ∷ Pong d1 d0 ∷ Begin 85 (op (act.Incr (113 ∷ 51 ∷ []) 1)) ∷ Send 85 d1 ∷ Read d1 d1 ∷ Treat d1 0 ∷
-    Learn d1 d1 ∷ Ping d1 ∷ Receive d0 p0 ∷ Begin 170 (op (act.Set (113 ∷ 51 ∷ []) 5 (pos 0) (51 ∷ []))) ∷ Send 170 d1 ∷ Count d1 p0 ∷ Show 171 0 ∷
+    Read d1 d1 ∷ Treat d1 0 ∷ Learn d1 d1 ∷ Ping everybody d1 ∷ Pong d1 d0 ∷ Begin 85 (op (act.Incr (113 ∷ 51 ∷ []) 1)) ∷ Send 85 d1 ∷ Read d1 d1 ∷ Treat d1 0 ∷
+    Learn d1 d1 ∷ Ping everybody d1 ∷ Receive d0 p0 ∷ Begin 170 (op (act.Set (113 ∷ 51 ∷ []) 5 (pos 0) (51 ∷ []))) ∷ Send 170 d1 ∷ Count d1 p0 ∷ Show 171 0 ∷
     Pong d1 p0 ∷ Pong d1 p0 ∷ Pong d1 d0 ∷ Begin 171 (op (act.Get (113 ∷ 50 ∷ []))) ∷ Send 171 d0 ∷ Flush d1 ∷ Read d0 d1 ∷ Treat d1 0 ∷ Read p0 d1 ∷
     Treat d1 0 ∷ Cut d0 p0 ∷ Count d0 d1 ∷ Show 86 0 ∷ Count d0 d1 ∷ Show 85 1 ∷ Count p0 d1 ∷ Cut d0 d1 ∷ Say p0 ∷ Count p0 d1 ∷ Say d1 ∷ Pong p0 d0 ∷
-    Receive d1 p0 ∷ Receive p0 d0 ∷ Collect 0 0 d0 ∷ Learn d0 d0 ∷ Ping d0 ∷ Hear p0 d1 ∷ Permit d1 ∷ Take d0 d1 ∷ Receive d1 p0 ∷ Read p0 d0 ∷
-    Treat d0 0 ∷ Learn d0 p0 ∷ Ping p0 ∷ Receive p0 d1 ∷ Collect 1 0 d1 ∷ Begin 85 (op (act.Get (113 ∷ 51 ∷ []))) ∷ Send 85 d1 ∷ Read d1 d1 ∷
-    Treat d1 0 ∷ Learn d1 d1 ∷ Ping d1 ∷ Show 85 2 ∷ Pong p0 d1 ∷ Learn d1 p0 ∷ Hear d1 p0 ∷ Permit p0 ∷ Take d0 p0 ∷ Show 171 1 ∷ []
+    Receive d1 p0 ∷ Receive p0 d0 ∷ Collect 0 0 d0 ∷ Learn d0 d0 ∷ Ping everybody d0 ∷ Hear p0 d1 ∷ Permit d1 ∷ Take d0 d1 ∷ Receive d1 p0 ∷ Read p0 d0 ∷
+    Treat d0 0 ∷ Learn d0 p0 ∷ Ping everybody p0 ∷ Receive p0 d1 ∷ Collect 1 0 d1 ∷ Begin 85 (op (act.Get (113 ∷ 51 ∷ []))) ∷ Send 85 d1 ∷ Read d1 d1 ∷
+    Treat d1 0 ∷ Learn d1 d1 ∷ Ping everybody d1 ∷ Show 85 2 ∷ Pong p0 d1 ∷ Learn d1 p0 ∷ Hear d1 p0 ∷ Permit p0 ∷ Take d0 p0 ∷ Show 171 1 ∷ []
 
 abbrev pub AnsweredBehindTheCut : Type 0
 AnsweredBehindTheCut = BreaksShown (small 2 1) answered_behind_the_cut_actions 63 (Learn d0 p0)

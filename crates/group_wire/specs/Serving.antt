@@ -10,7 +10,7 @@ use Rattle.memc_table.specs.declared.act.Act.TheVariants as act
 use Rattle.group_calls.specs.declared.event.Answer.{Answer}
 use Rattle.group_calls.specs.declared.event.Answer.TheVariants as says
 use Rattle.group_run.specs.Asking.{collect_from}
-use Rattle.group_wire.specs.Actions.{Action, Begin, Send, Read, Treat, Collect, Learn, GiveUp, Show}
+use Rattle.group_wire.specs.Actions.{Action, Begin, Send, Read, Treat, Collect, Learn, GiveUp, Show, LetGo}
 use Rattle.group_wire.specs.Sets.{changed, changed_at, changed_from, one_or, without}
 use Rattle.group_wire.specs.State.{Request, AskFor, TraceOf, Told, Stage, Unasked, AskedOf, Unknown, TracedAt, Answered, OpenCall, Gateways, Group, gateway_of}
 use Rattle.group_wire.specs.Sending.{parked_at, sent_on, treating}
@@ -120,4 +120,5 @@ gateways_after g (Collect caller call p) = tell g p (handed_to caller call (coll
 gateways_after g (Learn x p) = learned_first x p (g.signs.pinged p) (g.gateways.answers x p) g.gateways
 gateways_after g (GiveUp caller) = if_open (g.gateways.call caller) g.gateways (λ opened. staged caller opened (stage_given_up opened.op opened.stage) g.gateways)
 gateways_after g (Show caller ping) = record g.gateways { call = changed_at g.gateways.call caller None }
+gateways_after g (LetGo caller) = record g.gateways { call = changed_at g.gateways.call caller None }
 gateways_after g _ = g.gateways

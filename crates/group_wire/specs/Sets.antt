@@ -14,6 +14,10 @@ Processes = ProcessId → Bool
 abbrev pub nobody : Processes
 nobody p = false
 
+-- each process
+abbrev pub everybody : Processes
+everybody p = true
+
 -- the processes of two sets
 abbrev pub either : Processes → Processes → Processes
 either a b p = a p || b p

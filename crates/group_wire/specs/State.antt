@@ -61,7 +61,7 @@ pub record Gateways : Type 0 where
   pub parked : ProcessId → List Request
   pub answers : ProcessId → ProcessId → List Told
 
--- how many pings each member has sent, the pings and pongs on the wires, and who has answered each ping of each
+-- how many pings each member has sent, the pings and pongs on the wires, and who has answered each ping of each or a later
 pub record Signs : Type 0 where
   pub pinged : ProcessId → ℕ
   pub pings : ProcessId → ProcessId → List ℕ

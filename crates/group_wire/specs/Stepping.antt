@@ -1,8 +1,8 @@
 -- What each action makes of the group.
-use Rattle.std.specs.Prelude.{ℕ, suc, List, [], ◌∷◌}
+use Rattle.std.specs.Prelude.{ℕ, suc, nat_le, List, [], ◌∷◌}
 use Rattle.group_types.specs.declared.process.ProcessId.{ProcessId}
 use Rattle.group_wire.specs.Actions.{Action, Ping, Pong, Count, Stop}
-use Rattle.group_wire.specs.Sets.{Processes, changed, changed_at, changed_from, with_one}
+use Rattle.group_wire.specs.Sets.{Processes, changed, changed_from, one_or, with_one}
 use Rattle.group_wire.specs.State.{Signs, Group}
 use Rattle.group_wire.specs.Sending.{sent_on, sent_to_all, words_after, works_after}
 use Rattle.group_wire.specs.Serving.{gateways_after}
@@ -15,19 +15,19 @@ answered_first cut x p (ping ∷ rest) signs = record signs {
   pongs = sent_on cut signs.pongs p x ping;
 }
 
--- the pong at the front of a wire is counted
+-- the pong at the front of a wire is counted: it answers its ping and all before it
 abbrev pub counted_first : ProcessId → ProcessId → List ℕ → Signs → Signs
 counted_first x p [] signs = signs
 counted_first x p (ping ∷ rest) signs = record signs {
   pongs = changed_from signs.pongs x p rest;
-  answered = changed signs.answered p (changed_at (signs.answered p) ping (with_one (signs.answered p ping) x));
+  answered = changed signs.answered p (λ j. one_or (nat_le j ping) (with_one (signs.answered p j) x) (signs.answered p j));
 }
 
 -- pings and pongs after an action
 abbrev pub signs_after : (ProcessId → Processes) → Signs → Action → Signs
-signs_after cut signs (Ping p) = record signs {
+signs_after cut signs (Ping to p) = record signs {
   pinged = changed signs.pinged p (suc (signs.pinged p));
-  pings = sent_to_all cut signs.pings p (λ q. signs.pinged p ∷ []);
+  pings = sent_to_all cut signs.pings p (λ q. one_or (to q) (signs.pinged p ∷ []) []);
 }
 signs_after cut signs (Pong x p) = answered_first cut x p (signs.pings x p) signs
 signs_after cut signs (Count x p) = counted_first x p (signs.pongs x p) signs

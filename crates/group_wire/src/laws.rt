@@ -1,7 +1,12 @@
 ghost use Rattle.group_wire.specs.Appending.{CallsAppendAlike, MessagesAppendAlike};
 ghost use Rattle.group_wire.specs.Composition.{MisfitsNeverCome, NoticesFit, PositionsAlways, RunsCompose};
+ghost use Rattle.group_wire.specs.FromWhom.{CallersAreTheirs};
+ghost use Rattle.group_wire.specs.GoingOn.{AnsweredCanBeShown, GetsCanBeShown, NamedCanBeTaken, ToldCanBeShown};
 ghost use Rattle.group_wire.specs.Laws.{BarrierAlways, FewAreNamed, MoreDataThanParity, PermitsExactly, ShownByLiving};
+ghost use Rattle.group_wire.specs.NoMisfits.{NoMisfitsAtAll};
+ghost use Rattle.group_wire.specs.Once.{AskedOnce, ChangesOnce, ShownOnce};
 ghost use Rattle.group_wire.specs.Shown.{ShownIsLogged, ShownIsMade};
+ghost use Rattle.group_wire.specs.Sizes.{SizesAreCounts};
 
 /// At most m members have failed, and each member that hasn't failed has cut all that have.
 pub fn barrier_always()
@@ -72,4 +77,60 @@ pub fn calls_append_alike()
 /// Nor does what it makes of a message, but that the link to a process whose death is told is emptied.
 pub fn messages_append_alike()
     ensures { MessagesAppendAlike }
+{}
+
+/// Where only processes of the group are among those that a member keeps as dead, their count is the size of their set.
+pub fn sizes_are_counts()
+    ensures { SizesAreCounts }
+{}
+
+/// All that a member tests of a message holds of each that comes to a member that hasn't failed, and no notice stands on a
+/// wire that it reads.
+pub fn no_misfits_at_all()
+    ensures { NoMisfitsAtAll }
+{}
+
+/// A request on a wire names a caller whose gateway its sender is, and an answer one whose gateway its receiver is; a request
+/// that was read names a caller of a member.
+pub fn callers_are_theirs()
+    ensures { CallersAreTheirs }
+{}
+
+/// Of the positions under which an open call was asked, at a gateway that hasn't failed, at most the last has an accepted
+/// entry in the log, and none has where the call is to be asked again.
+pub fn asked_once()
+    ensures { AskedOnce }
+{}
+
+/// Of the positions under which a call was asked at most one ever has an accepted entry, also when the call has ended.
+pub fn changes_once()
+    ensures { ChangesOnce }
+{}
+
+/// Where no two permitted sets together hold all members: of the positions of a call that is shown only the last ever has
+/// an accepted entry, and what is shown is then its reply.
+pub fn shown_once()
+    ensures { ShownOnce }
+{}
+
+/// Where all that are ever cut are among at most m, the others can take the deaths of all of these, with no call
+/// changed.
+pub fn named_can_be_taken()
+    ensures { NamedCanBeTaken }
+{}
+
+/// There a call that its gateway was told the answer of can be shown to its client, where the gateway isn't named.
+pub fn told_can_be_shown()
+    ensures { ToldCanBeShown }
+{}
+
+/// And where all named deaths are taken, a call that is to be asked can be shown as ended by the answer that a member which
+/// isn't named would give it at once.
+pub fn answered_can_be_shown()
+    ensures { AnsweredCanBeShown }
+{}
+
+/// There every open get can be shown, where its gateway and the data process of its key aren't named.
+pub fn gets_can_be_shown()
+    ensures { GetsCanBeShown }
 {}

@@ -5,6 +5,7 @@ ghost use Rattle.group_wire.specs.RowsOfFates.{ALostAsk, GoneAndAskedAgain, Show
 ghost use Rattle.group_wire.specs.RowsOfFailures.{BothHeadsFail, HeadsAreCondemned, NobodyIsDead, TwoFailAtOnce};
 ghost use Rattle.group_wire.specs.RowsOfLosses.{ABlockIsRebuilt, APendingUpdate};
 ghost use Rattle.group_wire.specs.RowsOfGateways.{AReadIsAskedAgain, Ghosts, KeptBehindACut, ThreeGateways};
+ghost use Rattle.group_wire.specs.RowsOfSigns.{AnsweredByALaterPong, LetGoOfUnknownFate, LetGoWhileAsked};
 ghost use Rattle.group_wire.specs.RowsThatBreak.{AnsweredBehindTheCut, GivenUpAtTheCut, MoreThanM, OnePongTooFew, PermittedTooEarly, ReadBehindTheCut};
 
 /// Nobody fails: calls at each gateway, each shown after its pongs.
@@ -145,4 +146,19 @@ pub fn row_more_than_m()
 /// A run in which a data process is cut and fails, and its death is taken.
 pub fn row_a_failure_may_come()
     ensures { AFailureMayCome }
+{}
+
+/// The member that was sent a ping hangs: another answers the next one, and so that one too.
+pub fn row_answered_by_a_later_pong()
+    ensures { AnsweredByALaterPong }
+{}
+
+/// A change of unknown fate is let go, and its caller's next call is shown.
+pub fn row_let_go_of_unknown_fate()
+    ensures { LetGoOfUnknownFate }
+{}
+
+/// A call is let go that is still asked: the machine knows the next one by another position.
+pub fn row_let_go_while_asked()
+    ensures { LetGoWhileAsked }
 {}

@@ -24,7 +24,8 @@ use Rattle.law_moves.specs.State.{State, lost_in, state_of}
 use Rattle.law_moves.proofs.Events.{FramedHistory, lost-nodes}
 use Rattle.law_moves.proofs.Known.{known-notice}
 use Rattle.law_moves.proofs.Runs.{framed-from, framed-opening, holds_always, shape-from, world-from}
-use Rattle.law_moves.proofs.Members.{Members, Stands, is_notice}
+use Rattle.law_moves.proofs.Members.{Members, Stands}
+use Rattle.law_moves.specs.Known.{is_notice}
 use Rattle.law_moves.proofs.Standing.{stands-notice}
 use Rattle.law_moves.proofs.Keeping as members
 use Rattle.law_moves.proofs.Notices.{knows-other}

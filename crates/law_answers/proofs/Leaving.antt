@@ -27,7 +27,7 @@ use Rattle.group_run.specs.Receiving.{ack_to, death_known, enthroned, log_adopte
 use Rattle.group_run.specs.Replica.{with_update}
 use Rattle.group_run.specs.Rows.{accepts_mark, begin_copy, copy_begun, copy_in, is_marked, marked, parity_number, with_copies, without_copy}
 use Rattle.law_moves.proofs.Moves.{Asks, Collects, Flushes, Treats}
-use Rattle.law_moves.proofs.Members.{is_notice}
+use Rattle.law_moves.specs.Known.{is_notice}
 use Rattle.law_moves.proofs.Chains.{goes-each, goes-when}
 
 -- the same is known, and no session was started

@@ -31,7 +31,8 @@ use Rattle.law_moves.proofs.Moves.{Acted, Failed, Moves, Received, Stays, Treate
 use Rattle.law_moves.specs.State.{State, state_of}
 use Rattle.law_moves.proofs.State.{Opens}
 use Rattle.law_moves.proofs.Runs.{runs_move}
-use Rattle.law_moves.proofs.Members.{MayStand, Members, is_notice}
+use Rattle.law_moves.proofs.Members.{MayStand, Members}
+use Rattle.law_moves.specs.Known.{is_notice}
 use Rattle.law_moves.proofs.Keeping as members
 use Rattle.law_histories.proofs.HistoryWords.{HistoryLaws}
 use Rattle.law_histories.proofs.Issuing.{IssueKeeps}

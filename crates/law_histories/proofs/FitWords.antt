@@ -12,7 +12,7 @@ use Rattle.group_message.specs.declared.update.Update.{Update}
 use Rattle.group_calls.specs.declared.event.Event.{Event}
 use Rattle.group_run.specs.Applying.{head_at, replica_of}
 use Rattle.group_run.specs.Deciding.{window}
-use Rattle.group_run.specs.Fitting.{IsRanked, NoticeFits, NumberedFrom}
+use Rattle.group_run.specs.Fitting.{IsRanked, IsToldBy, NoticeFits, NumberedFrom}
 use Rattle.group_run.specs.Headline.{IsRun}
 use Rattle.group_run.specs.Meaning.{Lives, link, process_of}
 use Rattle.group_run.specs.Process.{Head, Process}
@@ -47,13 +47,13 @@ pub record MarkNumbers (s : Dimensions) (p : Process) (d n : ℕ) : Type 0 where
 
 -- a message fits so what the process holds that receives it
 abbrev pub FitsNumbers : Dimensions → ProcessId → Message → Process → Type 0
-FitsNumbers s from (tells.Update r d u stable) p = IsRanked s d.0 r.0 × (at 0 p.ranks d.0 ≤ r.0 → UpdateNumbers (replica_of p d.0) u stable)
-FitsNumbers s from (tells.Stable r d n) p = IsRanked s d.0 r.0 × (at 0 p.ranks d.0 ≤ r.0 → n ≤ last_of (replica_of p d.0))
-FitsNumbers s from (tells.Adopt r d base list) p = IsRanked s d.0 r.0 × (at 0 p.ranks d.0 ≤ r.0 → AdoptNumbers (replica_of p d.0) base list)
+FitsNumbers s from (tells.Update r d u stable) p = IsToldBy s from d.0 r.0 × (at 0 p.ranks d.0 ≤ r.0 → UpdateNumbers (replica_of p d.0) u stable)
+FitsNumbers s from (tells.Stable r d n) p = IsToldBy s from d.0 r.0 × (at 0 p.ranks d.0 ≤ r.0 → n ≤ last_of (replica_of p d.0))
+FitsNumbers s from (tells.Adopt r d base list) p = IsToldBy s from d.0 r.0 × (at 0 p.ranks d.0 ≤ r.0 → AdoptNumbers (replica_of p d.0) base list)
 FitsNumbers s (ParityNode i) (tells.Ack r d n) p = AckNumbers s p r.0 d.0 n
 FitsNumbers s (DataNode e) (tells.Ack r d n) p = Unit {0}
 FitsNumbers s from (tells.Mark session r block d n) p = accepts_mark p (parity_number session.leader) session.number r.0 d.0 ≡ true → MarkNumbers s p d.0 n
-FitsNumbers s from (tells.Notice dead) p = NoticeFits s p dead
+FitsNumbers s from (tells.Notice dead) p = (from ≡ dead) × NoticeFits s p dead
 FitsNumbers s from (tells.ReadBlock session block rows) p = Unit {0}
 FitsNumbers s from (tells.Block session bytes n) p = Unit {0}
 FitsNumbers s from (tells.Row session bytes stamp) p = Unit {0}

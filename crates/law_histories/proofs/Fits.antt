@@ -13,7 +13,7 @@ use Rattle.group_message.specs.declared.message.Message.{Message}
 use Rattle.group_message.specs.declared.message.Message.TheVariants as tells
 use Rattle.group_message.specs.declared.update.Update.{Update}
 use Rattle.group_run.specs.Applying.{head_at, replica_of}
-use Rattle.group_run.specs.Fitting.{IsRanked, NumberedFrom}
+use Rattle.group_run.specs.Fitting.{IsRanked, IsToldBy, NumberedFrom}
 use Rattle.group_run.specs.History.{History, history_of, no_history, history}
 use Rattle.group_run.specs.Meaning.{Lives, link, process_of}
 use Rattle.group_run.specs.Process.{Process}
@@ -106,17 +106,20 @@ module _ (F : ℕ → ℕ → List Update → Type 0) (s : Dimensions) (v : Stat
   ranked : (d r : ℕ) (y : ProcessId) → IsFrom s v y d r → IsRanked s d r
   ranked d r y from = record { partition = from.1.partition; rank = from.1.rank }
 
+  told-by : (d r : ℕ) (y : ProcessId) → IsFrom s v y d r → IsToldBy s y d r
+  told-by d r y from = record { ranked = ranked d r y from; sender = from.0 }
+
   pub fits-numbers : (m : Message) (rest : List Message) → First m rest → FitsNumbers s x m (v.process p)
   fits-numbers (tells.Update r e u stable) rest first =
       let may : IsFrom s v x e.0 r.0 × IsParity p = may-first (tells.Update r e u stable) rest first in (
-        ranked e.0 r.0 x may.0,
+        told-by e.0 r.0 x may.0,
         λ low.
             let both = goes-first (tells.Update r e u stable) rest first e.0 may.0.1.partition may.1 in
             update-numbers F e.0 (v.settled e.0) (v.process p) both.1 r.0 stable u (both.0 (live-is e.0 (seen_at e.0 (v.settled e.0) (v.process p)) e.0 r.0 refl low)),
       )
   fits-numbers (tells.Stable r e n) rest first =
       let may : IsFrom s v x e.0 r.0 × IsParity p = may-first (tells.Stable r e n) rest first in (
-        ranked e.0 r.0 x may.0,
+        told-by e.0 r.0 x may.0,
         λ low.
             let both = goes-first (tells.Stable r e n) rest first e.0 may.0.1.partition may.1 in
             let goes = both.0 (live-is e.0 (seen_at e.0 (v.settled e.0) (v.process p)) e.0 r.0 refl low) in
@@ -126,7 +129,7 @@ module _ (F : ℕ → ℕ → List Update → Type 0) (s : Dimensions) (v : Stat
       )
   fits-numbers (tells.Adopt r e base list) rest first =
       let may : IsFrom s v x e.0 r.0 × (0 < r.0) × IsParity p = may-first (tells.Adopt r e base list) rest first in (
-        ranked e.0 r.0 x may.0,
+        told-by e.0 r.0 x may.0,
         λ low.
             let both = goes-first (tells.Adopt r e base list) rest first e.0 may.0.1.partition may.2 in
             adopt-numbers F e.0 (v.settled e.0) (v.process p) both.1 r.0 base list (both.0 (live-is e.0 (seen_at e.0 (v.settled e.0) (v.process p)) e.0 r.0 refl low)),
@@ -156,12 +159,14 @@ module _ (F : ℕ → ℕ → List Update → Type 0) (s : Dimensions) (v : Stat
       accepted-low accepts = grind (arith, common_steps)
   fits-numbers (tells.Notice dead) rest first =
       let stood = stands-notice x (v.dead x) (knows_dead (v.process p).known x) dead rest
-      (subst (Stands x (v.dead x) (knows_dead (v.process p).known x)) first (members.stands x p xin pin apart lives)) in
-      record {
-        process = subst (IsProcess s) (sym stood.2) xin;
-        other = λ same. apart (sym stood.2 ∙ same ∙ members.named p pin);
-        news = ap (knows_dead (v.process p).known) stood.2 ∙ stood.1;
-      }
+      (subst (Stands x (v.dead x) (knows_dead (v.process p).known x)) first (members.stands x p xin pin apart lives)) in (
+        sym stood.2,
+        record {
+          process = subst (IsProcess s) (sym stood.2) xin;
+          other = λ same. apart (sym stood.2 ∙ same ∙ members.named p pin);
+          news = ap (knows_dead (v.process p).known) stood.2 ∙ stood.1;
+        },
+      )
   fits-numbers (tells.ReadBlock session block rows) rest first = tt
   fits-numbers (tells.Block session bytes n) rest first = tt
   fits-numbers (tells.Row session bytes stamp) rest first = tt

@@ -35,7 +35,8 @@ use Rattle.law_moves.specs.State.{IsUp, State}
 use Rattle.law_moves.proofs.State.{Opens}
 use Rattle.law_moves.proofs.Known.{known-notice}
 use Rattle.law_moves.proofs.Runs.{holds_always}
-use Rattle.law_moves.proofs.Members.{Members, Sits, is_notice, knows_lower}
+use Rattle.law_moves.proofs.Members.{Members, Sits, knows_lower}
+use Rattle.law_moves.specs.Known.{is_notice}
 use Rattle.law_moves.proofs.Calls.{seat-head, seat-known, seat-lower}
 use Rattle.law_moves.proofs.Keeping.{keeps, known-is-dead, living-unknown}
 use Rattle.law_histories.proofs.Issuing.{IssueKeeps, IssuesIn}

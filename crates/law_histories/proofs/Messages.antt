@@ -27,7 +27,8 @@ use Rattle.group_run.specs.Replica.{Replica, applied_to, empty_replica, last_of,
 use Rattle.group_run.specs.Rows.{accepts_mark, begin_copy, copy_in, parity_number}
 use Rattle.group_run.specs.World.{sent_to}
 use Rattle.law_moves.specs.State.{State}
-use Rattle.law_moves.proofs.Members.{IsFrom, IsParity, MayStand, Members, Sits, is_notice}
+use Rattle.law_moves.proofs.Members.{IsFrom, IsParity, MayStand, Members, Sits}
+use Rattle.law_moves.specs.Known.{is_notice}
 use Rattle.law_moves.proofs.Standing.{each-sent_to}
 use Rattle.law_histories.proofs.LaneWords.{AckFits, AckGoes, AdoptGoes, Fine, Goes, MarkGoes, NumberGoes, Prolongs, Seen, UpdateGoes, appended, is_live, next, raised, replaced}
 use Rattle.law_histories.proofs.Reach.{IsKeeper, ReplicaFits, seen_at}

@@ -30,7 +30,8 @@ use Rattle.group_run.specs.World.{front_if, sent_to}
 use Rattle.group_run.specs.History.{history}
 use Rattle.law_moves.proofs.Moves.{Acted, Popped}
 use Rattle.law_moves.specs.State.{IsUp, State}
-use Rattle.law_moves.proofs.Members.{IsFrom, IsParity, MayStand, Members, Reigns, is_notice, seat_of}
+use Rattle.law_moves.proofs.Members.{IsFrom, IsParity, MayStand, Members, Reigns, seat_of}
+use Rattle.law_moves.specs.Known.{is_notice}
 use Rattle.law_moves.proofs.Calls.{Owes}
 use Rattle.law_moves.proofs.Keeping.{ground_of, seat-from, may-mark}
 use Rattle.law_moves.proofs.Messages.{DueTo, received}

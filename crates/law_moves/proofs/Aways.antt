@@ -34,7 +34,8 @@ use Rattle.law_moves.specs.State.{state_of}
 use Rattle.law_moves.proofs.Events.{FramedHistory}
 use Rattle.law_moves.proofs.Runs.{framed-from, framed-opening, shape-from, world-from}
 use Rattle.law_moves.specs.Away.{AwayAlways, SentAway}
-use Rattle.law_moves.proofs.Members.{EndsInNotice, Members, Reigns, Sits, Stands, is_notice, knows_lower, seat_of}
+use Rattle.law_moves.proofs.Members.{EndsInNotice, Members, Reigns, Sits, Stands, knows_lower, seat_of}
+use Rattle.law_moves.specs.Known.{is_notice}
 use Rattle.law_moves.proofs.Calls.{seat-head, seat-known, seat-lower}
 use Rattle.law_moves.proofs.Keeping.{ground_of, lower-each, members_always, seat-from}
 

@@ -26,7 +26,8 @@ use Rattle.law_moves.specs.State.{IsUp, State}
 use Rattle.law_moves.proofs.State.{Opens}
 use Rattle.law_moves.proofs.Known.{knows-with_dead}
 use Rattle.law_moves.proofs.Runs.{holds_always}
-use Rattle.law_moves.proofs.Members.{IsData, IsFrom, IsParity, IsPlain, MayStand, Members, MembersAlways, Reigns, Sits, SitsWhen, Stands, is_notice, knows_lower, seat_of}
+use Rattle.law_moves.proofs.Members.{IsData, IsFrom, IsParity, IsPlain, MayStand, Members, MembersAlways, Reigns, Sits, SitsWhen, Stands, knows_lower, seat_of}
+use Rattle.law_moves.specs.Known.{is_notice}
 use Rattle.law_moves.proofs.Calls.{Owes, Seated, seat-known, seat-lower, seated-core, step-treats}
 use Rattle.law_moves.proofs.Cores.{KeepsSeats, MaySend, SentWell, Step}
 use Rattle.law_moves.proofs.Standing.{each-sent_to, stands-notice, stands-popped}

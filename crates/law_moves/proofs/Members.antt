@@ -13,11 +13,7 @@ use Rattle.group_message.specs.declared.message.Message.TheVariants as tells
 use Rattle.group_run.specs.Applying.{head_at}
 use Rattle.group_run.specs.Process.{Process}
 use Rattle.law_moves.specs.State.{State, HoldsAlways}
-
--- the message tells of a death
-abbrev pub is_notice : Message → Bool
-is_notice (tells.Notice _) = true
-is_notice _ = false
+use Rattle.law_moves.specs.Known.{is_notice}
 
 -- no message tells of a death
 abbrev pub IsPlain : List Message → Type 0

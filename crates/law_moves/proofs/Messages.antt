@@ -20,7 +20,8 @@ use Rattle.group_run.specs.Heading.{acknowledge, acknowledged, judge, partition,
 use Rattle.group_run.specs.Process.{Head, Process}
 use Rattle.group_run.specs.Receiving.{ack_to, log_adopted, read_comes, receive, update_taken}
 use Rattle.group_run.specs.Rows.{parity_number}
-use Rattle.law_moves.proofs.Members.{IsData, IsParity, is_notice, seat_of}
+use Rattle.law_moves.proofs.Members.{IsData, IsParity, seat_of}
+use Rattle.law_moves.specs.Known.{is_notice}
 use Rattle.law_moves.proofs.Calls.{Seated, seat-head}
 use Rattle.law_moves.proofs.Cores.{MaySend, SameCore, SentWell, Step, core-refl, step-from, step-judge, step-mark, step-quiet, step-when}
 

@@ -8,7 +8,8 @@ use Rattle.group_message.specs.declared.message.Message.{Message}
 use Rattle.group_message.specs.declared.message.Message.TheVariants as tells
 use Rattle.group_run.specs.Applying.{Sent}
 use Rattle.group_run.specs.World.{front_if, sent_to}
-use Rattle.law_moves.proofs.Members.{EndsInNotice, IsPlain, Stands, is_notice}
+use Rattle.law_moves.proofs.Members.{EndsInNotice, IsPlain, Stands}
+use Rattle.law_moves.specs.Known.{is_notice}
 
 -- what is said of each message that is sent, is said of each that goes to one process
 pub each-sent_to : (P : ProcessId → Message → Type 0) (q : ProcessId) (sent : List Sent) → Each (λ z. P z.to z.message) sent → Each (P q) (sent_to q sent)

@@ -1,3 +1,4 @@
 pub mod Away
 pub mod Down
+pub mod Known
 pub mod State

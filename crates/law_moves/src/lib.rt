@@ -6,6 +6,7 @@
 
 ghost use Rattle.law_moves.specs.Away.{AwayAlways};
 ghost use Rattle.law_moves.specs.Down.{DownAlways, WordsAlways};
+ghost use Rattle.law_moves.specs.Known.{KnownStays};
 
 /// Each node's word whether the group is down is right.
 pub fn words_always()
@@ -22,4 +23,10 @@ pub fn down_always()
 /// head the key's partition or has not taken over, where it is dead, where the group is down.
 pub fn away_always()
     ensures { AwayAlways }
+{}
+
+/// Calls leave whom a process knows dead, and so does every message but a notice: of every process, whether a run leads
+/// to it or not.
+pub fn known_stays()
+    ensures { KnownStays }
 {}

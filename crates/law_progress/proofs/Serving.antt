@@ -20,7 +20,7 @@ use Rattle.group_run.specs.Rows.{accepts_mark, begin_copy, copies_ceased, copy_b
 use Rattle.law_bytes.proofs.Copies.{stays-decoded}
 use Rattle.law_bytes.proofs.Finding.{found-passes}
 use Rattle.law_answers.proofs.Awaited.{decoded-some}
-use Rattle.law_moves.proofs.Members.{is_notice}
+use Rattle.law_moves.specs.Known.{is_notice}
 use Rattle.law_moves.proofs.Chains.{goes-each, goes-when}
 use Rattle.law_bytes.proofs.LeadingWords.{lost_by}
 use Rattle.law_bytes.proofs.Local.{number-is}

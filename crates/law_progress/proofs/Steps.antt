@@ -35,7 +35,8 @@ use Rattle.law_moves.proofs.Moves.{Acted, Failed, Moves, Received, Stays, Treate
 use Rattle.law_moves.specs.State.{State, state_of}
 use Rattle.law_moves.proofs.Events.{FramedHistory}
 use Rattle.law_moves.proofs.Runs.{framed-from, framed-opening, runs_move, shape-from, world-from}
-use Rattle.law_moves.proofs.Members.{Members, Stands, is_notice}
+use Rattle.law_moves.proofs.Members.{Members, Stands}
+use Rattle.law_moves.specs.Known.{is_notice}
 use Rattle.law_moves.proofs.Calls.{Seated}
 use Rattle.law_moves.proofs.Keeping.{members_always}
 use Rattle.law_log.specs.Book.{book_of, no_book}

@@ -166,7 +166,7 @@ module _ (s : Dimensions) where
   received-sound (ParityNode i) (tells.Row session bytes stamp) p sound fits of_group = sound-stays s p _ (row-stays s i session.number bytes p) sound
   received-sound (DataNode e) (tells.Cease upto) p sound fits of_group = sound
   received-sound (ParityNode i) (tells.Cease upto) p sound fits of_group = sound-stays s p _ (cease-stays s i upto p) sound
-  received-sound from (tells.Notice dead) p sound fits of_group = noticed-sound s dead p sound fits of_group
+  received-sound from (tells.Notice dead) p sound fits of_group = noticed-sound s dead p sound fits.1 of_group
 
 pub stays_sound : (s : Dimensions) → StaysSound s
 stays_sound s = record {

@@ -1,4 +1,5 @@
-ghost use Rattle.std.specs.Prelude.{ℕ, ◌≡◌, ◌≢◌, ◌↔◌, ◌<◌, ◌≤◌, ◌+◌, Bool, true, false, List, length, replicate, IsTrue, IfSome, IfNone, OnOk, OnErr, is_err};
+ghost use Rattle.std.specs.Prelude.{ℕ, ◌≡◌, ◌≢◌, ◌↔◌, ◌<◌, ◌≤◌, ◌+◌, ◌||◌, Bool, true, false, List, length, replicate, IsTrue, IfSome, IfNone, OnOk, OnErr, is_err};
+ghost use Rattle.group_types.specs.declared.process.ProcessId as named;
 ghost use Rattle.group_types.specs.Names.{IsProcess, IsHead, of_rank};
 ghost use Rattle.group_types.specs.Lists.{at};
 ghost use Rattle.membership.specs.Members.{count_dead};
@@ -80,6 +81,23 @@ impl Members {
         Ok(())
     }
 
+    /// Notes all that are among others.
+    pub fn add_all(&mut self, others: &Members)
+        ensures shape { self.new.shape ≡ self.old.shape }
+        ensures known { (p : named.ProcessId) → knows_dead self.new p ≡ (knows_dead self.old p || knows_dead others.now p) }
+    {
+        add_words(&mut self.data_dead, &others.data_dead);
+        add_words(&mut self.parity_dead, &others.parity_dead);
+    }
+
+    /// Whether all that it has are among others.
+    pub fn is_within(&self, others: &Members) -> bool
+        ensures { IsTrue result ↔ ((p : named.ProcessId) → knows_dead self.now p ≡ true → knows_dead others.now p ≡ true) }
+    {
+        are_within(&self.data_dead, &others.data_dead)
+            && are_within(&self.parity_dead, &others.parity_dead)
+    }
+
     /// How many processes are known dead.
     pub fn lost(&self) -> u32
         ensures { result ≡ lost_of self.now }
@@ -133,4 +151,27 @@ fn count(words: &[bool]) -> u32
         }
     }
     dead
+}
+
+// Each word says dead where one of the two at its place does.
+fn add_words(words: &mut [bool], others: &[bool])
+    requires { length words.old ≡ length others.now }
+    ensures { (i : ℕ) → at false words.new i ≡ (at false words.old i || at false others.now i) }
+{
+    'words: for i in 0..words.len() {
+        words[i] |= others[i];
+    }
+}
+
+// Whether each word that says dead does so among others.
+fn are_within(words: &[bool], others: &[bool]) -> bool
+    requires { length words.now ≡ length others.now }
+    ensures { IsTrue result ↔ ((i : ℕ) → at false words.now i ≡ true → at false others.now i ≡ true) }
+{
+    'words: for i in 0..words.len() {
+        if words[i] && !others[i] {
+            return false;
+        }
+    }
+    true
 }

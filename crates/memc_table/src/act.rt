@@ -1,4 +1,5 @@
-ghost use Rattle.std.specs.Prelude.{◌≡◌, IfOk};
+ghost use Rattle.std.specs.Prelude.{◌≡◌, ◌<◌, All, IfOk};
+ghost use Rattle.memc_table.specs.Act.{value_of};
 
 use group_types::{Key, Payload};
 use std::alloc::AllocError;
@@ -180,4 +181,29 @@ fn both(key: &Key, value: &Payload) -> Result<(Key, Payload), AllocError>
     ensures { IfOk result (λ copies. copies ≡ (key.now, value.now)) }
 {
     Ok((key.clone()?, value.clone()?))
+}
+
+/// The value that an act brings consists of bytes.
+pub fn values_are_bytes(act: &Act)
+    ensures { All (λ b. b < 256) (value_of act.now) }
+{
+    match act {
+        Act::Set { value, .. } => are_bytes(value.bytes()),
+        Act::Add { value, .. } => are_bytes(value.bytes()),
+        Act::Replace { value, .. } => are_bytes(value.bytes()),
+        Act::Cas { value, .. } => are_bytes(value.bytes()),
+        Act::Append { value, .. } => are_bytes(value.bytes()),
+        Act::Prepend { value, .. } => are_bytes(value.bytes()),
+        Act::Get { .. } => {}
+        Act::Delete { .. } => {}
+        Act::Touch { .. } => {}
+        Act::Incr { .. } => {}
+        Act::Decr { .. } => {}
+    }
+}
+
+fn are_bytes(bytes: &[u8])
+    ensures { All (λ b. b < 256) bytes.now }
+{
+    let _long = bytes.len();
 }

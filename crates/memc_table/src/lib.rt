@@ -13,7 +13,7 @@ pub mod rule;
 pub mod ruling;
 pub mod table;
 
-pub use act::Act;
+pub use act::{Act, values_are_bytes};
 pub use holding::Holding;
 pub use op::Op;
 pub use reply::{Item, Reply};

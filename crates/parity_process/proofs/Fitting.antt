@@ -18,10 +18,10 @@ module _ {b : Bool} {s : Dimensions} {from : ProcessId} {p : Process} where
   fits-only kind group told = (λ yes. record { fits = told.0 yes; kind = kind; group = group }, λ comes. told.1 comes.fits)
 
   -- the notice of a death
-  pub fits-few : {dead : ProcessId} → (IsTrue b ↔ NoticeComes s p dead) → IsTrue b ↔ FitsParity s from (tells.Notice dead) p
+  pub fits-few : {dead : ProcessId} → (IsTrue b ↔ NoticeComes s from p dead) → IsTrue b ↔ FitsParity s from (tells.Notice dead) p
   fits-few told = (
-    λ yes. record { fits = (told.0 yes).fits; kind = tt; group = (told.0 yes).few },
-    λ comes. told.1 (record { fits = comes.fits; few = comes.group }),
+    λ yes. record { fits = ((told.0 yes).sender, (told.0 yes).fits); kind = tt; group = (told.0 yes).few },
+    λ comes. told.1 (record { sender = comes.fits.0; fits = comes.fits.1; few = comes.group }),
   )
 
 -- what is told of the message and of the process as they are

@@ -1,4 +1,4 @@
-ghost use Rattle.std.specs.Prelude.{◌≡◌, ◌⊎◌, ◌+◌, ◌<◌, ◌≤◌, ◌^◌, [], length, map, true, IfOk, OnErr, ◌-◌, min};
+ghost use Rattle.std.specs.Prelude.{◌≡◌, ◌↔◌, ◌⊎◌, ◌+◌, ◌<◌, ◌≤◌, ◌^◌, [], length, map, true, IsTrue, IfOk, OnErr, ◌-◌, min};
 ghost use Rattle.std.specs.List.{range_with_len};
 ghost use Rattle.group_types.specs.Dimensions.{space_of};
 ghost use Rattle.group_types.specs.declared.process.ProcessId.TheVariants.{ParityNode};
@@ -26,7 +26,7 @@ use crate::opening::retry;
 use crate::receiving::receive;
 use group_calls::Answer;
 use group_message::Message;
-use group_types::{Partition, Payload, ProcessId, Run, Shape};
+use group_types::{Key, Partition, Payload, ProcessId, Run, Shape, home};
 use head_service::{Asking, Call, CallStep, Sent};
 use membership::Members;
 use memc_table::Op;
@@ -161,6 +161,22 @@ impl ParityProcess {
         ensures { result ≡ min (waiting self.now.process.replicas) (2 ^ 64 - 1) }
     {
         self.service.waiting()
+    }
+
+    /// Whether the partition of a key has numbers left, and its sessions have, as `ask` requires.
+    pub fn may_ask(&self, key: &Key) -> bool
+        ensures { IsTrue result ↔ (last_of (replica_of self.now.process (home_of key.now self.now.shape.k)) < 2 ^ 62)
+            × (self.now.process.as_leader.last_session < 2 ^ 62) }
+    {
+        let partition = home(key, self.service.shape().k());
+        self.service.last(partition) < 1 << 62 && self.last_session() < 1 << 62
+    }
+
+    /// The number of the last block session that it opened.
+    pub fn last_session(&self) -> u64
+        ensures { result ≡ self.now.process.as_leader.last_session }
+    {
+        self.bytes.last()
     }
 
     /// The number up to which each partition is applied.

@@ -14,3 +14,4 @@ mod Taken
 mod Lent
 mod Paging
 mod Wanting
+mod Beyond

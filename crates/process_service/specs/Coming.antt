@@ -34,8 +34,9 @@ pub record HasIssued (v : Serving) (d r n : ℕ) : Type 0 where
   pub heads : (h : Head) × (at None v.heads d ≡ Some h) × (h.rank ≡ r)
   pub issued : n ≤ last_of (at empty_replica v.replicas d)
 
--- the notice of a death fits, and leaves no more than m known dead
-pub record NoticeComes (s : Dimensions) (p : Process) (dead : ProcessId) : Type 0 where
+-- the notice of a death fits, comes from the dead, and leaves no more than m known dead
+pub record NoticeComes (s : Dimensions) (from : ProcessId) (p : Process) (dead : ProcessId) : Type 0 where
+  pub sender : from ≡ dead
   pub fits : NoticeFits s p dead
   pub few : lost_of (with_dead p.known dead) ≤ s.m
 

@@ -56,7 +56,7 @@ impl Service {
     }
 
     // Whether the process heads the partition under this rank.
-    fn heads_under(&self, partition: Partition, rank: Rank) -> bool
+    pub(crate) fn heads_under(&self, partition: Partition, rank: Rank) -> bool
         requires { partition.0 < self.now.shape.k }
         ensures { result ≡ is_under rank.0 (at None self.now.heads partition.0) }
     {

@@ -1,10 +1,9 @@
 ghost use Rattle.std.specs.Prelude.{◌≡◌, ◌<◌, ◌≤◌, ◌↔◌, false, IsTrue};
 ghost use Rattle.group_types.specs.Lists.{at};
-ghost use Rattle.group_types.specs.Names.{IsProcess};
-ghost use Rattle.group_types.specs.declared.process.ProcessId as named;
+ghost use Rattle.group_types.specs.Names.{IsProcess, of_rank};
 ghost use Rattle.membership.specs.Members.{knows_dead, lost_of, with_dead};
 ghost use Rattle.group_message.specs.declared.message.Message.TheVariants as tells;
-ghost use Rattle.group_run.specs.Fitting.{Fits, IsRanked};
+ghost use Rattle.group_run.specs.Fitting.{Fits, IsRanked, IsToldBy};
 ghost use Rattle.group_run.specs.Process.{Process};
 ghost use Rattle.group_run.specs.Replica.{empty_replica};
 ghost use Rattle.head_service.specs.Serving.{serving};
@@ -17,39 +16,61 @@ use partition_replica::Replica;
 
 // What comes from outside fits what the process keeps. Each takes no memory.
 impl Service {
-    /// Whether an update that comes from a head fits.
-    pub fn may_follow(&self, rank: Rank, partition: Partition, update: &Update, stable: u64) -> bool
-        ensures { (from : named.ProcessId) (b : Process) → IsTrue result
+    /// Whether an update fits that comes from a process, as the head of a rank.
+    pub fn may_follow(
+        &self,
+        from: ProcessId,
+        rank: Rank,
+        partition: Partition,
+        update: &Update,
+        stable: u64,
+    ) -> bool
+        ensures { (b : Process) → IsTrue result
             ↔ Fits self.now.shape from (tells.Update rank partition update.now stable) (serving self.now b) }
     {
-        self.is_ranked(partition, rank) && self.can_follow(partition, rank, update, stable)
+        self.is_told_by(from, partition, rank) && self.can_follow(partition, rank, update, stable)
     }
 
-    /// Whether a number that a head has settled fits.
-    pub fn may_settle(&self, rank: Rank, partition: Partition, number: u64) -> bool
-        ensures { (from : named.ProcessId) (b : Process) → IsTrue result
+    /// Whether a number fits that a process has settled, as the head of a rank.
+    pub fn may_settle(&self, from: ProcessId, rank: Rank, partition: Partition, number: u64) -> bool
+        ensures { (b : Process) → IsTrue result
             ↔ Fits self.now.shape from (tells.Stable rank partition number) (serving self.now b) }
     {
-        self.is_ranked(partition, rank) && self.can_settle(partition, rank, number)
+        self.is_told_by(from, partition, rank) && self.can_settle(partition, rank, number)
     }
 
-    /// Whether a new head's list fits.
-    pub fn may_adopt(&self, rank: Rank, partition: Partition, base: u64, list: &UpdateList) -> bool
-        ensures { (from : named.ProcessId) (b : Process) → IsTrue result
+    /// Whether a list fits that comes from a process, as the new head of a rank.
+    pub fn may_adopt(
+        &self,
+        from: ProcessId,
+        rank: Rank,
+        partition: Partition,
+        base: u64,
+        list: &UpdateList,
+    ) -> bool
+        ensures { (b : Process) → IsTrue result
             ↔ Fits self.now.shape from (tells.Adopt rank partition base list.now) (serving self.now b) }
     {
-        self.is_ranked(partition, rank) && self.can_adopt(partition, rank, base, list)
+        self.is_told_by(from, partition, rank) && self.can_adopt(partition, rank, base, list)
     }
 
-    /// Whether the notice of a death fits, and leaves no more than m known dead.
-    pub fn may_notice(&self, dead: ProcessId) -> bool
+    /// Whether the notice of a death fits that comes from a process, and leaves no more than m known dead.
+    pub fn may_notice(&self, from: ProcessId, dead: ProcessId) -> bool
         ensures { (b : Process) → b.name ≡ self.now.name
-            → IsTrue result ↔ NoticeComes self.now.shape (serving self.now b) dead }
+            → IsTrue result ↔ NoticeComes self.now.shape from (serving self.now b) dead }
     {
-        self.is_of_group(dead)
+        from == dead
+            && self.is_of_group(dead)
             && dead != self.name
             && !self.known.is_dead(dead)
             && self.leaves_few(dead)
+    }
+
+    /// Whether a process has a rank in a partition of the group.
+    pub fn is_told_by(&self, from: ProcessId, partition: Partition, rank: Rank) -> bool
+        ensures { IsTrue result ↔ IsToldBy self.now.shape from partition.0 rank.0 }
+    {
+        self.is_ranked(partition, rank) && has_rank(from, partition, rank)
     }
 
     /// Whether a partition is one of the group, with a rank in it.
@@ -120,5 +141,15 @@ impl Service {
         ensures replica { result.now.replica ≡ at empty_replica self.now.replicas partition.0 }
     {
         &self.replicas[partition.0 as usize]
+    }
+}
+
+// Whether it is the process of a rank in a partition.
+fn has_rank(process: ProcessId, partition: Partition, rank: Rank) -> bool
+    ensures { IsTrue result ↔ process ≡ of_rank partition.0 rank.0 }
+{
+    match process {
+        ProcessId::DataNode(d) => rank.0 == 0 && d == partition.0,
+        ProcessId::ParityNode(i) => rank.0 > 0 && i == rank.0 - 1,
     }
 }

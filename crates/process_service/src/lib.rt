@@ -10,6 +10,7 @@ mod applying;
 mod asking;
 mod collecting;
 mod coming;
+mod current;
 mod following;
 pub mod inherited;
 mod judging;

@@ -11,10 +11,10 @@ use crate::laws::{asks_are_few, asks_lead_on, collects_lead_on};
 use crate::serving::server;
 use crate::stage::{Next, Stage, after_ask, after_collect};
 use group_calls::Event;
-use group_core::{World, values_are_bytes};
+use group_core::World;
 use group_types::{ProcessId, home};
 use memc_proto::CallEnd;
-use memc_table::Op;
+use memc_table::{Op, values_are_bytes};
 use std::alloc::AllocError;
 
 /// Makes a call to its end. After want of memory the events that were made before it stand.

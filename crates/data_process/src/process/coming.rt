@@ -1,5 +1,6 @@
-ghost use Rattle.std.specs.Prelude.{◌↔◌, IsTrue};
+ghost use Rattle.std.specs.Prelude.{◌≡◌, ◌↔◌, IsTrue};
 ghost use Rattle.group_run.specs.Fitting.{ReadFits};
+ghost use Rattle.process_service.specs.Current.{is_current};
 ghost use Rattle.data_process.specs.Coming.{FitsData};
 
 use super::DataProcess;
@@ -26,9 +27,16 @@ impl DataProcess {
                 block,
                 rows,
             } => self.may_read(*session, *block, rows.rows()),
-            Message::Notice { dead } => self.service.may_notice(*dead),
+            Message::Notice { dead } => self.service.may_notice(from, *dead),
             _ => false,
         }
+    }
+
+    /// Whether a message is acted on, and not dropped for its rank. It takes no memory.
+    pub fn acts_on(&self, message: &Message) -> bool
+        ensures { result ≡ is_current self.now.process message.now }
+    {
+        self.service.acts_on(message)
     }
 
     // Whether a leader's question for a block fits.

@@ -1,4 +1,5 @@
 ghost use Rattle.std.specs.Prelude.{◌≡◌, ◌↔◌, IsTrue};
+ghost use Rattle.process_service.specs.Current.{is_current};
 ghost use Rattle.parity_process.specs.Coming.{FitsParity};
 
 use super::ParityProcess;
@@ -19,7 +20,9 @@ impl ParityProcess {
                 partition,
                 update,
                 stable,
-            } => self.service.may_follow(*rank, *partition, update, *stable),
+            } => self
+                .service
+                .may_follow(from, *rank, *partition, update, *stable),
             Message::Ack {
                 rank,
                 partition,
@@ -31,13 +34,13 @@ impl ParityProcess {
                 rank,
                 partition,
                 number,
-            } => self.service.may_settle(*rank, *partition, *number),
+            } => self.service.may_settle(from, *rank, *partition, *number),
             Message::Adopt {
                 rank,
                 partition,
                 base,
                 list,
-            } => self.service.may_adopt(*rank, *partition, *base, list),
+            } => self.service.may_adopt(from, *rank, *partition, *base, list),
             Message::ReadBlock { .. } => false,
             Message::Block { session, bytes, .. } => {
                 self.leads(*session) && self.bytes.may_take_block(from, session.number, bytes)
@@ -62,8 +65,15 @@ impl ParityProcess {
                 self.leads(*session) && self.bytes.may_take_row(from, session.number, bytes)
             }
             Message::Cease { .. } => self.service.is_parity(from),
-            Message::Notice { dead } => self.service.may_notice(*dead),
+            Message::Notice { dead } => self.service.may_notice(from, *dead),
         }
+    }
+
+    /// Whether a message is acted on, and not dropped for its rank. It takes no memory.
+    pub fn acts_on(&self, message: &Message) -> bool
+        ensures { result ≡ is_current self.now.process message.now }
+    {
+        self.service.acts_on(message)
     }
 
     // Whether a session is one of its own.

@@ -1,8 +1,9 @@
 use Rattle.std.proofs.Common.{◌<◌, ℕ, subst}
 use Rattle.std.specs.Prelude.{All}
-use Rattle.memc_table.specs.Act.{value_of}
+use Rattle.memc_table.specs.Act.{key_of, value_of}
 use Rattle.memc_table.specs.declared.act.Act.{Act}
 use Rattle.group_calls.specs.declared.event.Event.TheVariants.{Ask}
+use Rattle.group_node.proofs.Numbers.{all-low}
 use Rattle.group_stage.proofs.Hands.{holds, was-up}
 use Rattle.group_stage.proofs.Treating.{ask-one, ask-treats, can-finish, low-sessions, low-updates, made-ended}
 use Rattle.group_stage.proofs.stage.Stage.ask_as.Goals as goal
@@ -13,15 +14,9 @@ ask-requires-clause-numbers g c = λ up lives.
     let q = c.args.at in
     let p : ℕ = c.index_of-place.result in
     let held = holds c.args.self.now.plan v g.J.Calls.event (Ask c.args.call.caller c.args.op.now q) q p c.args.seat.now.me.1 c.in-Some.node c.take_first.new.seat.me c.requires.shape c.requires.event c.requires.process c.index_of-place.ensures c.in-Some.ensures.took in
-    low-updates v (Ask c.args.call.caller c.args.op.now q) p q c.args.seat.now.me.1 c.in-Some.node c.take_first.new.seat.me held lives
-
-pub ask-requires-clause-sessions : goal.ask-requires-clause-sessions
-ask-requires-clause-sessions g c = λ up lives.
-    let v = c.args.seat.now.me.0 in
-    let q = c.args.at in
-    let p : ℕ = c.index_of-place.result in
-    let held = holds c.args.self.now.plan v g.J.Calls.event (Ask c.args.call.caller c.args.op.now q) q p c.args.seat.now.me.1 c.in-Some.node c.take_first.new.seat.me c.requires.shape c.requires.event c.requires.process c.index_of-place.ensures c.in-Some.ensures.took in
-    low-sessions v (Ask c.args.call.caller c.args.op.now q) p q c.args.seat.now.me.1 c.in-Some.node c.take_first.new.seat.me held lives
+    all-low c.in-Some.node.shape (key_of c.args.op.now.act) c.in-Some.node.node.process
+    (low-updates v (Ask c.args.call.caller c.args.op.now q) p q c.args.seat.now.me.1 c.in-Some.node c.take_first.new.seat.me held lives)
+    (low-sessions v (Ask c.args.call.caller c.args.op.now q) p q c.args.seat.now.me.1 c.in-Some.node c.take_first.new.seat.me held lives)
 
 pub finish-requires-clause-can : goal.finish-requires-clause-can
 finish-requires-clause-can g c =
