@@ -1,0 +1,12 @@
+mod Handed
+mod Hearing
+mod Keeping
+mod Making
+mod Permitting
+mod Reading
+mod Delivered
+mod Said
+mod Signed
+mod Starting
+mod Stepping
+mod Wholes

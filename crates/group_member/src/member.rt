@@ -1,0 +1,77 @@
+ghost use Rattle.std.specs.Prelude.{◌≡◌, ◌↔◌, IsTrue, IfOk};
+ghost use Rattle.group_types.specs.Names.{IsProcess};
+ghost use Rattle.membership.specs.Members.{knows_dead};
+ghost use Rattle.group_wire.specs.State.{opening_group};
+ghost use Rattle.group_member.specs.Acting.{nothing_out};
+ghost use Rattle.group_member.specs.Opening.{opening_member};
+ghost use Rattle.group_member.specs.Standing.{MemberStands};
+ghost use Rattle.group_member.specs.Words.{CanReadFrom};
+
+use crate::signs::OwnSigns;
+use crate::words::OwnWords;
+use group_node::Node;
+use group_types::{ProcessId, Shape};
+use std::alloc::{AllocError, Global};
+use std::marker::Model;
+
+/// One process of a group, with what its program needs around it.
+#[derive(Drop)]
+pub struct Member {
+    pub(crate) words: OwnWords,
+    pub(crate) signs: OwnSigns,
+    pub(crate) node: Node,
+}
+
+impl Model for Member {
+    ghost use Rattle.group_member.specs.Standing as standing;
+    ghost use Rattle.group_member.specs.Whole.{IsWholeMember};
+
+    ghost Value = { standing.Member };
+
+    ghost view = { λ m. record { words = m.words; signs = m.signs; node = m.node.node } };
+
+    ghost invariant = { λ m. IsWholeMember m.node.shape m.words m.signs m.node.node };
+}
+
+impl Member {
+    /// A member at the start.
+    pub fn new(alloc: Global, shape: Shape, name: ProcessId) -> Result<Member, AllocError>
+        requires { IsProcess shape name }
+        ensures opening { IfOk result (λ m. m ≡ opening_member shape name) }
+        ensures stands { IfOk result (λ m. MemberStands (opening_group shape) nothing_out m) }
+    {
+        Ok(Member {
+            words: OwnWords::new(alloc, shape, name)?,
+            signs: OwnSigns::new(alloc, shape)?,
+            node: Node::new(alloc, shape, name)?,
+        })
+    }
+
+    /// The shape of the group.
+    pub fn shape(&self) -> Shape
+        ensures { result ≡ self.now.words.shape }
+    {
+        self.words.shape()
+    }
+
+    /// Which process it is.
+    pub fn name(&self) -> ProcessId
+        ensures { result ≡ self.now.words.name }
+    {
+        self.words.name()
+    }
+
+    /// Whether the member has cut a process.
+    pub fn has_cut(&self, x: ProcessId) -> bool
+        ensures { result ≡ knows_dead self.now.words.cut x }
+    {
+        self.words.has_cut(x)
+    }
+
+    /// Whether what a process sends is read: it is another of the group, and isn't cut.
+    pub fn may_read(&self, from: ProcessId) -> bool
+        ensures { IsTrue result ↔ CanReadFrom self.now.words from }
+    {
+        self.words.may_read(from)
+    }
+}
