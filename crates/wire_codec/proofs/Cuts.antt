@@ -12,10 +12,10 @@ use Rattle.wire_codec.specs.Stream.{announced, IsLength, HasNone, IsPartial, IsB
 use Rattle.wire_codec.proofs.Codes.{IsBytes, IsBytes-drop, IsBytes-take, IsBytes-append, wide32}
 use Rattle.wire_codec.proofs.Messages.{text_takes, text_again, text_length}
 
-length-frame : (m : Message) → length (frame_of m) ≡ 4 + length (text_of m)
+pub length-frame : (m : Message) → length (frame_of m) ≡ 4 + length (text_of m)
 length-frame m = length-append (four (length (text_of m))) (text_of m)
 
-announced-frame : (m : Message) (more : List ℕ) → HasFrame m → announced (frame_of m ++ more) ≡ length (text_of m)
+pub announced-frame : (m : Message) (more : List ℕ) → HasFrame m → announced (frame_of m ++ more) ≡ length (text_of m)
 announced-frame m more has =
     let regrouped : frame_of m ++ more ≡ four (length (text_of m)) ++ (text_of m ++ more) = append_assoc (four (length (text_of m))) (text_of m) more in
     let front : take 4 (frame_of m ++ more) ≡ four (length (text_of m)) = ap (λ (t : List ℕ). take 4 t) regrouped ∙ take_at (four (length (text_of m))) (text_of m ++ more) 4 refl in

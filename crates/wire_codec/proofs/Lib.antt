@@ -1,8 +1,8 @@
-mod Codes
-mod Cuts
-mod Keys
+pub mod Codes
+pub mod Cuts
+pub mod Keys
 mod Many
-mod Messages
-mod Puts
-mod Spelled
-mod Streams
+pub mod Messages
+pub mod Puts
+pub mod Spelled
+pub mod Streams

@@ -19,11 +19,11 @@ use Rattle.wire_codec.specs.Reading.{Read, one_at, number_at, of_two, of_four, c
 use Rattle.wire_codec.proofs.Codes.{IsBytes, IsBytes-rest, IsBytes-front, Took, Codes, codes_one, codes_two, codes_four, codes_eight, codes_counted, codes_tested, codes_list, takes_made, takes_two, takes_three, takes_four, takes_given, tagged_takes, again_two, again_three, again_four}
 use Rattle.wire_codec.proofs.Keys.{key-passes, passes-key}
 
-again_maybe : {A : Type 0} (spell : A → List ℕ) (Fits : A → Type 0) (read : Read A) → Codes spell Fits read → (o : Option A) (rest : List ℕ) → FitsMaybe Fits o → maybe_at read (maybe spell o ++ rest) ≡ Some (o, rest)
+pub again_maybe : {A : Type 0} (spell : A → List ℕ) (Fits : A → Type 0) (read : Read A) → Codes spell Fits read → (o : Option A) (rest : List ℕ) → FitsMaybe Fits o → maybe_at read (maybe spell o ++ rest) ≡ Some (o, rest)
 again_maybe spell Fits read codes None rest fits = refl
 again_maybe spell Fits read codes (Some x) rest fits = rw (codes.again x rest fits) refl
 
-codes_maybe : {A : Type 0} (spell : A → List ℕ) (Fits : A → Type 0) (read : Read A) → Codes spell Fits read → Codes (maybe spell) (FitsMaybe Fits) (maybe_at read)
+pub codes_maybe : {A : Type 0} (spell : A → List ℕ) (Fits : A → Type 0) (read : Read A) → Codes spell Fits read → Codes (maybe spell) (FitsMaybe Fits) (maybe_at read)
 codes_maybe spell Fits read codes = record {
   takes = tagged_takes (maybe spell) (FitsMaybe Fits) (options read)
       (takes_given (maybe spell) (FitsMaybe Fits) 0 None refl tt, (takes_made (maybe spell) (FitsMaybe Fits) (1 ∷ []) Some codes (λ a. refl) (λ a fits. fits), tt));
@@ -71,7 +71,7 @@ codes_frees : Codes (maybe run) (FitsMaybe FitsRun) frees_at
 unfolding frees_at
 codes_frees = codes_maybe run FitsRun run_at codes_run
 
-codes_key : Codes short IsKey key_at
+pub codes_key : Codes short IsKey key_at
 unfolding key_at
 codes_key = codes_tested short IsShort IsKey (counted_at one_at) passes_key (codes_counted one IsOne one_at codes_one) (λ key fits passes. passes-key key passes) (λ key is. let short = is.short in omega (arith, short)) (λ key is. key-passes key is)
 

@@ -119,7 +119,7 @@ feeds-whole old kept piece behind m taken at messages given goes within frame pl
     subst (λ (t : List ℕ). ReadsFrom old.begun kept t given) whole
     (subst (λ (g : List Message). ReadsFrom old.begun kept (text ++ drop taken piece) g) (sym all) (reads-cons old.begun kept text (drop taken piece) m on.given (frame partial) read)))
 
-bad-none : (rest piece : List ℕ) (m : Message) (more : List ℕ) → IsBad rest → HasFrame m → rest ++ piece ≡ frame_of m ++ more → ⊥
+pub bad-none : (rest piece : List ℕ) (m : Message) (more : List ℕ) → IsBad rest → HasFrame m → rest ++ piece ≡ frame_of m ++ more → ⊥
 bad-none rest piece m more bad has e =
     let f = fronts (rest ++ piece) more m has e in
     let same : announced (rest ++ piece) ≡ announced rest = announced-more rest piece bad.header in

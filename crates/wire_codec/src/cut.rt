@@ -9,7 +9,7 @@ use group_message::Message;
 use std::alloc::{AllocError, Global};
 
 /// The most bytes behind a frame's length.
-pub(crate) const MOST: u32 = 134_217_728;
+pub const MOST: u32 = 134_217_728;
 
 /// What stands at the front of bytes: less than a frame, one that is no spelling, or one of a message, which ends
 /// behind `taken` bytes of the piece.
@@ -44,7 +44,7 @@ pub(crate) fn first_frame(alloc: Global, front: &[u8], piece: &[u8]) -> Result<C
 }
 
 /// The length that the first four bytes say, if they are there.
-fn announced_len(front: &[u8], piece: &[u8]) -> Option<u32>
+pub fn announced_len(front: &[u8], piece: &[u8]) -> Option<u32>
     ensures some { IfSome result (λ len. (4 ≤ length front.now + length piece.now)
         × (len ≡ announced (front.now ++ piece.now))) }
     ensures none { IfNone result (length front.now + length piece.now < 4) }

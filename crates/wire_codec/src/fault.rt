@@ -2,7 +2,7 @@ use std::alloc::{AllocError, AllocFailed};
 
 /// Why nothing was read: no such thing is spelled there, or there was no memory.
 #[derive(Clone, Copy, Debug, PartialEq, Eq)]
-pub(crate) enum ReadFault {
+pub enum ReadFault {
     NoSpelling,
     Want,
 }

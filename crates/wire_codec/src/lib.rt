@@ -6,6 +6,7 @@
 mod cut;
 mod decoder;
 mod fault;
+pub mod fields;
 mod kinds;
 pub mod laws;
 mod length;

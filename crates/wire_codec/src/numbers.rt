@@ -5,7 +5,7 @@ ghost use Rattle.wire_codec.specs.Reading.{Gives, one_at, number_at, bytes_at};
 use crate::fault::ReadFault;
 
 /// The first bytes, as many as are asked, and those behind them.
-pub(crate) fn take(bytes: &[u8], n: usize) -> Result<(&[u8], &[u8]), ReadFault>
+pub fn take(bytes: &[u8], n: usize) -> Result<(&[u8], &[u8]), ReadFault>
     ensures { Gives (λ x. (x.0.now, x.1.now)) result (bytes_at n bytes.now) }
 {
     if bytes.len() < n {
@@ -15,7 +15,7 @@ pub(crate) fn take(bytes: &[u8], n: usize) -> Result<(&[u8], &[u8]), ReadFault>
 }
 
 /// A number of one byte.
-pub(crate) fn take_one(bytes: &[u8]) -> Result<(u32, &[u8]), ReadFault>
+pub fn take_one(bytes: &[u8]) -> Result<(u32, &[u8]), ReadFault>
     ensures { Gives (λ x. (x.0, x.1.now)) result (one_at bytes.now) }
 {
     match bytes {
@@ -25,7 +25,7 @@ pub(crate) fn take_one(bytes: &[u8]) -> Result<(u32, &[u8]), ReadFault>
 }
 
 /// A number of two bytes.
-pub(crate) fn take_two(bytes: &[u8]) -> Result<(u16, &[u8]), ReadFault>
+pub fn take_two(bytes: &[u8]) -> Result<(u16, &[u8]), ReadFault>
     ensures { Gives (λ x. (x.0, x.1.now)) result (number_at w16 bytes.now) }
 {
     if bytes.len() < 2 {
@@ -36,7 +36,7 @@ pub(crate) fn take_two(bytes: &[u8]) -> Result<(u16, &[u8]), ReadFault>
 }
 
 /// A number of four bytes.
-pub(crate) fn take_four(bytes: &[u8]) -> Result<(u32, &[u8]), ReadFault>
+pub fn take_four(bytes: &[u8]) -> Result<(u32, &[u8]), ReadFault>
     ensures { Gives (λ x. (x.0, x.1.now)) result (number_at w32 bytes.now) }
 {
     if bytes.len() < 4 {
@@ -48,7 +48,7 @@ pub(crate) fn take_four(bytes: &[u8]) -> Result<(u32, &[u8]), ReadFault>
 }
 
 /// A number of eight bytes.
-pub(crate) fn take_eight(bytes: &[u8]) -> Result<(u64, &[u8]), ReadFault>
+pub fn take_eight(bytes: &[u8]) -> Result<(u64, &[u8]), ReadFault>
     ensures { Gives (λ x. (x.0, x.1.now)) result (number_at w64 bytes.now) }
 {
     if bytes.len() < 8 {

@@ -13,7 +13,7 @@ use std::alloc::AllocError;
 use vector_stamp::Stamp;
 
 /// The text of a message up to its value.
-pub(crate) fn put_text_before(out: &mut Vec<u8>, message: &Message) -> Result<(), AllocError>
+pub fn put_text_before(out: &mut Vec<u8>, message: &Message) -> Result<(), AllocError>
     requires { FitFields message.now }
     ensures { OnOk result (out.new.items ≡ out.old.items ++ text_before message.now) }
 {
@@ -91,7 +91,7 @@ pub(crate) fn put_text_before(out: &mut Vec<u8>, message: &Message) -> Result<()
 }
 
 /// The text of a message behind its value.
-pub(crate) fn put_text_behind(out: &mut Vec<u8>, message: &Message) -> Result<(), AllocError>
+pub fn put_text_behind(out: &mut Vec<u8>, message: &Message) -> Result<(), AllocError>
     requires { FitFields message.now }
     ensures { OnOk result (out.new.items ≡ out.old.items ++ text_behind message.now) }
 {
@@ -122,7 +122,8 @@ fn put_heading(
     put_one(out, partition.0)
 }
 
-fn put_process(out: &mut Vec<u8>, process: ProcessId) -> Result<(), AllocError>
+/// A process.
+pub fn put_process(out: &mut Vec<u8>, process: ProcessId) -> Result<(), AllocError>
     requires { FitsProcess process }
     ensures { OnOk result (out.new.items ≡ out.old.items ++ spec.process process) }
 {

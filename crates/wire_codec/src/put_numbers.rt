@@ -5,7 +5,7 @@ use byteorder::{BigEndian, ByteOrder};
 use std::alloc::AllocError;
 
 /// A number of one byte.
-pub(crate) fn put_one(out: &mut Vec<u8>, n: u32) -> Result<(), AllocError>
+pub fn put_one(out: &mut Vec<u8>, n: u32) -> Result<(), AllocError>
     requires { n < 256 }
     ensures { OnOk result (out.new.items ≡ out.old.items ++ one n) }
 {
@@ -14,7 +14,7 @@ pub(crate) fn put_one(out: &mut Vec<u8>, n: u32) -> Result<(), AllocError>
 }
 
 /// A number of two bytes.
-pub(crate) fn put_two(out: &mut Vec<u8>, n: u16) -> Result<(), AllocError>
+pub fn put_two(out: &mut Vec<u8>, n: u16) -> Result<(), AllocError>
     ensures { OnOk result (out.new.items ≡ out.old.items ++ two n) }
 {
     let mut field = [0; 2];
@@ -23,7 +23,7 @@ pub(crate) fn put_two(out: &mut Vec<u8>, n: u16) -> Result<(), AllocError>
 }
 
 /// A number of four bytes.
-pub(crate) fn put_four(out: &mut Vec<u8>, n: u32) -> Result<(), AllocError>
+pub fn put_four(out: &mut Vec<u8>, n: u32) -> Result<(), AllocError>
     ensures { OnOk result (out.new.items ≡ out.old.items ++ four n) }
 {
     let mut field = [0; 4];
@@ -32,7 +32,7 @@ pub(crate) fn put_four(out: &mut Vec<u8>, n: u32) -> Result<(), AllocError>
 }
 
 /// A number of eight bytes.
-pub(crate) fn put_eight(out: &mut Vec<u8>, n: u64) -> Result<(), AllocError>
+pub fn put_eight(out: &mut Vec<u8>, n: u64) -> Result<(), AllocError>
     ensures { OnOk result (out.new.items ≡ out.old.items ++ eight n) }
 {
     let mut field = [0; 8];
@@ -41,7 +41,7 @@ pub(crate) fn put_eight(out: &mut Vec<u8>, n: u64) -> Result<(), AllocError>
 }
 
 /// Few bytes behind their number.
-pub(crate) fn put_short(out: &mut Vec<u8>, bytes: &[u8]) -> Result<(), AllocError>
+pub fn put_short(out: &mut Vec<u8>, bytes: &[u8]) -> Result<(), AllocError>
     requires { length bytes.now < 256 }
     ensures { OnOk result (out.new.items ≡ out.old.items ++ short bytes.now) }
 {

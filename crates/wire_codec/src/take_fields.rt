@@ -12,7 +12,7 @@ use vector_stamp::Stamp;
 
 /// A process.
 #[tactic(auto, unfolding(crate::specs::Reading::process_at))]
-pub(crate) fn take_process(bytes: &[u8]) -> Result<(ProcessId, &[u8]), ReadFault>
+pub fn take_process(bytes: &[u8]) -> Result<(ProcessId, &[u8]), ReadFault>
     ensures { Gives (λ x. (x.0, x.1.now)) result (process_at bytes.now) }
 {
     let (tag, rest) = take_one(bytes)?;

@@ -10,7 +10,7 @@ use std::alloc::Global;
 
 /// The message that a text is, if it is the whole of it.
 #[tactic(auto, unfolding(crate::specs::Reading::message_of))]
-pub(crate) fn read_message(alloc: Global, text: &[u8]) -> Result<Message, ReadFault>
+pub fn read_message(alloc: Global, text: &[u8]) -> Result<Message, ReadFault>
     ensures { Gives (λ m. m) result (message_of text.now) }
 {
     let (message, rest) = take_message(alloc, text)?;

@@ -48,8 +48,9 @@ fn take_effect(bytes: &[u8]) -> Result<((Option<Run>, Outcome), &[u8]), ReadFaul
     Ok(((frees, outcome), rest))
 }
 
+/// A key, with its length before it in one byte.
 #[tactic(auto, unfolding(crate::specs::Reading::key_at))]
-fn take_key(alloc: Global, bytes: &[u8]) -> Result<(Key, &[u8]), ReadFault>
+pub fn take_key(alloc: Global, bytes: &[u8]) -> Result<(Key, &[u8]), ReadFault>
     ensures { Gives (λ x. (x.0, x.1.now)) result (key_at bytes.now) }
 {
     let (len, rest) = take_one(bytes)?;
@@ -111,9 +112,9 @@ fn take_change(bytes: &[u8]) -> Result<((Run, &[u8]), &[u8]), ReadFault>
     Ok(((run, delta), rest))
 }
 
-/// Bytes behind their number.
+/// Bytes, with their number before them in four bytes.
 #[tactic(auto, unfolding(crate::specs::Reading::long_at))]
-pub(crate) fn take_long(bytes: &[u8]) -> Result<(&[u8], &[u8]), ReadFault>
+pub fn take_long(bytes: &[u8]) -> Result<(&[u8], &[u8]), ReadFault>
     ensures { Gives (λ x. (x.0.now, x.1.now)) result (long_at bytes.now) }
 {
     let (len, rest) = take_four(bytes)?;

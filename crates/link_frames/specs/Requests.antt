@@ -1,0 +1,9 @@
+-- A request's parts as the request that group_wire defines.
+use Rattle.std.specs.Prelude.{ℕ}
+use Rattle.group_wire.specs.State as wire
+use Rattle.link_frames.specs.declared.wish.Wish.{Wish}
+use Rattle.link_frames.specs.declared.wish.Wish.TheVariants.{Ask, Trace}
+
+abbrev pub request_of : ℕ → ℕ → Wish → wire.Request
+request_of caller call (Ask op) = wire.AskFor caller call op
+request_of caller call (Trace d) = wire.TraceOf caller call d.0
