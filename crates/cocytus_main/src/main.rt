@@ -9,6 +9,7 @@ mod person;
 use edge_io::{ReadEdge, SystemClock, WriteEdge};
 use group_program::{Status, exit_of, run_program, tell};
 use person::Person;
+use ready_worker::ToldEdge;
 use std::alloc::{AllocError, Global};
 use std::env::Args;
 use std::process::ExitCode;
@@ -26,7 +27,7 @@ fn main(rt: HostRuntime) -> ExitCode {
         return exit_of(tell(rt.alloc(), &mut WriteEdge::new(rt.stdout()), Status::Want));
     };
     let person = Person::new(rt);
-    let mut port = TcpEdge::new(&rt);
+    let mut port = ToldEdge::new(TcpEdge::new(&rt), &person);
     let status = run_program(
         &rt,
         rt.alloc(),

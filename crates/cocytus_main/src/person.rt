@@ -1,6 +1,8 @@
 use edge_io::{WriteEdge, write_all};
 use group_program::{Notice, Settings, Status, help_at, notice_of};
+use ready_worker::Watch;
 use std::io;
+use std::net::SocketAddr;
 
 /// The one who reads standard error. What is told there is no part of the output, and whether it could be written changes
 /// nothing.
@@ -19,6 +21,10 @@ impl Person {
         if let Ok(help) = help_at(self.rt.alloc(), words, status) {
             self.say(&help);
         }
+        self.say_error(error);
+    }
+
+    fn say_error(&self, error: Option<&io::Error>) {
         if let Some(error) = error {
             if let Ok(line) = format!(in self.rt.alloc(); "{error}\n") {
                 self.say(&line);
@@ -36,5 +42,26 @@ impl Notice for Person {
         if let Ok(text) = notice_of(self.rt.alloc(), settings) {
             self.say(&text);
         }
+    }
+}
+
+impl Watch for Person {
+    fn listens(&self, at: SocketAddr) {
+        if let Ok(line) = format!(in self.rt.alloc(); "listens at {at}\n") {
+            self.say(&line);
+        }
+    }
+
+    fn fails(&self, error: Option<&io::Error>) {
+        self.say("connections can't be accepted, which is tried again\n");
+        self.say_error(error);
+    }
+
+    fn is_full(&self) {
+        self.say("no descriptor is left: further connections are told so and closed\n");
+    }
+
+    fn recovers(&self) {
+        self.say("connections are accepted again\n");
     }
 }

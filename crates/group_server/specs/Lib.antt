@@ -1,3 +1,4 @@
+pub mod Delivering
 pub mod Faults
 pub mod Service
 pub mod Serving

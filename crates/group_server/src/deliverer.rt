@@ -1,4 +1,5 @@
-ghost use Rattle.std.specs.Prelude.{◌≡◌, ◌≢◌, ◌<◌};
+ghost use Rattle.std.specs.Prelude.{◌≡◌, ◌≢◌, ◌<◌, IsTrue};
+ghost use Rattle.group_server.specs.Delivering.{HasDelivered};
 ghost use Rattle.group_stage.specs.Seated.{IsOf, shape_of};
 ghost use Rattle.group_types.specs.Dimensions.{processes_of};
 
@@ -59,7 +60,7 @@ impl<'a> Deliverer<'a> {
         LONGEST.max(processes * processes * FOR_LINK)
     }
 
-    // Looks at each link once, and says whether anything was received.
+    // Looks at each link once, and says whether a message was received.
     fn go_round(&mut self) -> bool {
         let shape = self.stage.shape();
         let processes = shape.k() + shape.m();
@@ -74,21 +75,23 @@ impl<'a> Deliverer<'a> {
         moved
     }
 
-    // Delivers over the link between the processes with these indices if it holds a message, and says whether one came.
+    // Delivers over the link between the processes with these indices if it holds a message, and says whether it was
+    // received: none is in a group that is down.
     fn deliver(&mut self, from: u32, to: u32) -> bool
         requires from { from < processes_of (shape_of self.old.stage.now) }
         requires to { to < processes_of (shape_of self.old.stage.now) }
         requires apart { from ≢ to }
-        ensures { self.new.stage ≡ self.old.stage }
+        ensures stage { self.new.stage ≡ self.old.stage }
+        ensures moved { IsTrue result → HasDelivered self.old.seat self.new.seat }
     {
         let shape = self.stage.shape();
         let (from, to) = (process_at(shape, from), process_at(shape, to));
         if self.stage.try_look(&mut self.seat, from, to) != Looked::Waits {
             return false;
         }
-        match self.stage.try_deliver(&mut self.seat, from, to) {
-            Ok(StageAnswer::Made(answer)) => answer != Answer::Idle,
-            _ => false,
-        }
+        matches!(
+            self.stage.try_deliver(&mut self.seat, from, to),
+            Ok(StageAnswer::Made(Answer::Done))
+        )
     }
 }

@@ -123,6 +123,10 @@ impl ReadyListener for Door {
     fn accept_stream(&mut self) -> Result<TcpStream, Failed> {
         Err(Failed)
     }
+
+    fn is_full(&self) -> bool {
+        false
+    }
 }
 
 impl Listener for Door {

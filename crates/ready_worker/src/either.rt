@@ -1,4 +1,4 @@
-ghost use Rattle.std.specs.Prelude.{◌≡◌, ℕ, Err, IfOk, OnErr};
+ghost use Rattle.std.specs.Prelude.{◌≡◌, ℕ, Err, IfOk, OnErr, true};
 ghost use Rattle.edge_io.specs.Faults.{HasCauseOf};
 ghost use Rattle.node_worker.specs.Served.{HasAccepted, IsDone};
 ghost use Rattle.node_worker.specs.declared.fault.ServeFault.{ServeFault};
@@ -33,6 +33,8 @@ where
     ensures fault { HasCauseOf (L.faults listener.old) (L.faults listener.new) result ServeFault.AcceptFault }
     ensures at_fault { OnErr result ((n : ℕ) × HasAccepted (L.accepted listener.old)
         (L.accepted listener.new) connections n) }
+    ensures at_ready_fault { L.ready listener.old ≡ true
+        → OnErr result (L.accepted listener.new ≡ L.accepted listener.old) }
     ensures want { result ≡ Err ServeFault.Want → listener.new ≡ listener.old }
 {
     if listener.is_ready() {

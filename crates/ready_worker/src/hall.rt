@@ -75,7 +75,7 @@ impl Hall {
 }
 
 /// Tells a connection that there are too many, and lets it go.
-fn refuse(stream: TcpStream) {
+pub(crate) fn refuse(stream: TcpStream) {
     let mut stream = stream;
     let _ = stream.write(b"SERVER_ERROR too many connections\r\n");
 }

@@ -6,11 +6,16 @@
 mod either;
 mod hall;
 mod lane;
+mod places;
 mod ready_listener;
 mod serve;
+mod told_edge;
+mod watch;
 mod worker;
 
 pub use either::serve_either;
 pub use hall::MOST_OPEN;
 pub use ready_listener::ReadyListener;
 pub use serve::serve_ready;
+pub use told_edge::ToldEdge;
+pub use watch::Watch;

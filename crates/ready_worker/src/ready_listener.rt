@@ -32,6 +32,9 @@ pub trait ReadyListener: Listener {
         ensures accepts { OnOk result (Self.accepted self.new ≡ Self.accepted self.old + 1) }
         ensures none { OnErr result (Self.accepted self.new ≡ Self.accepted self.old) }
         ensures cause { Self.ready self.old ≡ true → HasCause (Self.faults self.old) (Self.faults self.new) result };
+
+    /// Whether the connection that came last took what the next one would need: it is to be told so and let go.
+    fn is_full(&self) -> bool;
 }
 
 impl<N: Net> ReadyListener for TcpEdge<N> {
@@ -49,6 +52,10 @@ impl<N: Net> ReadyListener for TcpEdge<N> {
 
     fn accept_stream(&mut self) -> Result<TcpStream, Failed> {
         TcpEdge::accept_stream(self)
+    }
+
+    fn is_full(&self) -> bool {
+        TcpEdge::is_full(self)
     }
 }
 
@@ -68,5 +75,9 @@ impl ReadyListener for MemoryListener {
 
     fn accept_stream(&mut self) -> Result<TcpStream, Failed> {
         Err(Failed)
+    }
+
+    fn is_full(&self) -> bool {
+        false
     }
 }

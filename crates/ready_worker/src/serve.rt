@@ -3,7 +3,7 @@ ghost use Rattle.edge_io.specs.Faults.{HasCause, HasCauseOf};
 ghost use Rattle.node_worker.specs.Served.{HasAccepted, IsDone};
 ghost use Rattle.node_worker.specs.declared.fault.ServeFault.{ServeFault};
 
-use crate::hall::Hall;
+use crate::hall::{Hall, refuse};
 use crate::lane::Lane;
 use crate::ready_listener::ReadyListener;
 use crate::worker::Worker;
@@ -16,7 +16,7 @@ use std::thread::{Parker, Scope, Threads};
 use std::time::Duration;
 use std::{io, thread};
 
-/// How long an accept that failed is put off while connections are open, in milliseconds.
+/// How long an accept that failed is put off, in milliseconds.
 const PUT_OFF: u64 = 10;
 
 /// A port whose connections were accepted, and how that ended.
@@ -26,8 +26,8 @@ struct Accepted<'a, L> {
 }
 
 /// Serves the connections of a port, by so many workers, until `connections` of them were accepted, where that isn't 0.
-/// It returns once all are over. An accept that fails while connections are open is tried again. There is want of
-/// memory only before the first is accepted.
+/// It returns once all are over. Once a connection was accepted an accept that fails is tried again, so that no fault of
+/// the port ends what is served. There is want of memory only before the first is accepted.
 pub fn serve_ready<R: Threads + Wait + Sync, L: ReadyListener, P: Port, T: Clock>(
     rt: &R,
     alloc: Global,
@@ -42,8 +42,7 @@ pub fn serve_ready<R: Threads + Wait + Sync, L: ReadyListener, P: Port, T: Clock
         (L.accepted listener.new) connections n) }
     ensures done { IfOk result (λ n. IsDone connections n (L.over listener.new)) }
     ensures fault { HasCauseOf (L.faults listener.old) (L.faults listener.new) result ServeFault.AcceptFault }
-    ensures at_fault { OnErr result ((n : ℕ) × HasAccepted (L.accepted listener.old)
-        (L.accepted listener.new) connections n) }
+    ensures at_fault { OnErr result (L.accepted listener.new ≡ L.accepted listener.old) }
     ensures want { result ≡ Err ServeFault.Want → listener.new ≡ listener.old }
 {
     let Ok(crew) = crew_of(alloc, listener, workers) else {
@@ -98,8 +97,7 @@ fn serve_in_scope<
     ensures done { IfOk result.end (λ n. IsDone connections n (L.over result.listener.now)) }
     ensures fault { HasCauseOf (L.faults listener.old)
         (L.faults result.listener.now) result.end ServeFault.AcceptFault }
-    ensures at_fault { OnErr result.end ((n : ℕ) × HasAccepted (L.accepted listener.old)
-        (L.accepted result.listener.now) connections n) }
+    ensures at_fault { OnErr result.end (L.accepted result.listener.now ≡ L.accepted listener.old) }
     ensures want { result.end ≡ Err ServeFault.Want → result.listener.now ≡ listener.old }
 {
     thread::scope(
@@ -111,7 +109,7 @@ fn serve_in_scope<
                 × IfOk result.end (λ n. HasAccepted (L.accepted listener.entry.now) (L.accepted result.listener.now) connections n)
                 × IfOk result.end (λ n. IsDone connections n (L.over result.listener.now))
                 × HasCauseOf (L.faults listener.entry.now) (L.faults result.listener.now) result.end ServeFault.AcceptFault
-                × OnErr result.end ((n : ℕ) × HasAccepted (L.accepted listener.entry.now) (L.accepted result.listener.now) connections n)
+                × OnErr result.end (L.accepted result.listener.now ≡ L.accepted listener.entry.now)
                 × (result.end ≡ Err ServeFault.Want → result.listener.now ≡ listener.entry.now) }
         {
             start_all::<_, R, Q, P, T>(rt, scope, hall, crew, port, clock);
@@ -134,8 +132,7 @@ fn accept_by<R: Wait, L: ReadyListener>(
         (L.accepted listener.new) connections n) }
     ensures done { IfOk result (λ n. IsDone connections n (L.over listener.new)) }
     ensures fault { HasCauseOf (L.faults listener.old) (L.faults listener.new) result ServeFault.AcceptFault }
-    ensures at_fault { OnErr result ((n : ℕ) × HasAccepted (L.accepted listener.old)
-        (L.accepted listener.new) connections n) }
+    ensures at_fault { OnErr result (L.accepted listener.new ≡ L.accepted listener.old) }
     ensures want { result ≡ Err ServeFault.Want → listener.new ≡ listener.old }
 {
     if !hall.has_worker() {
@@ -200,8 +197,7 @@ fn accept_all<R: Wait, L: ReadyListener>(
         (L.accepted listener.new) connections n) }
     ensures done { IfOk result (λ n. IsDone connections n (L.over listener.new)) }
     ensures fault { HasCause (L.faults listener.old) (L.faults listener.new) result }
-    ensures at_fault { OnErr result ((n : ℕ) × HasAccepted (L.accepted listener.old)
-        (L.accepted listener.new) connections n) }
+    ensures at_fault { OnErr result (L.accepted listener.new ≡ L.accepted listener.old) }
 {
     let pause = Parker::new();
     let mut accepted = 0;
@@ -212,14 +208,14 @@ fn accept_all<R: Wait, L: ReadyListener>(
         match listener.accept_stream() {
             Ok(stream) => {
                 accepted += 1;
-                hall.receive(rt, stream);
-            }
-            Err(Failed) => {
-                if hall.open() == 0 {
-                    return Err(Failed);
+                if listener.is_full() {
+                    refuse(stream);
+                } else {
+                    hall.receive(rt, stream);
                 }
-                pause.park_timeout(rt, Duration::from_millis(PUT_OFF));
             }
+            Err(Failed) if accepted == 0 => return Err(Failed),
+            Err(Failed) => pause.park_timeout(rt, Duration::from_millis(PUT_OFF)),
         }
     }
     unreachable!()

@@ -1,15 +1,14 @@
 ghost use Rattle.std.specs.Prelude.{◌≡◌, vec_len};
 
-use crate::lane::{Lane, WAKER};
+use crate::lane::Lane;
+use crate::places::Places;
 use edge_io::Clock;
 use front_end::Caller;
 use mio::net::TcpStream;
 use mio::{Events, Interest, Poll, Token};
 use outbox::TryEdge;
 use ready_client::{Client, Turn};
-use slab::Slab;
 use std::alloc::{AllocError, Global};
-use std::collections::VecDeque;
 use std::sync::Wait;
 use std::time::Duration;
 
@@ -19,21 +18,13 @@ const EVENTS: usize = 256;
 /// The most bytes that one read takes.
 const PIECE: usize = 65_536;
 
-/// A connection of a worker, and whether it stands in the queue of those to serve.
-#[derive(Drop)]
-struct Place {
-    client: Client<TryEdge<TcpStream>>,
-    queued: bool,
-}
-
 /// A worker: its connections, and those of them that are to be served.
 #[derive(Drop)]
 pub(crate) struct Worker {
     alloc: Global,
     poll: Poll,
     events: Events,
-    places: Slab<Place>,
-    queue: VecDeque<usize>,
+    places: Places<Client<TryEdge<TcpStream>>>,
     room: Vec<u8>,
     ghost full: { vec_len room ≡ 65536 },
 }
@@ -45,8 +36,7 @@ impl Worker {
             alloc,
             poll,
             events: Events::with_capacity(alloc, EVENTS)?,
-            places: Slab::new(alloc),
-            queue: VecDeque::new(alloc),
+            places: Places::new(alloc),
             room: vec![in alloc; 0; PIECE]?,
         })
     }
@@ -97,20 +87,16 @@ impl Worker {
             Interest::READABLE | Interest::WRITABLE,
         );
         let client = Client::new(self.alloc, TryEdge::new(stream));
-        let place = Place {
-            client,
-            queued: false,
-        };
-        watched.is_ok() && self.places.insert(place).is_ok()
+        watched.is_ok() && self.places.insert(client)
     }
 
     // Waits until a connection is ready or the acceptor calls, unless there are some to serve. Those that are ready come
     // before those that have more to do: it says how many they are.
     fn wait(&mut self) -> usize {
-        let time = if self.queue.is_empty() {
-            None
-        } else {
+        let time = if self.places.has_queued() {
             Some(Duration::from_secs(0))
+        } else {
+            None
         };
         let mut ready: usize = 0;
         if self.poll.poll(&mut self.events, time).is_err() {
@@ -118,11 +104,8 @@ impl Worker {
         }
         'events: for event in self.events.iter() {
             let Token(key) = event.token();
-            if let Some(place) = self.places.get_mut(key) {
-                if !place.queued && self.queue.push_front(key).is_ok() {
-                    place.queued = true;
-                    ready = ready.saturating_add(1);
-                }
+            if self.places.put_first(key) {
+                ready = ready.saturating_add(1);
             }
         }
         ready
@@ -137,26 +120,25 @@ impl Worker {
         ready: usize,
     ) {
         'queue: for _ in 0..=ready {
-            let Some(key) = self.queue.pop_front() else {
+            let Some(key) = self.places.take_first() else {
                 return;
             };
-            if self.serve_one(key, caller, clock) == Turn::Over {
-                self.places.try_remove(key);
-                lane.leave();
+            match self.serve_one(key, caller, clock) {
+                Turn::More => self.places.put_last(key),
+                Turn::Waits => {}
+                Turn::Over => {
+                    self.places.remove(key);
+                    lane.leave();
+                }
             }
         }
     }
 
-    // Gives a connection one turn, and has it stand in the queue again where there is more to do.
+    // Gives a connection one turn.
     fn serve_one<C: Caller, T: Clock>(&mut self, key: usize, caller: &mut C, clock: &T) -> Turn {
-        let Some(place) = self.places.get_mut(key) else {
-            return Turn::Waits;
-        };
-        let turn = place.client.turn(self.alloc, caller, clock, &mut self.room);
-        place.queued = turn == Turn::More;
-        if place.queued && self.queue.push_back(key).is_err() {
-            return Turn::Over;
+        match self.places.get_mut(key) {
+            Some(client) => client.turn(self.alloc, caller, clock, &mut self.room),
+            None => Turn::Waits,
         }
-        turn
     }
 }

@@ -7,7 +7,7 @@ use memc_table::Table;
 use node_worker::{OpenGate, ServeFault};
 use ready_worker::{ReadyListener, serve_either};
 use std::alloc::{AllocError, Global};
-use std::io::{Read, Write};
+use std::io::{ErrorKind, Read, Write};
 use std::net::{Net, SocketAddr, TcpStream};
 use std::sync::{Mutex, Wait};
 use std::thread::Threads;
@@ -79,7 +79,7 @@ fn asks_version<R: Net>(net: &R, server: SocketAddr) -> io::Result<()> {
 // Accepting fails twice while the first client's connection is open, and is tried again.
 #[test]
 fn serves_others_beside_half_a_request(rt: HostRuntime) {
-    for failing in [[0, 0], [2, 3]] {
+    for failing in [(0, 0), (2, 3)] {
         let mut port = TcpEdge::new(rt);
         same(&rt, port.listen("127.0.0.1:0"), Ok(()));
         let server = port.local_addr().expect(&rt, "an address");
@@ -99,7 +99,40 @@ fn serves_others_beside_half_a_request(rt: HostRuntime) {
 fn tells_an_accept_that_failed_first(rt: HostRuntime) {
     let mut port = TcpEdge::new(rt);
     same(&rt, port.listen("127.0.0.1:0"), Ok(()));
-    let mut port = Unsteady::new(port, [1, 0]);
+    let mut port = Unsteady::new(port, (1, 1));
     let served = served_as_ready(rt, rt.alloc(), &mut port, 2, 0);
     same(&rt, served, Err(ServeFault::AcceptFault));
+}
+
+/// A client that asks for the version, says that it goes, and waits until it was let go.
+fn comes_and_goes<R: Net>(net: &R, server: SocketAddr) -> io::Result<()> {
+    let mut stream = TcpStream::connect(net, server)?;
+    stream.write_all(b"version\r\nquit\r\n")?;
+    stream.read_exact(&mut [0; 19])?;
+    match stream.read(&mut [0])? {
+        0 => Ok(()),
+        _ => Err(io::Error::from(ErrorKind::InvalidData)),
+    }
+}
+
+fn come_and_go<R: Net>(net: &R, server: SocketAddr) -> io::Result<()> {
+    comes_and_goes(net, server)?;
+    comes_and_goes(net, server)
+}
+
+// The first client goes while accepting fails, so that nobody is connected at its last failures.
+#[test]
+fn goes_on_where_accepting_fails_and_nobody_is_connected(rt: HostRuntime) {
+    let mut port = TcpEdge::new(rt);
+    same(&rt, port.listen("127.0.0.1:0"), Ok(()));
+    let server = port.local_addr().expect(&rt, "an address");
+    let mut port = Unsteady::new(port, (2, 20));
+    let alloc = rt.alloc();
+    let (heard, served) = thread::join(
+        &rt,
+        move || come_and_go(&rt, server),
+        move || served_as_ready(rt, alloc, &mut port, 2, 2),
+    );
+    same(&rt, served, Ok(2));
+    heard.expect(&rt, "both are answered");
 }

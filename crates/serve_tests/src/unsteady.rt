@@ -1,4 +1,4 @@
-// A port whose accepting fails at two of its calls.
+// A port whose accepting fails at some of its calls.
 use edge_io::{Failed, Listener, ReadEdge, WriteEdge};
 use mio::Poll;
 use ready_worker::ReadyListener;
@@ -6,18 +6,18 @@ use std::io;
 use std::net::{Net, TcpStream};
 use tcp_edge::TcpEdge;
 
-/// A port whose calls that accept fail at these numbers, counted from 1.
+/// A port whose calls that accept fail from one number to another, counted from 1.
 #[derive(Drop)]
 pub(crate) struct Unsteady<N> {
     port: TcpEdge<N>,
-    failing: [u64; 2],
+    failing: (u64, u64),
     calls: u64,
 }
 
 impl<N> Unsteady<N> {
     ghost use Rattle.std.specs.Prelude.{◌≡◌};
 
-    pub(crate) fn new(port: TcpEdge<N>, failing: [u64; 2]) -> Unsteady<N> {
+    pub(crate) fn new(port: TcpEdge<N>, failing: (u64, u64)) -> Unsteady<N> {
         Unsteady {
             port,
             failing,
@@ -30,7 +30,7 @@ impl<N> Unsteady<N> {
         ensures { self.new.port ≡ self.old.port }
     {
         self.calls = self.calls.saturating_add(1);
-        self.failing.contains(&self.calls)
+        self.failing.0 <= self.calls && self.calls <= self.failing.1
     }
 }
 
@@ -82,5 +82,9 @@ impl<N: Net> ReadyListener for Unsteady<N> {
             return Err(Failed);
         }
         self.port.accept_stream()
+    }
+
+    fn is_full(&self) -> bool {
+        self.port.is_full()
     }
 }

@@ -5,6 +5,7 @@ ghost use Rattle.stage_caller.specs.declared.phase.Phase.TheVariants.{Waits};
 
 use crate::calling::make_call;
 use crate::failing::{fail_process, has};
+use crate::heads::Heads;
 use crate::phase::Phase;
 use front_end::Caller;
 use group_stage::{Seat, Stage};
@@ -13,11 +14,13 @@ use memc_proto::{CallEnd, FailEnd};
 use memc_table::Op;
 use std::alloc::AllocError;
 
-/// Makes the calls of a connection over a group that threads share, from a seat of its own.
+/// Makes the calls of a connection over a group that threads share, from a seat of its own. Each begins at the process
+/// that last answered one for its partition.
 #[derive(Drop)]
 pub struct StageCaller<'a> {
     stage: &'a Stage,
     seat: Seat,
+    heads: Heads,
     control: bool,
     ghost of: { IsOf stage.now seat },
 }
@@ -35,6 +38,7 @@ impl<'a> StageCaller<'a> {
         StageCaller {
             stage,
             seat,
+            heads: Heads::new(),
             control,
         }
     }
@@ -46,7 +50,14 @@ impl<'a> StageCaller<'a> {
         ensures called { IfOk result (λ end. IsCalled self.old.seat op.now (Waits call) end self.new.seat) }
         ensures stopped { OnErr result (HasStopped self.old.seat (Waits call) self.new.seat) }
     {
-        make_call(self.stage, &mut self.seat, op, Phase::Waits { call })
+        let from_data = &mut Heads::new();
+        make_call(
+            self.stage,
+            &mut self.seat,
+            from_data,
+            op,
+            Phase::Waits { call },
+        )
     }
 
     /// The seat, as the calls left it.
@@ -57,6 +68,7 @@ impl<'a> StageCaller<'a> {
         let StageCaller {
             stage: _,
             seat,
+            heads: _,
             control: _,
         } = self;
         seat
@@ -69,7 +81,7 @@ impl<'a> Caller for StageCaller<'a> {
     ghost ways = { record { made = HasCalled; failed = IsOrdered; kept = HasGone } };
 
     fn call(&mut self, op: &Op) -> Result<CallEnd, AllocError> {
-        make_call(self.stage, &mut self.seat, op, Phase::Asks)
+        make_call(self.stage, &mut self.seat, &mut self.heads, op, Phase::Asks)
     }
 
     fn fail(&mut self, at: ProcessId, keep: u32) -> Result<FailEnd, AllocError>

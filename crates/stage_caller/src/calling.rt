@@ -5,12 +5,12 @@ ghost use Rattle.stage_caller.specs.Moving.{CanMake, HasStepped, IsAsked};
 
 use crate::asking::ask;
 use crate::collecting::collect;
+use crate::heads::Heads;
 use crate::helping::help;
 use crate::looking::look;
 use crate::pausing::pause;
 use crate::phase::Phase;
 use crate::progress::Progress;
-use crate::route::Route;
 use crate::step::{Move, Step};
 use crate::tracing::trace;
 use group_stage::{Seat, Stage};
@@ -19,10 +19,12 @@ use memc_proto::CallEnd;
 use memc_table::Op;
 use std::alloc::AllocError;
 
-/// Makes a call to its end from a phase. After want of memory the events that were made before it stand.
+/// Makes a call to its end from a phase, beginning at the process that answered last. After want of memory the events
+/// that were made before it stand.
 pub(crate) fn make_call(
     stage: &Stage,
     seat: &mut Seat,
+    heads: &mut Heads,
     op: &Op,
     start: Phase,
 ) -> Result<CallEnd, AllocError>
@@ -35,11 +37,14 @@ pub(crate) fn make_call(
     let shape = stage.shape();
     let partition = home(op.act().key(), shape.k());
     let mut phase = start;
-    let mut progress = Progress::new(Route::new(shape, partition), seat.caller());
+    let mut progress = Progress::new(heads.route(shape, partition), seat.caller());
     'moves: loop {
         let next = progress.next(phase);
         match make(stage, seat, op, partition, phase, next)? {
-            Step::Ends(end) => return Ok(end),
+            Step::Ends(end) => {
+                heads.note(&progress.route);
+                return Ok(end);
+            }
             Step::Goes(to, heard) => {
                 progress = progress.after(next, to, heard);
                 phase = to;

@@ -8,6 +8,7 @@ mod caller;
 mod calling;
 mod collecting;
 mod failing;
+mod heads;
 mod helping;
 mod link;
 mod looking;

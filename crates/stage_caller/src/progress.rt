@@ -1,4 +1,4 @@
-ghost use Rattle.std.specs.Prelude.{◌≡◌, IfSome};
+ghost use Rattle.std.specs.Prelude.{◌≡◌, ◌≢◌, ◌+◌, ◌%◌, IfSome};
 ghost use Rattle.group_types.specs.Names.{IsProcess};
 ghost use Rattle.stage_caller.specs.Moving.{CanMake, IsLink};
 
@@ -11,9 +11,11 @@ use group_types::ProcessId;
 /// After so many rounds in which nothing moved all links are helped.
 const IDLE_ROUNDS: u32 = 4;
 
-/// Which links are helped before the call's own move, and the place of the next.
+/// Which links are helped before the call's own move, and the place of the next. `Onward` helps none: the call went on to
+/// another process, which is no round.
 #[derive(Clone, Copy, Debug, PartialEq, Eq)]
 enum Round {
+    Onward,
     Over,
     Near(u32),
     All(u32),
@@ -47,10 +49,12 @@ impl Progress {
     }
 
     /// How many rounds nothing has moved, where a round begins.
-    pub(crate) fn rests(&self) -> u32 {
+    pub(crate) fn rests(&self) -> u32
+        ensures onward { self.now.round ≡ Round.Onward → result ≡ 0 }
+    {
         match self.round {
             Round::Over | Round::Near(0) | Round::All(0) => self.idle,
-            Round::Near(_) | Round::All(_) => 0,
+            Round::Onward | Round::Near(_) | Round::All(_) => 0,
         }
     }
 
@@ -69,7 +73,7 @@ impl Progress {
         ensures { IfSome result (λ link. IsLink self.now.route.shape link.from link.to) }
     {
         match self.round {
-            Round::Over => None,
+            Round::Onward | Round::Over => None,
             Round::Near(place) => near_link(&self.route, self.caller, place),
             Round::All(place) => any_link(self.route.shape, place),
         }
@@ -107,7 +111,7 @@ impl Progress {
         ensures { result.route ≡ self.now.route }
     {
         let round = match self.round {
-            Round::Over => Round::Over,
+            Round::Onward | Round::Over => self.round,
             Round::Near(place) => Round::Near(place.saturating_add(1)),
             Round::All(place) => Round::All(place.saturating_add(1)),
         };
@@ -143,7 +147,7 @@ impl Progress {
         }
         Progress {
             route: self.route.first(),
-            round: Round::Over,
+            round: Round::Onward,
             traces: true,
             ..*self
         }
@@ -155,7 +159,7 @@ impl Progress {
     {
         if phase == Phase::Asks {
             return Progress {
-                round: Round::Over,
+                round: Round::Onward,
                 traces: false,
                 ..*self
             };
@@ -167,18 +171,27 @@ impl Progress {
         }
     }
 
-    // To the process of the next rank, and round all links once none is left.
+    // To the process of the next rank, and round all links once all of the partition were asked. Only that is a round.
     fn goes_on(&self) -> Progress
         ensures shape { result.route.shape ≡ self.now.route.shape }
         ensures partition { result.route.partition ≡ self.now.route.partition }
+        ensures next { result.route.rank ≡ (self.now.route.rank + 1 % (self.now.route.shape.m + 1))
+            % (self.now.route.shape.m + 1) }
+        ensures begun { result.route.begun ≡ self.now.route.begun }
+        ensures idle { result.route.rank ≢ result.route.begun → result.idle ≡ self.now.idle }
+        ensures moved { result.route.rank ≢ result.route.begun → result.moved ≡ self.now.moved }
+        ensures onward { result.route.rank ≢ result.route.begun → result.round ≡ Round.Onward }
     {
-        let route = self.route.further(1);
-        let round = if route.rank == 0 {
-            Round::All(0)
-        } else {
-            Round::Over
+        let next = Progress {
+            route: self.route.further(1),
+            round: Round::Onward,
+            ..*self
         };
-        Progress { route, ..*self }.helps(round)
+        if next.route.is_round() {
+            next.helps(Round::All(0))
+        } else {
+            next
+        }
     }
 
     // Round the links of the call's own update, and then round all.

@@ -1,29 +1,34 @@
-ghost use Rattle.std.specs.Prelude.{◌≡◌, ◌≤◌, ◌<◌};
+ghost use Rattle.std.specs.Prelude.{◌≡◌, ◌≤◌, ◌<◌, ◌+◌, ◌%◌, ◌↔◌, IsTrue};
 ghost use Rattle.group_types.specs.Names.{IsProcess};
 
 use group_types::{Partition, ProcessId, Shape};
 
-/// A partition, and the rank of the process of it that is asked.
+/// A partition, the rank of the process of it that is asked, and the rank at which the asking began.
 #[derive(Clone, Copy)]
 pub(crate) struct Route {
     pub(crate) shape: Shape,
     pub(crate) partition: Partition,
     pub(crate) rank: u32,
+    begun: u32,
     ghost inside: { partition.0 < shape.k },
     ghost within: { rank ≤ shape.m },
 }
 
 impl Route {
-    /// The data process of a partition is asked first.
-    pub(crate) fn new(shape: Shape, partition: Partition) -> Route
+    /// Asking begins at this rank, counted round the processes of the partition.
+    pub(crate) fn at(shape: Shape, partition: Partition, rank: u32) -> Route
         requires { partition.0 < shape.k }
         ensures shape { result.shape ≡ shape }
         ensures partition { result.partition ≡ partition }
+        ensures rank { result.rank ≡ rank % (shape.m + 1) }
+        ensures begun { result.begun ≡ result.rank }
     {
+        let rank = rank % (shape.m() + 1);
         Route {
             shape,
             partition,
-            rank: 0,
+            rank,
+            begun: rank,
         }
     }
 
@@ -42,29 +47,30 @@ impl Route {
     pub(crate) fn further(&self, ranks: u32) -> Route
         ensures shape { result.shape ≡ self.now.shape }
         ensures partition { result.partition ≡ self.now.partition }
+        ensures rank { result.rank ≡ (self.now.rank + ranks % (self.now.shape.m + 1)) % (self.now.shape.m + 1) }
+        ensures begun { result.begun ≡ self.now.begun }
     {
         let many = self.shape.m() + 1;
-        let rank = (self.rank + ranks % many) % many;
-        self.at_rank(rank)
+        Route {
+            shape: self.shape,
+            partition: self.partition,
+            rank: (self.rank + ranks % many) % many,
+            begun: self.begun,
+        }
     }
 
-    /// The data process.
+    /// Asking begins anew at the data process.
     pub(crate) fn first(&self) -> Route
         ensures shape { result.shape ≡ self.now.shape }
         ensures partition { result.partition ≡ self.now.partition }
     {
-        self.at_rank(0)
+        Route::at(self.shape, self.partition, 0)
     }
 
-    fn at_rank(&self, rank: u32) -> Route
-        requires { rank ≤ self.now.shape.m }
-        ensures shape { result.shape ≡ self.now.shape }
-        ensures partition { result.partition ≡ self.now.partition }
+    /// Whether the process at which the asking began is next: all of the partition were asked.
+    pub(crate) fn is_round(&self) -> bool
+        ensures { IsTrue result ↔ (self.now.rank ≡ self.now.begun) }
     {
-        Route {
-            shape: self.shape,
-            partition: self.partition,
-            rank,
-        }
+        self.rank == self.begun
     }
 }

@@ -9,6 +9,8 @@ mod alone;
 #[cfg(test)]
 mod dying;
 #[cfg(test)]
+mod heads;
+#[cfg(test)]
 mod losing;
 #[cfg(test)]
 mod own_keys;

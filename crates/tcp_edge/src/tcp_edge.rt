@@ -1,6 +1,6 @@
 ghost use Rattle.std.specs.Prelude.{◌≡◌, ◌^◌, ◌≤◌, None};
 
-use crate::accepting::{Ends, accept_from};
+use crate::accepting::{Ends, accept_from, fill_reserve};
 use crate::listening::listen_at;
 use edge_io::{Failed, Listener, ReadEdge, WriteEdge};
 use mio::Poll;
@@ -12,11 +12,13 @@ use std::net::{Net, SocketAddr, TcpListener, TcpStream};
 const MOST_CONNECTIONS: u64 = 1 << 62;
 
 /// A port as a listener: each error counts as a fault, and so do an `accept` before `listen` and one after 2^62
-/// connections. It never says that no connection comes, and keeps its last error for a person to read.
+/// connections. It never says that no connection comes, and keeps its last error for a person to read. It keeps a
+/// descriptor in reserve, so that one connection more than there are descriptors for can be accepted, told so and let go.
 #[derive(Drop)]
 pub struct TcpEdge<N> {
     net: N,
     listener: Option<TcpListener>,
+    reserve: Option<TcpListener>,
     accepted: u64,
     faults: u64,
     last_error: Option<io::Error>,
@@ -24,7 +26,7 @@ pub struct TcpEdge<N> {
 }
 
 impl<N> TcpEdge<N> {
-    ghost use Rattle.std.specs.Prelude.{◌≡◌, ◌<◌, ◌≤◌, ◌^◌, OnOk, Some, option_copied};
+    ghost use Rattle.std.specs.Prelude.{◌≡◌, ◌<◌, ◌≤◌, ◌^◌, ◌↔◌, IsTrue, OnOk, None, Some, option_copied};
     ghost use Rattle.edge_io.specs.Faults.{Rose, raised};
 
     /// No port yet: `net` is the runtime value that opens sockets.
@@ -37,10 +39,19 @@ impl<N> TcpEdge<N> {
         TcpEdge {
             net,
             listener: None,
+            reserve: None,
             accepted: 0,
             faults: 0,
             last_error: None,
         }
+    }
+
+    /// Whether nothing is in reserve: no descriptor is left, and the next connection that comes can be accepted only once
+    /// one is let go.
+    pub fn is_full(&self) -> bool
+        ensures { IsTrue result ↔ (self.now.reserve ≡ None) }
+    {
+        self.reserve.is_none()
     }
 
     /// Why the last call that failed did so: none where none failed.
@@ -72,16 +83,21 @@ impl<N> TcpEdge<N> {
     }
 
     // The next connection of the port, if there is one.
-    fn next<E: Ends>(&self) -> io::Result<E>
-        ensures few { OnOk result (self.now.accepted < 2 ^ 62) }
+    fn next<E: Ends>(&mut self) -> io::Result<E>
+        ensures few { OnOk result (self.old.accepted < 2 ^ 62) }
+        ensures accepted { self.new.accepted ≡ self.old.accepted }
+        ensures faults { self.new.faults ≡ self.old.faults }
     {
         if self.accepted >= MOST_CONNECTIONS {
             return Err(io::Error::from(ErrorKind::QuotaExceeded));
         }
-        match &self.listener {
-            Some(listener) => accept_from(listener),
-            None => Err(io::Error::from(ErrorKind::NotConnected)),
-        }
+        let Some(listener) = &self.listener else {
+            return Err(io::Error::from(ErrorKind::NotConnected));
+        };
+        fill_reserve(listener, &mut self.reserve);
+        let next = accept_from(listener, &mut self.reserve);
+        fill_reserve(listener, &mut self.reserve);
+        next
     }
 }
 
