@@ -1,5 +1,6 @@
 #!/usr/bin/env python3
-"""Writes BELIEVE.md: which definitions a reader has to believe, behind the headline and behind run_program's clauses.
+"""Writes BELIEVE.md: which definitions a reader has to believe, behind what a client asks for first, behind the headline, behind the laws of
+a group over machines, and behind run_program's clauses.
 
 It follows, from each root, the names that a definition of specs/ cites: definitions of its own file, and those that a
 `use` line brings, also of definitions in a `module _`. Types that are declared in src/ are counted by the lines of their declaration there. `--check` writes
@@ -11,9 +12,13 @@ from pathlib import Path
 from textwrap import fill
 
 TOP = Path(__file__).resolve().parent.parent
+# The parts of the page with their roots; a part lists what the parts before it don't, and None stands for what the clauses of run_program cite.
 ROOTS = [
-    ("The headline", "law_headline", "Laws", ["HeadlineAlways"]),
-    ("What `run_program` says, beside the headline", "group_program", None, None),
+    ("What a client asks for first", [("group_calls", "Log", "IsLegal"), ("group_calls", "Within", "AnswersWithin")]),
+    ("What `verify` says of a transcript, beside these", [("run_verify", "Checked", "IsChecked")]),
+    ("The headline, beside these", [("law_headline", "Laws", "HeadlineAlways")]),
+    ("A group over machines, beside these", [("group_wire", "Composition", "RunsCompose"), ("group_wire", "Shown", "ShownIsLogged")]),
+    ("What `run_program` says, beside these", None),
 ]
 HEAD = re.compile(r"^(?:abbrev |unfoldable )?pub (?:record |data )?(\S+)|^(?:abbrev|unfoldable|record|data) (\S+)")
 WORD = re.compile(r"[A-Za-z_◌][\w◌'≟-]*")
@@ -163,11 +168,13 @@ def page(all_modules):
         "crates; a file's other definitions are behind other contracts. Words of the standard library are left out. This page is written by",
         "`docs/believe.py`, and `docs/believe.py --check` says whether it is up to date. Where a row ends in a number, the file has the rest.",
         "",
-        "In words the headline, and what is promised of threads, connections and the program, is in [PROMISES.md](PROMISES.md).",
+        "Whoever wants to know of the answers alone may stop behind the first part: a log is legal where each entry has the reply of",
+        "memcached's table in its order, and answers are within where each call stands in it once and in its time. In words the headline, and",
+        "what is promised of threads, connections and the program, is in [PROMISES.md](PROMISES.md).",
     ]
     known = set()
-    for title, crate, place, names in ROOTS:
-        roots = [(crate, place, name) for name in names] if names else sorted(roots_of_program(all_modules))
+    for title, named in ROOTS:
+        roots = named or sorted(roots_of_program(all_modules))
         order, types = closure(all_modules, roots, known)
         rows, lines, count = {}, 0, 0
         for crate, place, name in order:

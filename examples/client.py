@@ -1,4 +1,5 @@
-# A cart and a counter of pymemcache (Debian: python3-pymemcache) over a group that loses two processes on the way. It speaks to port 11211.
+# A cart and a counter of pymemcache (Debian: python3-pymemcache) over a group that loses two processes on the way. It speaks to port 11211,
+# where `cocytus_main serve < examples/client.toml` listens: that a client may let processes die, other settings leave off.
 
 from pymemcache.client.base import Client
 

@@ -50,12 +50,17 @@ def newcomer():
         return f"no answer ({error})"
 
 
-def memory():
+# The resident memory of the server in MiB: 0 where it isn't known.
+def resident():
     if PID is None:
-        return ""
+        return 0
     with open(f"/proc/{PID}/status", encoding="ascii") as status:
-        resident = [line.split()[1] for line in status if line.startswith("VmRSS")]
-    return f"; server {int(resident[0]) // 1024} MiB" if resident else "; server gone"
+        lines = [line.split()[1] for line in status if line.startswith("VmRSS")]
+    return int(lines[0]) / 1024 if lines else 0
+
+
+def memory():
+    return f"; server {resident():.0f} MiB" if PID else ""
 
 
 def told(name, link):
@@ -138,7 +143,24 @@ def many_half_lines(link):
     told("all gone", link)
 
 
+# As many as a crowd ask for an item of 1 MiB again and again, and read nothing; then they leave. What each of them costs, and what is given back.
+def many_read_nothing(link):
+    ask(link, b"set large 0 0 1048576\r\n" + b"x" * 1_048_576 + b"\r\n", b"\r\n")
+    held = resident()
+    bad = [connect() for _ in range(300)]
+    for one in bad:
+        one.sendall(b"get large\r\n" * 20)
+    time.sleep(5.0)
+    told("300 read nothing", link)
+    print(f"    each of them: {(resident() - held) / 300:.2f} MiB", flush=True)
+    for one in bad:
+        one.close()
+    time.sleep(2.0)
+    told("all gone", link)
+    print(f"    kept of what they had: {resident() - held:.0f} MiB", flush=True)
+
+
 with connect() as before:
     told("nothing bad", before)
-    for trial in [half_a_line, reads_nothing, half_a_block, one_line, many_lines, many_half_lines]:
+    for trial in [half_a_line, reads_nothing, half_a_block, one_line, many_lines, many_half_lines, many_read_nothing]:
         trial(before)
