@@ -1,6 +1,5 @@
 #!/bin/sh
-# Nanoseconds that a node takes to judge an update of 100 bytes that comes from outside, by hand: sh bench/coming.sh. The proof of its program takes
-# more than five minutes.
+# Nanoseconds that a node takes to judge an update of 100 bytes that comes from outside, by hand: sh bench/coming.sh.
 set -eu
 top=$(cd "$(dirname "$0")/.." && pwd)
 work=$(mktemp -d)

@@ -13,7 +13,7 @@ use Rattle.item_index.specs.Keys.{Keys, slot_of}
 use Rattle.request_log.specs.Logged.{IsNumbered}
 use Rattle.group_run.specs.Replica.{Items, Replica, applied_to, freed_by, item_settled, items_after, last_of, run_in, slot_after, slot_in}
 use Rattle.law_updates.proofs.Keys.{key-eq, slot_in-with}
-use Rattle.partition_replica.proofs.Keys.{equal, equal_is, slot_in-items_in}
+use Rattle.partition_replica.proofs.Keys.{equal, slot_in-items_in}
 use Rattle.partition_replica.specs.Inside.{items_in}
 use Rattle.partition_replica.specs.Coming.{freed_from, run_after, run_behind, run_on, runs_behind}
 
@@ -32,11 +32,12 @@ run_settled u items key =
       by true same = after_run u.number u.body (slot_in items u.key) ∙ ap (λ (k : List ℕ). run_after u.body (run_on items k)) (key-eq u.key key same)
       by false other = refl
 
-pub behind_same : (key : List ℕ) (u : Update) (old : Option Run) → equal u.key key ≡ true → run_after u.body old ≡ run_behind key u old
-behind_same key u old is = ap (λ (b : Bool). if b then run_after u.body old else old) (sym (sym (equal_is u.key key) ∙ is))
-
-pub behind_other : (key : List ℕ) (u : Update) (old : Option Run) → equal u.key key ≡ false → old ≡ run_behind key u old
-behind_other key u old is = ap (λ (b : Bool). if b then run_after u.body old else old) (sym (sym (equal_is u.key key) ∙ is))
+-- keys whose ends differ
+pub ends_differ : (one other : List ℕ) (alike : Bool) → (one ≡ other → alike ≡ true) → alike ≡ false → false ≡ same_key one other
+ends_differ one other alike same differ = by (same_key one other) refl where
+  by : (is : Bool) → same_key one other ≡ is → false ≡ is
+  by true is = sym differ ∙ same (key-eq one other is)
+  by false is = refl
 
 pub runs_settled : (us : List Update) (items : Items) (key : List ℕ) → run_on (items_after items us) key ≡ runs_behind key us (run_on items key)
 runs_settled [] items key = refl

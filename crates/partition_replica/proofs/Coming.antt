@@ -140,3 +140,13 @@ free_once space true n r sorted sound numbered a =
     (ap (λ (b : Bool). is_freed (take (n - r.applied) r.log) a || b)
     (any_log (in_run a) (drop (n - r.applied) r.log) ∙ sym (any_written a (drop (n - r.applied) r.log)))
     ∙ sym (returned_parts true n a (n - r.applied) r.log r.applied numbered refl))
+
+-- what is free now is free then
+pub free_stays : (space : ℕ) (drops : Bool) (n : ℕ) (r : Replica) → Sorted r.items → IsSound space r
+    → (a : ℕ) → is_free space r a ≡ true → is_free space (once_applied drops n r) a ≡ true
+free_stays space false n r sorted sound a free =
+    free_after space (n - r.applied) r.log r sorted sound a
+    ∙ ap (λ (b : Bool). b || is_freed (take (n - r.applied) r.log) a) free
+free_stays space true n r sorted sound a free =
+    free_dropped space n r sorted sound a
+    ∙ ap (λ (b : Bool). b || (is_freed (take (n - r.applied) r.log) a || list_any (in_run a) (log_runs (drop (n - r.applied) r.log)))) free

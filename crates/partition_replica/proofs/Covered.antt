@@ -12,7 +12,7 @@ use Rattle.group_run.specs.Free.{in_run, in_some_run, is_free}
 use Rattle.partition_replica.specs.Coming.{is_returned, once_applied, returned_by}
 use Rattle.partition_replica.specs.Inside.{PartsAgree}
 use Rattle.partition_replica.specs.State.{State}
-use Rattle.partition_replica.proofs.Coming.{Sorted, free_once}
+use Rattle.partition_replica.proofs.Coming.{Sorted, free_once, free_stays}
 
 -- between the updates whose runs were looked at and those that are left
 pub record Returning (drops : Bool) (n : ℕ) (log left : List Update) (at most : ℕ) : Type 0 where
@@ -53,10 +53,6 @@ module _ (drops : Bool) (n : ℕ) (log : List Update) (at : ℕ) where
   returning_end [] most now none zero = now.none zero
   returning_end (u ∷ left) most now none zero = absurd (omega arith)
 
-either : (a b c : Bool) → c ≡ (a || b) → a ≡ true → c ≡ true
-either true b c is one = is
-either false b c is one = cc
-
 other : (a b c : Bool) → c ≡ (a || b) → b ≡ true → c ≡ true
 other a b c is one = is ∙ ap (λ (x : Bool). a || x) one ∙ or-true a
 
@@ -73,18 +69,22 @@ module _ {s : State} {runs : Space} {fit : ℕ} (agree : PartsAgree s runs fit) 
       free_once (space_of s.shape) drops n s.replica sorted agree.sound numbered a
       ∙ ap (λ (b : Bool). b || is_returned drops n s.replica.log a) (sym (agree.free a))
 
-  pub part_free : AllFree (alloc.is_free runs) at (to - at) → AllFree (is_returned drops n s.replica.log) at back
-      → AllFree (is_free (space_of s.shape) (once_applied drops n s.replica)) at (max (to - at) back)
-  part_free free held a low high = elim (cases_lt a to) [
-    | inl below ↦ either _ _ _ (free_is a) (free a low (omega arith))
-    | inr above ↦ other (alloc.is_free runs a) _ _ (free_is a) (held a low (omega arith))
-  ]
-
-  pub part_none : alloc.is_free runs to ≡ false → (back ≡ 0 → is_returned drops n s.replica.log at ≡ false) → max (to - at) back ≡ 0
+  -- nothing is free from there on now: what comes back
+  pub part_none : alloc.is_free runs to ≡ false → to - at ≡ 0 → (back ≡ 0 → is_returned drops n s.replica.log at ≡ false) → back ≡ 0
       → is_free (space_of s.shape) (once_applied drops n s.replica) at ≡ false
-  part_none ends none zero =
+  part_none ends none back_none zero =
       let here : to ≡ at = omega arith in
-      neither _ _ _ (free_is at) (ap (alloc.is_free runs) (sym here) ∙ ends) (none (omega arith))
+      neither _ _ _ (free_is at) (ap (alloc.is_free runs) (sym here) ∙ ends) (back_none zero)
+
+  pub part_back : AllFree (is_returned drops n s.replica.log) at back → AllFree (is_free (space_of s.shape) (once_applied drops n s.replica)) at back
+  part_back held a low high = other (alloc.is_free runs a) _ _ (free_is a) (held a low high)
+
+-- what is free from there on now is free then
+pub part_free : {s : State} {runs : Space} {fit : ℕ} → PartsAgree s runs fit → Sorted s.replica.items
+    → (drops : Bool) (n at to : ℕ) → AllFree (alloc.is_free runs) at (to - at)
+    → AllFree (is_free (space_of s.shape) (once_applied drops n s.replica)) at (to - at)
+part_free {s} agree sorted drops n at to free a low high =
+    free_stays (space_of s.shape) drops n s.replica sorted agree.sound a (sym (agree.free a) ∙ free a low high)
 
 module _ (free : ℕ → Bool) (from at left part : ℕ) where
   -- a part more of what is walked over

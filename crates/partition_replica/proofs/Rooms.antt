@@ -1,5 +1,5 @@
 -- Room that stays, and room that is there.
-use Rattle.std.proofs.Common.{◌≡◌, ℕ, ◌≤◌, ◌<◌, true, List, length, All, get_or, slice_index_or, sym, ap, ◌∙◌, subst, arith}
+use Rattle.std.proofs.Common.{◌≡◌, ℕ, ◌≤◌, ◌<◌, true, List, length, All, get_or, slice_index_or, sym, subst, arith}
 use Rattle.group_message.specs.declared.update.Update.{Update}
 use Rattle.partition_replica.specs.State.{HasRoom, Room, is_among}
 

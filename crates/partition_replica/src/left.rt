@@ -1,6 +1,7 @@
 // Runs of items that updates leave on a key, and that they give back.
-ghost use Rattle.std.specs.Prelude.{◌≡◌, option_copied};
+ghost use Rattle.std.specs.Prelude.{◌≡◌, option_copied, true};
 ghost use Rattle.std.specs.Option.{option_map};
+ghost use Rattle.group_types.specs.Lists.{same_key};
 ghost use Rattle.group_run.specs.Replica.{run_in};
 ghost use Rattle.partition_replica.specs.Coming.{freed_from, run_after, run_behind, runs_behind};
 
@@ -33,11 +34,24 @@ pub fn freed_from(body: &Body, run: Option<Run>) -> Option<Run>
 pub fn run_behind(update: &Update, key: &Key, old: Option<Run>) -> Option<Run>
     ensures { result ≡ run_behind key.now update.now old }
 {
-    if update.key == *key {
+    if is_on(update, key) {
         run_after(&update.body, old)
     } else {
         old
     }
+}
+
+// Whether an update is on a key. Keys that differ mostly do so at their ends, which are compared first.
+fn is_on(update: &Update, key: &Key) -> bool
+    ensures { result ≡ same_key update.now.key key.now }
+{
+    ends_alike(update.key.bytes(), key.bytes()) && update.key == *key
+}
+
+fn ends_alike(one: &[u8], other: &[u8]) -> bool
+    ensures { one.now ≡ other.now → result ≡ true }
+{
+    one.last().copied() == other.last().copied()
 }
 
 fn run_after(body: &Body, old: Option<Run>) -> Option<Run>

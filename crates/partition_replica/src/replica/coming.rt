@@ -156,7 +156,11 @@ impl Replica {
             → is_free (space_of self.now.shape) (once_applied drops stable self.now.replica) at ≡ false }
     {
         let free = self.runs.free_to(at) - at;
-        free.max(returned_from(&self.log, at, stable, drops))
+        if free > 0 {
+            free
+        } else {
+            returned_from(&self.log, at, stable, drops)
+        }
     }
 
     // Whether the list reaches what is applied once everything up to `base` is, and those of its

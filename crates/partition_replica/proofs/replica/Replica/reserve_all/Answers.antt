@@ -1,6 +1,6 @@
-use Rattle.std.proofs.Common.{◌≡◌, ◌<◌, ◌≤◌, true, ℕ, List, subst, ap, sym, ◌∙◌, arith}
+use Rattle.std.proofs.Common.{◌≡◌, true, ℕ, List, subst, sym, arith}
 use Rattle.std.proofs.lemmas.Bool.{true≢false}
-use Rattle.partition_replica.specs.State.{HasRoom, Room, State, is_among}
+use Rattle.partition_replica.specs.State.{HasRoom, State, is_among}
 use Rattle.partition_replica.specs.Inside.{ready_in}
 use Rattle.partition_replica.proofs.Rooms.{room_kept}
 use Rattle.partition_replica.proofs.replica.Replica.reserve_all.Goals as goal
