@@ -15,7 +15,6 @@ pub mod Example
 pub mod Extending
 pub mod Failing
 pub mod FromWhom
-pub mod Getting
 pub mod GoingOn
 pub mod Honest
 pub mod Mirrors
@@ -25,16 +24,13 @@ pub mod Once
 pub mod Placing
 pub mod Positions
 pub mod Reaching
-pub mod Ready
 pub mod Requests
-pub mod Settling
 pub mod Showing
 pub mod Signs
 pub mod Spending
 pub mod Spent
 pub mod Telling
 pub mod Voids
-pub mod Unlost
 pub mod Wanting
 pub mod Wants
 pub mod Whole

@@ -72,7 +72,7 @@ module _ (s : Dimensions) (made : List Made) (log : OneLog s (events_in made)) (
   contains : (place : ℕ) (e : Entry) → slice_get (after s (events_in made)).log place ≡ Some e → Contains (log_of (turns_of s (events_in made))) e
   contains place e is = get-contained (log_of (turns_of s (events_in made))) place e (ap (λ (l : List Entry). slice_get l place) (sym log.kept) ∙ is)
 
-  its-ask : (place : ℕ) (e : Entry) → slice_get (after s (events_in made)).log place ≡ Some e → (j : ℕ) × (ask : Turn) × IsAsk (turns_of s (events_in made)) j ask (name_of e) e.op
+  pub its-ask : (place : ℕ) (e : Entry) → slice_get (after s (events_in made)).log place ≡ Some e → (j : ℕ) × (ask : Turn) × IsAsk (turns_of s (events_in made)) j ask (name_of e) e.op
   its-ask place e is =
       let f = logged-in (turns_of s (events_in made)) e (contains place e is) in
       let a = log.within.asked f.0 f.1 e f.2 f.3 in (a.0, a.1, a.3)

@@ -3,11 +3,8 @@
 use Rattle.std.specs.Prelude.{ℕ, ◌≡◌, ◌≤◌, ◌++◌, true, false, List, Some}
 use Rattle.group_types.specs.Dimensions.{Dimensions}
 use Rattle.group_types.specs.Each.{Each}
-use Rattle.group_types.specs.Hash.{home_of}
 use Rattle.group_types.specs.Names.{IsProcess}
 use Rattle.group_types.specs.declared.process.ProcessId.{ProcessId}
-use Rattle.group_types.specs.declared.process.ProcessId.TheVariants.{DataNode}
-use Rattle.memc_table.specs.declared.act.Act.TheVariants as act
 use Rattle.group_calls.specs.declared.event.Answer.{Answer}
 use Rattle.group_calls.specs.declared.event.Answer.TheVariants as says
 use Rattle.group_run.specs.Asking.{ask_process}
@@ -87,10 +84,3 @@ AnsweredCanBeShown = (s : Dimensions) (actions : List Action) (named : Processes
     → IsCaller (composed s actions).group caller → named (gateway_of s caller) ≡ false → IsProcess s x → named x ≡ false
     → (composed s actions).group.gateways.call caller ≡ Some o → o.stage ≡ Unasked → AnswersAtOnce (composed s actions).group caller o x answer
     → CanBe s actions (IsShownAs caller o answer)
-
--- and so can every get, where the data process of its key isn't named
-abbrev pub GetsCanBeShown : Type 0
-GetsCanBeShown = (s : Dimensions) (actions : List Action) (named : Processes) (caller : ℕ) (o : OpenCall) (key : List ℕ) → AreActions s actions
-    → OthersAreHere (composed s actions).group named → IsCaller (composed s actions).group caller → named (gateway_of s caller) ≡ false
-    → (composed s actions).group.gateways.call caller ≡ Some o → o.op.act ≡ act.Get key → named (DataNode (home_of key s.k)) ≡ false
-    → CanBe s actions (λ c. (answer : Answer) × IsShownAs caller o answer c)

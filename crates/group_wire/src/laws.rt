@@ -1,7 +1,7 @@
 ghost use Rattle.group_wire.specs.Appending.{CallsAppendAlike, MessagesAppendAlike};
 ghost use Rattle.group_wire.specs.Composition.{MisfitsNeverCome, NoticesFit, PositionsAlways, RunsCompose};
 ghost use Rattle.group_wire.specs.FromWhom.{CallersAreTheirs};
-ghost use Rattle.group_wire.specs.GoingOn.{AnsweredCanBeShown, GetsCanBeShown, NamedCanBeTaken, ToldCanBeShown};
+ghost use Rattle.group_wire.specs.GoingOn.{AnsweredCanBeShown, NamedCanBeTaken, ToldCanBeShown};
 ghost use Rattle.group_wire.specs.Laws.{BarrierAlways, FewAreNamed, MoreDataThanParity, PermitsExactly, ShownByLiving};
 ghost use Rattle.group_wire.specs.NoMisfits.{NoMisfitsAtAll};
 ghost use Rattle.group_wire.specs.Once.{AskedOnce, ChangesOnce, ShownOnce};
@@ -128,9 +128,4 @@ pub fn told_can_be_shown()
 /// isn't named would give it at once.
 pub fn answered_can_be_shown()
     ensures { AnsweredCanBeShown }
-{}
-
-/// There every open get can be shown, where its gateway and the data process of its key aren't named.
-pub fn gets_can_be_shown()
-    ensures { GetsCanBeShown }
 {}

@@ -37,12 +37,12 @@ use Rattle.law_causes.specs.Calls.{CollectedAlways, TicketsHeldAlways, HoldsTick
 use Rattle.law_causes.proofs.Holding.{calls-differ, calls-stand, held-stand, one-partition, reached-book}
 
 -- the call of this name is held behind the others
-record HeldBehind (p : Process) (d : ℕ) (name : CallName) (n : ℕ) (q : Process) : Type 0 where
-  update : Update
-  number : update.number ≡ n
-  caller : update.caller ≡ name.caller
-  call : update.call ≡ name.call
-  held : held_at q d ≡ held_at p d ++ held_of update ∷ []
+pub record HeldBehind (p : Process) (d : ℕ) (name : CallName) (n : ℕ) (q : Process) : Type 0 where
+  pub update : Update
+  pub number : update.number ≡ n
+  pub caller : update.caller ≡ name.caller
+  pub call : update.call ≡ name.call
+  pub held : held_at q d ≡ held_at p d ++ held_of update ∷ []
 
 module _ (s : Dimensions) (name : CallName) (op : Asked) (d n : ℕ) (p : Process) where
   ticket-held : (h : Head) (u : Update) → u.caller ≡ name.caller → u.call ≡ name.call → (b : Bool) → (ticketed b d u (issued s d h u p)).answer ≡ Ticket n
@@ -72,7 +72,7 @@ module _ (s : Dimensions) (name : CallName) (op : Asked) (d n : ℕ) (p : Proces
       let u : Update = update_of name op d body outcome p in
       ticket-held h u refl refl (nat_le u.number (replica_of (issued s d h u p).process d).applied) is
 
-  ask-held : (o : Option Head) → (ask_head s name op d p o).answer ≡ Ticket n → HeldBehind p d name n (ask_head s name op d p o).step.process
+  pub ask-held : (o : Option Head) → (ask_head s name op d p o).answer ≡ Ticket n → HeldBehind p d name n (ask_head s name op d p o).step.process
   ask-held None is = absurd (cc is)
   ask-held (Some h) is = act-held h (decide (space_of s) h.inherited (replica_of p d) op (found_at s d p p.name)) is
 

@@ -60,10 +60,10 @@ filter-keeps {X} test (y ∷ ys) x (k, low, is) passes = by (test y) refl k low 
 
 module _ (s : Dimensions) (d : ℕ) (x : Held) where
   -- the process holds it of partition d
-  abbrev Has : Process → Type 0
+  abbrev pub Has : Process → Type 0
   Has q = Contains (held_at q d) x
 
-  has-same : (p q : Process) → q.held ≡ p.held → Has p → Has q
+  pub has-same : (p q : Process) → q.held ≡ p.held → Has p → Has q
   has-same p q same there = subst (λ (held : List (List Held)). Contains (at [] held d) x) (sym same) there
 
   -- more is held of partition e
@@ -95,13 +95,13 @@ module _ (s : Dimensions) (d : ℕ) (x : Held) where
       let u : Update = update_of name op e body outcome p in
       has-ticketed (nat_le u.number (replica_of (issued s e h u p).process e).applied) e h u p there
 
-  has-ask : (name : CallName) (op : Asked) (e : ℕ) (p : Process) (o : Option Head) → Has p → Has (ask_head s name op e p o).step.process
+  pub has-ask : (name : CallName) (op : Asked) (e : ℕ) (p : Process) (o : Option Head) → Has p → Has (ask_head s name op e p o).step.process
   has-ask name op e p None there = there
   has-ask name op e p (Some h) there = has-act name op e h p (decide (space_of s) h.inherited (replica_of p e) op (found_at s e p p.name)) there
 
   -- a collect keeps it, or is of it
   module _ (caller call : ℕ) (q y : ProcessId) (own : q ≡ y) where
-    abbrev KeptOr : Process → Answer → Type 0
+    abbrev pub KeptOr : Process → Answer → Type 0
     KeptOr p answer = Has p ⊎ IsCollected (Collect caller call q) y x answer
 
     has-handed : (e : ℕ) (z : Held) (p : Process) → is_call caller call z ≡ true → Has p → (b : Bool) → KeptOr (handed_out b e z p).step.process (handed_out b e z p).answer
@@ -126,7 +126,7 @@ module _ (s : Dimensions) (d : ℕ) (x : Held) where
           let four = second.1 in
           inr (own, grind (arith, common_steps), grind (arith, common_steps))
 
-    has-collect : (n a : ℕ) (p : Process) → Has p → KeptOr (collect_from caller call p (range_with_len a n)).step.process (collect_from caller call p (range_with_len a n)).answer
+    pub has-collect : (n a : ℕ) (p : Process) → Has p → KeptOr (collect_from caller call p (range_with_len a n)).step.process (collect_from caller call p (range_with_len a n)).answer
     has-collect zero a p there = inl there
     has-collect (suc n) a p there = by (find (is_call caller call) (held_at p a)) refl (has-collect n (a + 1) p there) where
       by : (o : Option Held) → find (is_call caller call) (held_at p a) ≡ o

@@ -1,266 +1,79 @@
--- The members that go on receive what is on its way between them, as the machine delivers it, until none is left.
-use Rattle.std.proofs.Common.{ℕ, zero, suc, ◌≡◌, ◌≢◌, ◌<◌, ◌≤◌, ◌⊎◌, inl, inr, Bool, true, false, List, [], ◌∷◌, ◌++◌, refl, sym, ap, subst, ◌∙◌, arith, Contains}
-use Rattle.std.proofs.lemmas.List.{append-nil}
+-- Once all messages are received nothing is unfinished, and no call has to wait.
+use Rattle.std.proofs.Common.{Some, ℕ, suc, ◌≡◌, ◌<◌, false, List, [], ◌++◌, sym, ap, subst, ◌∙◌, arith}
 use Rattle.group_types.specs.Dimensions.{Dimensions}
 use Rattle.group_types.specs.Names.{IsProcess}
 use Rattle.group_types.specs.declared.process.ProcessId.{ProcessId}
-use Rattle.group_message.specs.declared.message.Message.{Message}
-use Rattle.group_message.specs.declared.message.Message.TheVariants as tells
-use Rattle.group_calls.specs.declared.event.Answer.TheVariants as says
-use Rattle.group_calls.specs.declared.event.Event.TheVariants as event
-use Rattle.group_run.specs.Meaning.{IsDrained, is_dead, link, process_of}
-use Rattle.group_run.specs.Applying.{held_at, replica_of}
-use Rattle.law_causes.specs.Calls.{IsCollected}
-use Rattle.law_causes.proofs.Lasting.{held_last_always}
-use Rattle.group_run.specs.Process.{Held, Node, Process}
-use Rattle.group_run.specs.Progress.{IsQuiet, load_of}
-use Rattle.group_run.specs.World.{World, after, delivered, node_of, step}
-use Rattle.law_progress.specs.Ends.{HasDelivery}
-use Rattle.law_progress.proofs.Always.{deliveries_lower}
-use Rattle.law_progress.proofs.Drained.{deliveries_are_left}
+use Rattle.group_run.specs.Meaning.{IsDrained, process_of}
+use Rattle.group_run.specs.Applying.{head_at, replica_of}
+use Rattle.law_causes.proofs.Standing.{named-always}
+use Rattle.group_run.specs.Process.{Head, Process}
+use Rattle.group_run.specs.Progress.{load_of}
 use Rattle.law_progress.proofs.Quiet.{quiet_always}
-use Rattle.group_wire.specs.Actions.{Action, Receive}
-use Rattle.group_wire.specs.Composed.{AreActions, Composed, Made, composed, composed_with, events_of, message_made, opening_composed, stands_if}
-use Rattle.group_wire.specs.Composition.{Carried, IsComposed, machine}
+use Rattle.group_wire.specs.Actions.{Action}
+use Rattle.group_wire.specs.Composed.{AreActions, Composed, composed, events_of}
+use Rattle.group_wire.specs.Composition.{machine}
 use Rattle.group_wire.specs.GoingOn.{CanBe, NamedAreTaken, OthersAreHere, TakesNamed}
-use Rattle.group_wire.specs.Sets.{IsWithin, Processes, one_or}
-use Rattle.group_wire.proofs.Barrier.{Deposed}
+use Rattle.group_wire.specs.Sets.{Processes}
 use Rattle.group_wire.proofs.Compositions.{runs_compose}
-use Rattle.group_wire.proofs.Extending.{after-made, events_in, shape-after}
 use Rattle.group_wire.proofs.GoingOn.{named_can_be_taken}
-use Rattle.group_wire.proofs.Honest.{shape-from}
-use Rattle.group_wire.proofs.Reaching.{can-be, can-be-then, reaches-by, reaches-here}
-use Rattle.group_wire.proofs.Whole.{Whole, whole}
+use Rattle.group_wire.proofs.Reaching.{can-be-then}
+use Rattle.group_wire.proofs.Whole.{whole}
 use Rattle.group_types.specs.Hash.{home_of}
 use Rattle.group_types.specs.declared.process.ProcessId.TheVariants.{DataNode}
 use Rattle.memc_table.specs.Act.{key_of}
 use Rattle.memc_table.specs.Asked.{Asked}
 use Rattle.group_calls.specs.Turns.{CallName}
 use Rattle.group_run.specs.Asking.{ask_process}
-use Rattle.group_wire.proofs.Ready.{IsFirstHead, first-head}
+use Rattle.wire_progress.proofs.Draining.{Stays, drains, lives, same-wire, shape-machine}
+use Rattle.wire_progress.proofs.Finished.{home-below}
 use Rattle.wire_progress.proofs.Given.{given-asked}
 use Rattle.wire_progress.specs.Emptying.{IsGiven, IsEmptied, MembersCanBeDrained}
 
-home-below : (key : List ℕ) (k : ℕ) → 1 ≤ k → home_of key k < k
-home-below key k some = omega (arith, some)
-
--- a message comes with a delivery where its receiver lives and its link has one
-done-means : (down dead : Bool) (s : Dimensions) (x p : ProcessId) (sender receiver : Node) (ms : List Message) → (delivered down dead s x p sender receiver ms).receiver.answer ≡ says.Done
-    → (dead ≡ false) × ((m : Message) × (rest : List Message) × (ms ≡ m ∷ rest))
-done-means true dead s x p sender receiver ms is = absurd (cc is)
-done-means false true s x p sender receiver ms is = absurd (cc is)
-done-means false false s x p sender receiver [] is = absurd (cc is)
-done-means false false s x p sender receiver (m ∷ rest) is = (refl, (m, rest, refl))
-
--- members receive messages, and nothing else is done
-pub record Stays (named : Processes) (c d : Composed) : Type 0 where
-  pub others : OthersAreHere d.group named
-  pub taken : NamedAreTaken d.group named
-  pub gateways : d.group.gateways ≡ c.group.gateways
-  pub words : d.group.words ≡ c.group.words
-  pub signs : d.group.signs ≡ c.group.signs
-  pub held : (q : ProcessId) (e : ℕ) (x : Held) → IsProcess c.group.shape q → Contains (held_at (process_of (machine c) q) e) x → Contains (held_at (process_of (machine d) q) e) x
-  pub shape : d.group.shape ≡ c.group.shape
-
--- nothing of K is kept
-abbrev pub Anyhow : Composed → Composed → Type 0
-Anyhow c d = Unit {0}
-
 module _ (s : Dimensions) (named : Processes) (one : ProcessId) (one_in : IsProcess s one) (one_out : named one ≡ false) where
-  module _ (actions : List Action) (run : AreActions s actions) (others : OthersAreHere (composed s actions).group named) (taken : NamedAreTaken (composed s actions).group named) where
-    abbrev c : Composed
-    c = composed s actions
-
-    h : Whole (composed s actions)
-    h = whole s actions run
-
-    made_run : IsComposed (composed s actions)
-    made_run = runs_compose s actions run
-
-    shape : (composed s actions).group.shape ≡ s
-    shape = shape-from (opening_composed s) actions
-
-    -- those who have failed are the named
-    failed-named : IsWithin (composed s actions).failed named
-    failed-named x lost = by h.barred.deposed where
-      by : ((x : ProcessId) → (composed s actions).failed x ≡ false) ⊎ Deposed (composed s actions).group.shape (composed s actions).group.words (composed s actions).failed → named x ≡ true
-      by (inl none) = cc (none x, lost)
-      by (inr d) = others.cut d.by x (h.barred.permitted d.by x (d.permitted x lost))
-
-    pub lives : (x : ProcessId) → named x ≡ false → (composed s actions).failed x ≡ false
-    lives x out = by ((composed s actions).failed x) refl where
-      by : (b : Bool) → (composed s actions).failed x ≡ b → (composed s actions).failed x ≡ false
-      by false out_of = out_of
-      by true so = cc (failed-named x so, out)
-
-    pub unnamed : (x : ProcessId) → IsProcess (composed s actions).group.shape x → (composed s actions).failed x ≡ false → named x ≡ false
-    unnamed x xin alive = by (named x) refl where
-      by : (b : Bool) → named x ≡ b → named x ≡ false
-      by false out_of = out_of
-      by true so = cc (alive, h.barred.permits one member (lives one one_out) x (h.barred.taken one x (taken one x member one_out xin so))) where
-        member : IsProcess (composed s actions).group.shape one
-        member = subst (λ (t : Dimensions). IsProcess t one) (sym shape) one_in
-
-    shape-machine : (machine (composed s actions)).shape ≡ (composed s actions).group.shape
-    shape-machine = shape-after (composed s actions).group.shape (events_of (composed s actions)) made_run.run
-
-    -- the link between two that go on is the wire
-    pub same-wire : (x p : ProcessId) → IsProcess (composed s actions).group.shape x → IsProcess (composed s actions).group.shape p → x ≢ p → named x ≡ false → named p ≡ false
-        → link (machine (composed s actions)) x p ≡ (composed s actions).group.works.messages x p
-    same-wire x p xin pin other x_out p_out = carried.is ∙ ap (λ (l : List Message). (composed s actions).group.works.messages x p ++ l) (carried.whole (uncut ((composed s actions).group.words.cut x p) refl)) ∙ append-nil ((composed s actions).group.works.messages x p) where
-      carried : Carried ((composed s actions).group.words.cut x p) (link (machine (composed s actions)) x p) ((composed s actions).group.works.messages x p)
-      carried = made_run.links x p (record { member = xin; lives = lives x x_out }) (record { member = pin; lives = lives p p_out }) other
-
-      uncut : (b : Bool) → (composed s actions).group.words.cut x p ≡ b → (composed s actions).group.words.cut x p ≡ false
-      uncut false out_of = out_of
-      uncut true so = cc (others.cut x p so, p_out)
-
-    -- a message that the machine may deliver is received
-    module _ (x p : ProcessId) (xin : IsProcess (composed s actions).group.shape x) (pin : IsProcess (composed s actions).group.shape p) (other : x ≢ p) (x_out : named x ≡ false) (p_out : named p ≡ false)
-        (m : Message) (rest : List Message) (front : (composed s actions).group.works.messages x p ≡ m ∷ rest) where
-      uncut-here : (b : Bool) → (composed s actions).group.words.cut p x ≡ b → (composed s actions).group.words.cut p x ≡ false
-      uncut-here false out_of = out_of
-      uncut-here true so = cc (others.cut p x so, x_out)
-
-      makes-it : stands_if ((composed s actions).failed p) (message_made x p ((composed s actions).group.works.messages x p)) ≡ record { event = event.Deliver x p; answer = says.Done } ∷ []
-      makes-it =
-          ap (λ (b : Bool). stands_if b (message_made x p ((composed s actions).group.works.messages x p))) (lives p p_out)
-          ∙ ap (message_made x p) front
-
-      pub next-machine : machine (composed_with (composed s actions) (Receive x p)) ≡ (step (machine (composed s actions)) (event.Deliver x p)).world
-      next-machine =
-          ap (λ (more : List Made). after (composed s actions).group.shape (events_in ((composed s actions).made ++ more))) makes-it
-          ∙ after-made (composed s actions).group.shape (composed s actions).made (record { event = event.Deliver x p; answer = says.Done })
-
-      pub received : (P : Composed → Type 0) → P (composed_with (composed s actions) (Receive x p)) → CanBe s actions (λ d. Stays named (composed s actions) d × P d)
-      received P then = can-be Anyhow (λ d. Stays named (composed s actions) d × P d) s actions run
-          (reaches-by Anyhow (composed s actions) (λ d. Stays named (composed s actions) d × P d) (Receive x p) tt
-          (record { reads = record { here = others.here p pin p_out; sender = xin; uncut = uncut-here ((composed s actions).group.words.cut p x) refl }; other = other })
-          tt (
-            record {
-              others = record { few = others.few; cut = others.cut; here = λ q qin away. record { member = qin; runs = (others.here q qin away).runs } };
-              taken = taken;
-              gateways = refl;
-              words = refl;
-              signs = refl;
-              held = λ q e y qin holds. subst (λ (w : World). Contains (held_at (process_of w q) e) y) (sym next-machine) (kept q e y qin holds);
-              shape = refl;
-            },
-            then,
-          ))
-        where
-          kept : (q : ProcessId) (e : ℕ) (y : Held) → IsProcess (composed s actions).group.shape q → Contains (held_at (process_of (machine (composed s actions)) q) e) y
-              → Contains (held_at (process_of (step (machine (composed s actions)) (event.Deliver x p)).world q) e) y
-          kept q e y qin holds = by (held_last_always (composed s actions).group.shape (events_of (composed s actions)) made_run.run (event.Deliver x p) q e y
-              (subst (λ (t : Dimensions). IsProcess t x) (sym shape-machine) xin, subst (λ (t : Dimensions). IsProcess t p) (sym shape-machine) pin, other) (subst (λ (t : Dimensions). IsProcess t q) (sym shape-machine) qin) holds)
-            where
-              by : Contains (held_at (process_of (step (machine (composed s actions)) (event.Deliver x p)).world q) e) y
-                  ⊎ IsCollected (event.Deliver x p) q y (step (machine (composed s actions)) (event.Deliver x p)).turn.answer
-                  → Contains (held_at (process_of (step (machine (composed s actions)) (event.Deliver x p)).world q) e) y
-              by (inl there) = there
-              by (inr none) = absurd none
-
-    -- the machine's delivery is a receive
-    pub delivers : HasDelivery (machine (composed s actions)) → CanBe s actions (λ d. Stays named (composed s actions) d × (load_of (machine d) < load_of (machine (composed s actions))))
-    delivers has = by (done-means (node_of (machine (composed s actions)) has.to).down (node_of (machine (composed s actions)) has.to).dead (machine (composed s actions)).shape has.from has.to
-        (node_of (machine (composed s actions)) has.from) (node_of (machine (composed s actions)) has.to) (link (machine (composed s actions)) has.from has.to) has.done)
-      where
-        xin : IsProcess (composed s actions).group.shape has.from
-        xin = subst (λ (t : Dimensions). IsProcess t has.from) shape-machine has.may.0
-
-        pin : IsProcess (composed s actions).group.shape has.to
-        pin = subst (λ (t : Dimensions). IsProcess t has.to) shape-machine has.may.1
-
-        by : (is_dead (machine (composed s actions)) has.to ≡ false) × ((m : Message) × (rest : List Message) × (link (machine (composed s actions)) has.from has.to ≡ m ∷ rest))
-            → CanBe s actions (λ d. Stays named (composed s actions) d × (load_of (machine d) < load_of (machine (composed s actions))))
-        by (alive, (m, rest, there)) = received has.from has.to xin pin has.may.2 x_out p_out m rest (sym (same-wire has.from has.to xin pin has.may.2 x_out p_out) ∙ there)
-            (λ d. load_of (machine d) < load_of (machine (composed s actions)))
-            (subst (λ (w : World). load_of w < load_of (machine (composed s actions))) (sym (next-machine has.from has.to xin pin has.may.2 x_out p_out m rest (sym (same-wire has.from has.to xin pin has.may.2 x_out p_out) ∙ there)))
-            (deliveries_lower (composed s actions).group.shape (events_of (composed s actions)) made_run.run has.from has.to has.may has.done))
-          where
-            p_lives : (composed s actions).failed has.to ≡ false
-            p_lives = sym (made_run.dead has.to pin) ∙ alive
-
-            p_out : named has.to ≡ false
-            p_out = unnamed has.to pin p_lives
-
-            x_lives : (b : Bool) → (composed s actions).failed has.from ≡ b → (composed s actions).failed has.from ≡ false
-            x_lives false out_of = out_of
-            x_lives true so = absurd (cc (there, none)) where
-              none : link (machine (composed s actions)) has.from has.to ≡ []
-              none = made_run.notices has.from has.to xin so (record { member = pin; lives = p_lives }) ∙ ap (λ (b : Bool). one_or b [] (tells.Notice has.from ∷ [])) (taken has.to has.from pin p_out xin (failed-named has.from so))
-
-            x_out : named has.from ≡ false
-            x_out = unnamed has.from xin (x_lives ((composed s actions).failed has.from) refl)
-
-  -- as often as there is a delivery
-  pub drains : (n : ℕ) (actions : List Action) → AreActions s actions → OthersAreHere (composed s actions).group named → NamedAreTaken (composed s actions).group named → load_of (machine (composed s actions)) < n
-      → CanBe s actions (λ d. Stays named (composed s actions) d × IsDrained (machine d))
-  drains zero actions run others taken low = absurd (omega (arith, low))
-  drains (suc n) actions run others taken low =
-      by (deliveries_are_left (composed s actions).group.shape (events_of (composed s actions)) (runs_compose s actions run).run (runs_compose s actions run).up)
-      (λ more longer next. drains n (actions ++ more) longer next.0.others next.0.taken (let less = next.1 in omega (arith, less, low)))
-    where
-      by : IsDrained (machine (composed s actions)) ⊎ HasDelivery (machine (composed s actions))
-          → ((more : List Action) → AreActions s (actions ++ more) → Stays named (composed s actions) (composed s (actions ++ more)) × (load_of (machine (composed s (actions ++ more))) < load_of (machine (composed s actions)))
-          → CanBe s (actions ++ more) (λ d. Stays named (composed s (actions ++ more)) d × IsDrained (machine d)))
-          → CanBe s actions (λ d. Stays named (composed s actions) d × IsDrained (machine d))
-      by (inl drained) later = can-be Anyhow (λ d. Stays named (composed s actions) d × IsDrained (machine d)) s actions run
-          (reaches-here Anyhow (composed s actions) (λ d. Stays named (composed s actions) d × IsDrained (machine d)) tt (record { others = others; taken = taken; gateways = refl; words = refl; signs = refl; held = λ q e y qin holds. holds; shape = refl }, drained))
-      by (inr has) later = can-be-then (λ d. Stays named (composed s actions) d × (load_of (machine d) < load_of (machine (composed s actions)))) (λ d. Stays named (composed s actions) d × IsDrained (machine d)) s actions
-          (delivers actions run others taken has)
-          (λ more longer next. joined more next.0 (later more longer next))
-        where
-          joined : (more : List Action) → Stays named (composed s actions) (composed s (actions ++ more)) → CanBe s (actions ++ more) (λ d. Stays named (composed s (actions ++ more)) d × IsDrained (machine d))
-              → CanBe s (actions ++ more) (λ d. Stays named (composed s actions) d × IsDrained (machine d))
-          joined more first r = (
-            r.0,
-            r.1,
-            (record { others = r.2.0.others; taken = r.2.0.taken; gateways = r.2.0.gateways ∙ first.gateways; words = r.2.0.words ∙ first.words; signs = r.2.0.signs ∙ first.signs; held = λ q e y qin holds. r.2.0.held q e y (subst (λ (t : Dimensions). IsProcess t q) (sym first.shape) qin) (first.held q e y qin holds); shape = r.2.0.shape ∙ first.shape }, r.2.1),
-            r.3,
-          )
-
   -- then nothing is on the wires
   pub emptied : (before : Composed) (actions : List Action) (run : AreActions s actions) → OthersAreHere (composed s actions).group named → NamedAreTaken (composed s actions).group named
       → (composed s actions).group.gateways ≡ before.group.gateways → IsDrained (machine (composed s actions)) → IsEmptied before (composed s actions) named
   emptied before actions run others taken gateways drained = record {
     others = others;
     taken = taken;
-    wires = λ x p xin pin other x_out p_out. sym (same-wire actions run others taken x p xin pin other x_out p_out)
-        ∙ drained x p (subst (λ (t : Dimensions). IsProcess t x) (sym (shape-machine actions run others taken)) xin)
-        (subst (λ (t : Dimensions). IsProcess t p) (sym (shape-machine actions run others taken)) pin, (runs_compose s actions run).dead p pin ∙ lives actions run others taken p p_out) other;
+    wires = λ x p xin pin other x_out p_out. sym (same-wire s named one one_in one_out actions run others taken x p xin pin other x_out p_out)
+        ∙ drained x p (subst (λ (t : Dimensions). IsProcess t x) (sym (shape-machine s named one one_in one_out actions run others taken)) xin)
+        (subst (λ (t : Dimensions). IsProcess t p) (sym (shape-machine s named one one_in one_out actions run others taken)) pin, (runs_compose s actions run).dead p pin ∙ lives s named one one_in one_out actions run others taken p p_out) other;
     quiet = quiet_always (composed s actions).group.shape (events_of (composed s actions)) (runs_compose s actions run).run drained (runs_compose s actions run).up;
     calls = λ name op out. given name op out;
     gateways = gateways;
   } where
     given : (name : CallName) (op : Asked) → named (DataNode (home_of (key_of op.act) (composed s actions).group.shape.k)) ≡ false
         → IsGiven (ask_process (composed s actions).group.shape name op ((composed s actions).group.works.process (DataNode (home_of (key_of op.act) (composed s actions).group.shape.k)))).answer
-    given name op out = given-asked (composed s actions).group.shape name op d ((composed s actions).group.works.process (DataNode d)) first.head d first.heads log first.named where
-      d : ℕ
-      d = home_of (key_of op.act) (composed s actions).group.shape.k
+    given name op out = given-asked (composed s actions).group.shape name op d ((composed s actions).group.works.process (DataNode d)) head.0 d
+        (ap (λ (p : Process). head_at p d) same ∙ head.1) (ap (λ (p : Process). (replica_of p d).log) same ∙ head.2) (ap (λ (p : Process). p.name) same ∙ called)
+      where
+        d : ℕ
+        d = home_of (key_of op.act) (composed s actions).group.shape.k
 
-      below : d < (composed s actions).group.shape.k
-      below = home-below (key_of op.act) (composed s actions).group.shape.k ((whole s actions run).limits.k.0)
+        below : d < (composed s actions).group.shape.k
+        below = home-below (key_of op.act) (composed s actions).group.shape.k ((whole s actions run).limits.k.0)
 
-      alive : (composed s actions).failed (DataNode d) ≡ false
-      alive = lives actions run others taken (DataNode d) out
+        below-machine : d < (machine (composed s actions)).shape.k
+        below-machine = subst (λ (t : Dimensions). d < t.k) (sym (shape-machine s named one one_in one_out actions run others taken)) below
 
-      first : IsFirstHead d ((composed s actions).group.works.process (DataNode d))
-      first = subst (IsFirstHead d) ((whole s actions run).composes.mirrors.process (DataNode d) (below, alive))
-          (first-head (composed s actions).group.shape (events_of (composed s actions)) (runs_compose s actions run).run d below ((whole s actions run).composes.mirrors.dead (DataNode d) below ∙ alive))
+        alive : (composed s actions).failed (DataNode d) ≡ false
+        alive = lives s named one one_in one_out actions run others taken (DataNode d) out
 
-      quiet : IsQuiet (machine (composed s actions))
-      quiet = quiet_always (composed s actions).group.shape (events_of (composed s actions)) (runs_compose s actions run).run drained (runs_compose s actions run).up
+        same : (composed s actions).group.works.process (DataNode d) ≡ process_of (machine (composed s actions)) (DataNode d)
+        same = sym ((runs_compose s actions run).processes (DataNode d) (record { member = below; lives = alive }))
 
-      log : (replica_of ((composed s actions).group.works.process (DataNode d)) d).log ≡ []
-      log = ap (λ (p : Process). (replica_of p d).log) (sym ((runs_compose s actions run).processes (DataNode d) (record { member = below; lives = alive })))
-          ∙ (quiet.finished d 0 (subst (λ (t : Dimensions). d < t.k) (sym (shape-machine actions run others taken)) below)
-          (record { within = omega arith; lives = (runs_compose s actions run).dead (DataNode d) below ∙ alive; lowest = λ q low. absurd (omega (arith, low)) })).2
+        called : (process_of (machine (composed s actions)) (DataNode d)).name ≡ DataNode d
+        called = named-always (composed s actions).group.shape (events_of (composed s actions)) (runs_compose s actions run).run (DataNode d) below-machine
+
+        head : (h : Head) × (head_at (process_of (machine (composed s actions)) (DataNode d)) d ≡ Some h) × ((replica_of (process_of (machine (composed s actions)) (DataNode d)) d).log ≡ [])
+        head = (quiet_always (composed s actions).group.shape (events_of (composed s actions)) (runs_compose s actions run).run drained (runs_compose s actions run).up).finished d 0 below-machine
+            (record { within = omega arith; lives = (runs_compose s actions run).dead (DataNode d) below ∙ alive; lowest = λ q low. absurd (omega (arith, low)) })
 
   pub members-drained : (actions : List Action) → AreActions s actions → OthersAreHere (composed s actions).group named → CanBe s actions (λ c. IsEmptied (composed s actions) c named)
   members-drained actions run others =
       can-be-then (λ d. TakesNamed (composed s actions).group d.group named) (λ c. IsEmptied (composed s actions) c named) s actions (named_can_be_taken s actions named run others)
-      (λ more longer takes. done more takes.gateways (drains (suc (load_of (machine (composed s (actions ++ more))))) (actions ++ more) longer takes.others takes.taken (omega arith)))
+      (λ more longer takes. done more takes.gateways (drains s named one one_in one_out (suc (load_of (machine (composed s (actions ++ more))))) (actions ++ more) longer takes.others takes.taken (omega arith)))
     where
       done : (more : List Action) → (composed s (actions ++ more)).group.gateways ≡ (composed s actions).group.gateways
           → CanBe s (actions ++ more) (λ d. Stays named (composed s (actions ++ more)) d × IsDrained (machine d)) → CanBe s (actions ++ more) (λ c. IsEmptied (composed s actions) c named)

@@ -1,1 +1,2 @@
 pub mod Emptying
+pub mod Showing
