@@ -2,7 +2,7 @@
 use Rattle.std.proofs.Common.{◌≡◌, ℕ, ◌<◌, Bool, true, ◌==◌, ◌/◌, ◌%◌, ◌^◌, List, [], ◌∷◌, slice_index, get_or, bit_xor, refl, sym, ap, ◌∙◌, arith}
 use Rattle.std.proofs.lemmas.Bool.{agree_below, agree_below_at, eqb-true}
 use Rattle.crc32c.specs.Register.{shifted_by}
-use Rattle.crc32c.proofs.Shifting.{all_out}
+use Rattle.crc32c.proofs.Shifting.{low_out, sum_of_eight, all_out}
 use Rattle.crc32c.specs.declared.tables.TheConstants.{ONE, TWO, THREE, FOUR, FIVE, SIX, SEVEN, EIGHT}
 
 abbrev always : ℕ → Bool
@@ -90,45 +90,38 @@ eight_is n below = eqb-true _ _ (agree_below_at test_eight always 256 n eight_pa
 
 -- the tables of a register's bytes, the lowest first
 abbrev bytes_of : ℕ → List ℕ
-bytes_of w = w % 256 ∷ w / 256 % 256 ∷ w / 65536 % 256 ∷ w / 16777216 % 256 ∷ w / 4294967296 % 256 ∷ w / 1099511627776 % 256 ∷ w / 281474976710656 % 256 ∷ w / 72057594037927936 % 256 ∷ []
+bytes_of w =
+    w % 256 ∷ w / 256 % 256 ∷ w / 65536 % 256 ∷ w / 16777216 % 256 ∷ w / 4294967296 % 256 ∷ w / 1099511627776 % 256 ∷ w / 281474976710656 % 256 ∷ w / 72057594037927936 % 256 ∷ []
 
-sum_of_eight : (a b c d e f g h p q r s t u v w : ℕ) → a ≡ p → b ≡ q → c ≡ r → d ≡ s → e ≡ t → f ≡ u → g ≡ v → h ≡ w
-    → bit_xor (bit_xor (bit_xor (bit_xor (bit_xor (bit_xor (bit_xor a b) c) d) e) f) g) h ≡ bit_xor (bit_xor (bit_xor (bit_xor (bit_xor (bit_xor (bit_xor p q) r) s) t) u) v) w
-sum_of_eight a b c d e f g h p q r s t u v w is_a is_b is_c is_d is_e is_f is_g is_h = rw (is_a, is_b, is_c, is_d, is_e, is_f, is_g, is_h) refl
+same_sums : (a b c d e f g h p q r s t u v w : ℕ) → a ≡ p → b ≡ q → c ≡ r → d ≡ s → e ≡ t → f ≡ u → g ≡ v → h ≡ w
+    → sum_of_eight a b c d e f g h ≡ sum_of_eight p q r s t u v w
+same_sums a b c d e f g h p q r s t u v w is_a is_b is_c is_d is_e is_f is_g is_h = rw (is_a, is_b, is_c, is_d, is_e, is_f, is_g, is_h) refl
 
-pub tables_sum : (w : ℕ) (bytes : List ℕ) (eight seven six five four three two one : ℕ) → w < 2 ^ 64 → bytes ≡ bytes_of w
-    → eight ≡ slice_index EIGHT (get_or bytes 0 0)
-    → seven ≡ slice_index SEVEN (get_or bytes 1 0)
-    → six ≡ slice_index SIX (get_or bytes 2 0)
-    → five ≡ slice_index FIVE (get_or bytes 3 0)
-    → four ≡ slice_index FOUR (get_or bytes 4 0)
-    → three ≡ slice_index THREE (get_or bytes 5 0)
-    → two ≡ slice_index TWO (get_or bytes 6 0)
-    → one ≡ slice_index ONE (get_or bytes 7 0)
-    → bit_xor (bit_xor (bit_xor (bit_xor (bit_xor (bit_xor (bit_xor eight seven) six) five) four) three) two) one ≡ shifted_by 64 w
-tables_sum w bytes eight seven six five four three two one lt is_bytes is_eight is_seven is_six is_five is_four is_three is_two is_one =
-    let fits_eight : w % 256 < 256 = omega arith in
-    let same_eight : w % 256 ≡ w % 256 = refl in
-    let eight_out : eight ≡ shifted_by 64 (w % 256) = is_eight ∙ ap (λ b. slice_index EIGHT (get_or b 0 0)) is_bytes ∙ eight_is (w % 256) fits_eight ∙ ap (shifted_by 64) same_eight in
-    let fits_seven : w / 256 % 256 < 256 = omega arith in
-    let same_seven : w / 256 % 256 ≡ w / 256 % 256 = omega arith in
-    let seven_out : seven ≡ shifted_by 56 (w / 256 % 256) = is_seven ∙ ap (λ b. slice_index SEVEN (get_or b 1 0)) is_bytes ∙ seven_is (w / 256 % 256) fits_seven ∙ ap (shifted_by 56) same_seven in
-    let fits_six : w / 65536 % 256 < 256 = omega arith in
-    let same_six : w / 65536 % 256 ≡ w / 256 / 256 % 256 = omega arith in
-    let six_out : six ≡ shifted_by 48 (w / 256 / 256 % 256) = is_six ∙ ap (λ b. slice_index SIX (get_or b 2 0)) is_bytes ∙ six_is (w / 65536 % 256) fits_six ∙ ap (shifted_by 48) same_six in
-    let fits_five : w / 16777216 % 256 < 256 = omega arith in
-    let same_five : w / 16777216 % 256 ≡ w / 256 / 256 / 256 % 256 = omega arith in
-    let five_out : five ≡ shifted_by 40 (w / 256 / 256 / 256 % 256) = is_five ∙ ap (λ b. slice_index FIVE (get_or b 3 0)) is_bytes ∙ five_is (w / 16777216 % 256) fits_five ∙ ap (shifted_by 40) same_five in
-    let fits_four : w / 4294967296 % 256 < 256 = omega arith in
-    let same_four : w / 4294967296 % 256 ≡ w / 256 / 256 / 256 / 256 % 256 = omega arith in
-    let four_out : four ≡ shifted_by 32 (w / 256 / 256 / 256 / 256 % 256) = is_four ∙ ap (λ b. slice_index FOUR (get_or b 4 0)) is_bytes ∙ four_is (w / 4294967296 % 256) fits_four ∙ ap (shifted_by 32) same_four in
-    let fits_three : w / 1099511627776 % 256 < 256 = omega arith in
-    let same_three : w / 1099511627776 % 256 ≡ w / 256 / 256 / 256 / 256 / 256 % 256 = omega arith in
-    let three_out : three ≡ shifted_by 24 (w / 256 / 256 / 256 / 256 / 256 % 256) = is_three ∙ ap (λ b. slice_index THREE (get_or b 5 0)) is_bytes ∙ three_is (w / 1099511627776 % 256) fits_three ∙ ap (shifted_by 24) same_three in
-    let fits_two : w / 281474976710656 % 256 < 256 = omega arith in
-    let same_two : w / 281474976710656 % 256 ≡ w / 256 / 256 / 256 / 256 / 256 / 256 % 256 = omega arith in
-    let two_out : two ≡ shifted_by 16 (w / 256 / 256 / 256 / 256 / 256 / 256 % 256) = is_two ∙ ap (λ b. slice_index TWO (get_or b 6 0)) is_bytes ∙ two_is (w / 281474976710656 % 256) fits_two ∙ ap (shifted_by 16) same_two in
-    let fits_one : w / 72057594037927936 % 256 < 256 = omega arith in
-    let same_one : w / 72057594037927936 % 256 ≡ w / 256 / 256 / 256 / 256 / 256 / 256 / 256 % 256 = omega arith in
-    let one_out : one ≡ shifted_by 8 (w / 256 / 256 / 256 / 256 / 256 / 256 / 256 % 256) = is_one ∙ ap (λ b. slice_index ONE (get_or b 7 0)) is_bytes ∙ one_is (w / 72057594037927936 % 256) fits_one ∙ ap (shifted_by 8) same_one in
-    sum_of_eight _ _ _ _ _ _ _ _ _ _ _ _ _ _ _ _ eight_out seven_out six_out five_out four_out three_out two_out one_out ∙ sym (all_out w lt)
+-- the tables' entries of the bytes of a number
+pub record AreEntries (bytes : List ℕ) (eight seven six five four three two one : ℕ) : Type 0 where
+  pub is_eight : eight ≡ slice_index EIGHT (get_or bytes 0 0)
+  pub is_seven : seven ≡ slice_index SEVEN (get_or bytes 1 0)
+  pub is_six : six ≡ slice_index SIX (get_or bytes 2 0)
+  pub is_five : five ≡ slice_index FIVE (get_or bytes 3 0)
+  pub is_four : four ≡ slice_index FOUR (get_or bytes 4 0)
+  pub is_three : three ≡ slice_index THREE (get_or bytes 5 0)
+  pub is_two : two ≡ slice_index TWO (get_or bytes 6 0)
+  pub is_one : one ≡ slice_index ONE (get_or bytes 7 0)
+
+-- an entry of a table is its byte, shifted out
+entry_out : (table : List ℕ) (n byte b entry : ℕ) → ((i : ℕ) → i < 256 → slice_index table i ≡ shifted_by n i)
+    → entry ≡ slice_index table b → b ≡ byte % 256 → entry ≡ low_out n byte
+entry_out table n byte b entry is_table is_entry is_byte = is_entry ∙ ap (slice_index table) is_byte ∙ is_table (byte % 256) (omega arith)
+
+pub tables_sum : (w : ℕ) (bytes : List ℕ) (eight seven six five four three two one : ℕ) → w < 2 ^ 64 → bytes ≡ bytes_of w → AreEntries bytes eight seven six five four three two one
+    → sum_of_eight eight seven six five four three two one ≡ shifted_by 64 w
+tables_sum w bytes eight seven six five four three two one lt is_bytes e =
+    let eight_out : eight ≡ low_out 64 w = entry_out EIGHT 64 w _ eight eight_is e.is_eight (ap (λ b. get_or b 0 0) is_bytes) in
+    let seven_out : seven ≡ low_out 56 (w / 256) = entry_out SEVEN 56 (w / 256) _ seven seven_is e.is_seven (ap (λ b. get_or b 1 0) is_bytes) in
+    let six_out : six ≡ low_out 48 (w / 65536) = entry_out SIX 48 (w / 65536) _ six six_is e.is_six (ap (λ b. get_or b 2 0) is_bytes) in
+    let five_out : five ≡ low_out 40 (w / 16777216) = entry_out FIVE 40 (w / 16777216) _ five five_is e.is_five (ap (λ b. get_or b 3 0) is_bytes) in
+    let four_out : four ≡ low_out 32 (w / 4294967296) = entry_out FOUR 32 (w / 4294967296) _ four four_is e.is_four (ap (λ b. get_or b 4 0) is_bytes) in
+    let three_out : three ≡ low_out 24 (w / 1099511627776) = entry_out THREE 24 (w / 1099511627776) _ three three_is e.is_three (ap (λ b. get_or b 5 0) is_bytes) in
+    let two_out : two ≡ low_out 16 (w / 281474976710656) = entry_out TWO 16 (w / 281474976710656) _ two two_is e.is_two (ap (λ b. get_or b 6 0) is_bytes) in
+    let one_out : one ≡ low_out 8 (w / 72057594037927936) = entry_out ONE 8 (w / 72057594037927936) _ one one_is e.is_one (ap (λ b. get_or b 7 0) is_bytes) in
+    same_sums _ _ _ _ _ _ _ _ _ _ _ _ _ _ _ _ eight_out seven_out six_out five_out four_out three_out two_out one_out ∙ sym (all_out w lt)

@@ -3,12 +3,12 @@
 use Rattle.std.specs.Prelude.{ℕ, zero, suc, ◌*◌, ◌/◌, ◌%◌, List, [], ◌∷◌, bit_xor}
 
 -- a register shifted by one bit; where the bit that falls out was set, the polynomial is added
-abbrev pub shifted : ℕ → ℕ
-shifted register = bit_xor (register / 2) (register % 2 * 2197175160)
+abbrev pub shifted_once : ℕ → ℕ
+shifted_once register = bit_xor (register / 2) (register % 2 * 2197175160)
 
 unfoldable pub shifted_by : ℕ → ℕ → ℕ
 shifted_by zero register = register
-shifted_by (suc n) register = shifted_by n (shifted register)
+shifted_by (suc n) register = shifted_by n (shifted_once register)
 
 -- each byte is added to the register, which is shifted by its eight bits
 unfoldable pub after_bytes : ℕ → List ℕ → ℕ

@@ -17,7 +17,7 @@ use Rattle.wire_codec.proofs.Codes.{IsBytes, Took, Codes, TakesAs, codes_one, co
 use Rattle.wire_codec.proofs.Spelled.{codes_key}
 use Rattle.link_frames.specs.Limits.{FitsAct, FitsAsked, FitsItem, FitsRequest, FitsSigned, FitsValue}
 use Rattle.link_frames.specs.Spelling.{act_before, request_before, request_value, signed}
-use Rattle.link_frames.specs.Texts.{signed_at, value_at, touch_at, cas_at, item_at, acts, act_at, moment_at, asked_by, asked_at, ask_at, trace_at}
+use Rattle.link_frames.specs.Texts.{signed_at, value_at, touch_at, cas_at, item_at, act_table, act_at, moment_at, asked_by, op_at, ask_at, trace_at}
 use Rattle.link_frames.proofs.Fields.{again_as, codes_signed, codes_value}
 
 abbrev pub act : Act → List ℕ
@@ -65,7 +65,7 @@ takes_incr = takes_two act FitsAct (9 ∷ []) (λ a b. asks.Incr a b) codes_key 
 takes_decr : Spelled (10, of_two asks.Decr key_at (number_at w64))
 takes_decr = takes_two act FitsAct (10 ∷ []) (λ a b. asks.Decr a b) codes_key codes_eight (λ a b. append-nil (10 ∷ short a ++ eight b)) (λ a b p q. (p, q))
 
-all_acts : AllByRecursion Spelled acts
+all_acts : AllByRecursion Spelled act_table
 all_acts = (
   takes_keyed 0 (λ key. asks.Get key) (λ key. refl) (λ key is. is),
   (
@@ -88,34 +88,34 @@ again_keyed make key rest is = rw (codes_key.again key rest is) refl
 
 act_again : (a : Act) (rest : List ℕ) → FitsAct a → act_at (act a ++ rest) ≡ Some (a, rest)
 unfolding act_at touch_at cas_at
-act_again (asks.Get key) rest fits = again_as act acts 0 (made_at (λ k. asks.Get k) key_at) (asks.Get key) (short key) rest (append-nil (0 ∷ short key)) refl (again_keyed (λ k. asks.Get k) key rest fits)
+act_again (asks.Get key) rest fits = again_as act act_table 0 (made_at (λ k. asks.Get k) key_at) (asks.Get key) (short key) rest (append-nil (0 ∷ short key)) refl (again_keyed (λ k. asks.Get k) key rest fits)
 act_again (asks.Set key flags expiry value) rest fits =
-    again_as act acts 1 (item_at (λ a b c d. asks.Set a b c d)) (asks.Set key flags expiry value) (short key ++ four flags ++ signed expiry ++ long value) rest (same_item 1 key flags expiry value) refl
+    again_as act act_table 1 (item_at (λ a b c d. asks.Set a b c d)) (asks.Set key flags expiry value) (short key ++ four flags ++ signed expiry ++ long value) rest (same_item 1 key flags expiry value) refl
     (again_item 1 (λ a b c d. asks.Set a b c d) key flags expiry value rest fits)
 act_again (asks.Add key flags expiry value) rest fits =
-    again_as act acts 2 (item_at (λ a b c d. asks.Add a b c d)) (asks.Add key flags expiry value) (short key ++ four flags ++ signed expiry ++ long value) rest (same_item 2 key flags expiry value) refl
+    again_as act act_table 2 (item_at (λ a b c d. asks.Add a b c d)) (asks.Add key flags expiry value) (short key ++ four flags ++ signed expiry ++ long value) rest (same_item 2 key flags expiry value) refl
     (again_item 2 (λ a b c d. asks.Add a b c d) key flags expiry value rest fits)
 act_again (asks.Replace key flags expiry value) rest fits =
-    again_as act acts 3 (item_at (λ a b c d. asks.Replace a b c d)) (asks.Replace key flags expiry value) (short key ++ four flags ++ signed expiry ++ long value) rest (same_item 3 key flags expiry value) refl
+    again_as act act_table 3 (item_at (λ a b c d. asks.Replace a b c d)) (asks.Replace key flags expiry value) (short key ++ four flags ++ signed expiry ++ long value) rest (same_item 3 key flags expiry value) refl
     (again_item 3 (λ a b c d. asks.Replace a b c d) key flags expiry value rest fits)
 act_again (asks.Cas key flags expiry cas value) rest fits =
-    again_as act acts 4 (of_five (λ a b c d e. asks.Cas a b c d e) key_at (number_at w32) signed_at (number_at w64) value_at) (asks.Cas key flags expiry cas value) (short key ++ four flags ++ signed expiry ++ eight cas ++ long value) rest (same_cas key flags expiry cas value) refl
+    again_as act act_table 4 (of_five (λ a b c d e. asks.Cas a b c d e) key_at (number_at w32) signed_at (number_at w64) value_at) (asks.Cas key flags expiry cas value) (short key ++ four flags ++ signed expiry ++ eight cas ++ long value) rest (same_cas key flags expiry cas value) refl
     (again_five (λ a b c d e. asks.Cas a b c d e) codes_key codes_four codes_signed codes_eight codes_value key flags expiry cas value rest fits.0 fits.1 fits.2 fits.3 fits.4)
-act_again (asks.Delete key) rest fits = again_as act acts 5 (made_at (λ k. asks.Delete k) key_at) (asks.Delete key) (short key) rest (append-nil (5 ∷ short key)) refl (again_keyed (λ k. asks.Delete k) key rest fits)
+act_again (asks.Delete key) rest fits = again_as act act_table 5 (made_at (λ k. asks.Delete k) key_at) (asks.Delete key) (short key) rest (append-nil (5 ∷ short key)) refl (again_keyed (λ k. asks.Delete k) key rest fits)
 act_again (asks.Touch key expiry) rest fits =
-    again_as act acts 6 (of_two (λ a b. asks.Touch a b) key_at signed_at) (asks.Touch key expiry) (short key ++ signed expiry) rest (append-nil (6 ∷ short key ++ signed expiry)) refl (again_two (λ a b. asks.Touch a b) codes_key codes_signed key expiry rest fits.0 fits.1)
+    again_as act act_table 6 (of_two (λ a b. asks.Touch a b) key_at signed_at) (asks.Touch key expiry) (short key ++ signed expiry) rest (append-nil (6 ∷ short key ++ signed expiry)) refl (again_two (λ a b. asks.Touch a b) codes_key codes_signed key expiry rest fits.0 fits.1)
 act_again (asks.Append key value) rest fits =
-    again_as act acts 7 (of_two (λ a b. asks.Append a b) key_at value_at) (asks.Append key value) (short key ++ long value) rest (same_joined 7 key value) refl (again_two (λ a b. asks.Append a b) codes_key codes_value key value rest fits.0 fits.1)
+    again_as act act_table 7 (of_two (λ a b. asks.Append a b) key_at value_at) (asks.Append key value) (short key ++ long value) rest (same_joined 7 key value) refl (again_two (λ a b. asks.Append a b) codes_key codes_value key value rest fits.0 fits.1)
 act_again (asks.Prepend key value) rest fits =
-    again_as act acts 8 (of_two (λ a b. asks.Prepend a b) key_at value_at) (asks.Prepend key value) (short key ++ long value) rest (same_joined 8 key value) refl (again_two (λ a b. asks.Prepend a b) codes_key codes_value key value rest fits.0 fits.1)
+    again_as act act_table 8 (of_two (λ a b. asks.Prepend a b) key_at value_at) (asks.Prepend key value) (short key ++ long value) rest (same_joined 8 key value) refl (again_two (λ a b. asks.Prepend a b) codes_key codes_value key value rest fits.0 fits.1)
 act_again (asks.Incr key by) rest fits =
-    again_as act acts 9 (of_two (λ a b. asks.Incr a b) key_at (number_at w64)) (asks.Incr key by) (short key ++ eight by) rest (append-nil (9 ∷ short key ++ eight by)) refl (again_two (λ a b. asks.Incr a b) codes_key codes_eight key by rest fits.0 fits.1)
+    again_as act act_table 9 (of_two (λ a b. asks.Incr a b) key_at (number_at w64)) (asks.Incr key by) (short key ++ eight by) rest (append-nil (9 ∷ short key ++ eight by)) refl (again_two (λ a b. asks.Incr a b) codes_key codes_eight key by rest fits.0 fits.1)
 act_again (asks.Decr key by) rest fits =
-    again_as act acts 10 (of_two (λ a b. asks.Decr a b) key_at (number_at w64)) (asks.Decr key by) (short key ++ eight by) rest (append-nil (10 ∷ short key ++ eight by)) refl (again_two (λ a b. asks.Decr a b) codes_key codes_eight key by rest fits.0 fits.1)
+    again_as act act_table 10 (of_two (λ a b. asks.Decr a b) key_at (number_at w64)) (asks.Decr key by) (short key ++ eight by) rest (append-nil (10 ∷ short key ++ eight by)) refl (again_two (λ a b. asks.Decr a b) codes_key codes_eight key by rest fits.0 fits.1)
 
 codes_act : Codes act FitsAct act_at
 unfolding act_at
-codes_act = record { takes = tagged_takes act FitsAct acts all_acts; again = act_again }
+codes_act = record { takes = tagged_takes act FitsAct act_table all_acts; again = act_again }
 
 abbrev IsMoment : ℕ → Type 0
 IsMoment n = n ≤ 2 ^ 62
@@ -127,8 +127,8 @@ codes_moment = codes_tested eight IsEight IsMoment (number_at w64) (λ n. nat_le
 abbrev pub asked : Asked → List ℕ
 asked op = eight op.moment ++ act op.act
 
-codes_asked : Codes asked FitsAsked asked_at
-unfolding asked_at
+codes_asked : Codes asked FitsAsked op_at
+unfolding op_at
 codes_asked = record {
   takes = takes_two asked FitsAsked [] asked_by codes_moment codes_act (λ a b. refl) (λ a b p q. (p, q));
   again = λ op rest fits. again_two asked_by codes_moment codes_act op.moment op.act rest fits.0 fits.1;

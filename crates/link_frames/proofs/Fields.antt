@@ -10,8 +10,8 @@ use Rattle.wire_codec.specs.Reading.{Read, number_at, long_at, picked, tagged_at
 use Rattle.wire_codec.proofs.Codes.{IsBytes, Took, Codes, step, some_is, codes_eight, codes_tested, takes_given, tagged_takes}
 use Rattle.wire_codec.proofs.Spelled.{codes_long}
 use Rattle.link_frames.specs.Limits.{FitsSigned, FitsValue}
-use Rattle.link_frames.specs.Spelling.{signed, unsigned, flag}
-use Rattle.link_frames.specs.Texts.{signed_of, signed_at, value_at, flags_table, flag_at}
+use Rattle.link_frames.specs.Spelling.{signed, unsigned, flag_byte}
+use Rattle.link_frames.specs.Texts.{number_with_sign, signed_at, value_at, flag_table, flag_at}
 
 -- what a first byte tells is read again
 pub again_as : {X : Type 0} (spell : X → List ℕ) (table : List (ℕ × Read X)) (tag : ℕ) (read : Read X) (x : X) (text rest : List ℕ) → spell x ≡ tag ∷ text → picked table tag ≡ read → read (text ++ rest) ≡ Some (x, rest)
@@ -22,7 +22,7 @@ back_by : (b : Bool) (n : ℕ) → nat_lt n (2 ^ 63) ≡ b → n < 2 ^ 64 → un
 back_by true n is lt = refl
 back_by false n is lt = omega arith
 
-signed_back : (n : ℕ) → n < 2 ^ 64 → unsigned (signed_of n) ≡ n
+signed_back : (n : ℕ) → n < 2 ^ 64 → unsigned (number_with_sign n) ≡ n
 signed_back n lt = back_by (nat_lt n (2 ^ 63)) n refl lt
 
 fits_by : (b : Bool) (n : ℕ) → nat_lt n (2 ^ 63) ≡ b → n < 2 ^ 64 → FitsSigned (if b then pos n else negsuc (2 ^ 64 - 1 - n))
@@ -35,7 +35,7 @@ low_is n lt = grind (arith, nat_tests)
 high_is : (n : ℕ) → n < 2 ^ 63 → nat_lt (2 ^ 64 - 1 - n) (2 ^ 63) ≡ false
 high_is n lt = grind (arith, nat_tests)
 
-signed_again : (z : ℤ) → FitsSigned z → signed_of (unsigned z) ≡ z
+signed_again : (z : ℤ) → FitsSigned z → number_with_sign (unsigned z) ≡ z
 signed_again (pos n) lt = rw (low_is n lt) refl
 signed_again (negsuc n) lt =
     let back : 2 ^ 64 - 1 - (2 ^ 64 - 1 - n) ≡ n = omega (arith, lt) in
@@ -48,8 +48,8 @@ unsigned_lt (negsuc n) lt = omega (arith, lt)
 signed_takes : (bytes : List ℕ) (z : ℤ) (rest : List ℕ) → IsBytes bytes → signed_at bytes ≡ Some (z, rest) → Took signed FitsSigned bytes z rest
 unfolding signed_at
 signed_takes bytes z rest is e =
-    let s = step codes_eight (λ x. Some (signed_of x.0, x.1)) bytes (z, rest) is e in
-    subst (λ (p : ℤ × List ℕ). Took signed FitsSigned bytes p.0 p.1) (some_is (signed_of s.0.0, s.0.1) (z, rest) s.2) (record {
+    let s = step codes_eight (λ x. Some (number_with_sign x.0, x.1)) bytes (z, rest) is e in
+    subst (λ (p : ℤ × List ℕ). Took signed FitsSigned bytes p.0 p.1) (some_is (number_with_sign s.0.0, s.0.1) (z, rest) s.2) (record {
       parts = s.1.parts ∙ ap (λ (n : ℕ). eight n ++ s.0.1) (sym (signed_back s.0.0 s.1.fits));
       fits = fits_by (nat_lt s.0.0 (2 ^ 63)) s.0.0 refl s.1.fits;
       behind = s.1.behind;
@@ -69,14 +69,14 @@ codes_value = codes_tested long IsLong FitsValue long_at (λ value. nat_le (leng
 abbrev pub IsFlag : Bool → Type 0
 IsFlag b = Unit {0}
 
-flag_reads : (b : Bool) (rest : List ℕ) → IsFlag b → flag_at (flag b ++ rest) ≡ Some (b, rest)
+flag_reads : (b : Bool) (rest : List ℕ) → IsFlag b → flag_at (flag_byte b ++ rest) ≡ Some (b, rest)
 unfolding flag_at
 flag_reads true rest fits = refl
 flag_reads false rest fits = refl
 
-pub codes_flag : Codes flag IsFlag flag_at
+pub codes_flag : Codes flag_byte IsFlag flag_at
 unfolding flag_at
 codes_flag = record {
-  takes = tagged_takes flag IsFlag flags_table (takes_given flag IsFlag 0 false refl tt, (takes_given flag IsFlag 1 true refl tt, tt));
+  takes = tagged_takes flag_byte IsFlag flag_table (takes_given flag_byte IsFlag 0 false refl tt, (takes_given flag_byte IsFlag 1 true refl tt, tt));
   again = flag_reads;
 }

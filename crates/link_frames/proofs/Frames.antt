@@ -17,9 +17,9 @@ use Rattle.link_frames.specs.declared.frame.Frame.{Frame}
 use Rattle.link_frames.specs.declared.frame.Frame.TheVariants.{Message, Said, Ping, Pong, Request, Told}
 use Rattle.link_frames.specs.declared.frame.Frame.TheVariants as carries
 use Rattle.link_frames.specs.declared.hello.Hello.{Hello}
-use Rattle.link_frames.specs.Limits.{FitsLink, HasLink, IsNotice, IsOfGroup}
+use Rattle.link_frames.specs.Limits.{FitsLink, HasLink, IsNotice, NamesWithin}
 use Rattle.link_frames.specs.Spelling.{hello, link_before, link_text, link_value}
-use Rattle.link_frames.specs.Texts.{said_by, said_at, link_kinds, frame_at, to_end, carried, is_message, frame_in, hello_at, ask_at, trace_at, told_at}
+use Rattle.link_frames.specs.Texts.{said_names, said_at, link_kinds, frame_at, to_end, one_frame, is_message, frame_in, hello_at, ask_at, trace_at, telling_at}
 use Rattle.link_frames.proofs.Fields.{again_as}
 use Rattle.link_frames.proofs.Greetings.{codes_hello}
 use Rattle.link_frames.proofs.Acts.{asked, request, same_ask, same_trace, takes_ask, ask_again, takes_trace, trace_again}
@@ -50,7 +50,7 @@ codes_names s = codes_tested four IsFour (IsKnown s) (number_at w32) (λ names. 
 
 takes_said : (s : Dimensions) → Spelled s (12, said_at s)
 unfolding said_at
-takes_said s = takes_made own_text (Own s) (12 ∷ []) said_by (codes_names s) (λ n. append-nil (12 ∷ four n)) (λ n fits. (record { fits = fits.1; known = fits.0 }, tt))
+takes_said s = takes_made own_text (Own s) (12 ∷ []) said_names (codes_names s) (λ n. append-nil (12 ∷ four n)) (λ n fits. (record { fits = fits.1; known = fits.0 }, tt))
 
 takes_ping : (s : Dimensions) → Spelled s (13, made_at Ping (number_at w64))
 takes_ping s = takes_made own_text (Own s) (13 ∷ []) (λ n. Ping n) codes_eight (λ n. append-nil (13 ∷ eight n)) (λ n fits. (record { fits = fits; known = tt }, tt))
@@ -70,7 +70,7 @@ linked s tag read takes bytes r rest is e =
     let t = takes bytes r rest is e in
     record { parts = t.parts; fits = (record { fits = t.fits; known = tt }, tt); behind = t.behind }
 
-takes_told : (s : Dimensions) → Spelled s (17, made_at Told told_at)
+takes_told : (s : Dimensions) → Spelled s (17, made_at Told telling_at)
 takes_told s = takes_made own_text (Own s) (17 ∷ []) (λ t. Told t) codes_told (λ t. refl) (λ t fits. (record { fits = fits; known = tt }, tt))
 
 all_link_kinds : (s : Dimensions) → AllByRecursion (Spelled s) (link_kinds s)
@@ -90,14 +90,14 @@ unfolding frame_at said_at
 own_again s (Message m) rest own = absurd own.1
 own_again s (carries.Hello h) rest own = again_as own_text (link_kinds s) 11 (made_at (λ h. carries.Hello h) hello_at) (carries.Hello h) (hello h) rest (append-nil (11 ∷ hello h)) refl (frame_made (λ h. carries.Hello h) codes_hello h rest own.0.fits)
 own_again s (Said names) rest own =
-    again_as own_text (link_kinds s) 12 (made_at said_by (tested_at (λ names. nat_lt names (2 ^ processes_of s)) (number_at w32))) (Said names) (four names.0) rest (append-nil (12 ∷ four names.0)) refl (frame_made said_by (codes_names s) names.0 rest (own.0.known, own.0.fits))
+    again_as own_text (link_kinds s) 12 (made_at said_names (tested_at (λ names. nat_lt names (2 ^ processes_of s)) (number_at w32))) (Said names) (four names.0) rest (append-nil (12 ∷ four names.0)) refl (frame_made said_names (codes_names s) names.0 rest (own.0.known, own.0.fits))
 own_again s (Ping n) rest own = again_as own_text (link_kinds s) 13 (made_at (λ n. Ping n) (number_at w64)) (Ping n) (eight n) rest (append-nil (13 ∷ eight n)) refl (frame_made (λ n. Ping n) codes_eight n rest own.0.fits)
 own_again s (Pong n) rest own = again_as own_text (link_kinds s) 14 (made_at (λ n. Pong n) (number_at w64)) (Pong n) (eight n) rest (append-nil (14 ∷ eight n)) refl (frame_made (λ n. Pong n) codes_eight n rest own.0.fits)
 own_again s (Request (wire.AskFor caller call op)) rest own =
     again_as own_text (link_kinds s) 15 (made_at (λ r. Request r) ask_at) (Request (wire.AskFor caller call op)) (one caller ++ eight call ++ asked op) rest (same_ask caller call op) refl (rw (ask_again caller call op rest own.0.fits) refl)
 own_again s (Request (wire.TraceOf caller call d)) rest own =
     again_as own_text (link_kinds s) 16 (made_at (λ r. Request r) trace_at) (Request (wire.TraceOf caller call d)) (one caller ++ eight call ++ one d) rest (same_trace caller call d) refl (rw (trace_again caller call d rest own.0.fits) refl)
-own_again s (Told t) rest own = again_as own_text (link_kinds s) 17 (made_at (λ t. Told t) told_at) (Told t) (told t) rest refl refl (frame_made (λ t. Told t) codes_told t rest own.0.fits)
+own_again s (Told t) rest own = again_as own_text (link_kinds s) 17 (made_at (λ t. Told t) telling_at) (Told t) (told t) rest refl refl (frame_made (λ t. Told t) codes_told t rest own.0.fits)
 
 -- a message that isn't a notice has a kind below 10
 kind_below : (m : messages.Message) → (¬ (IsNotice m)) → nat_lt (kind_of m) 10 ≡ true
@@ -154,9 +154,9 @@ ended : (x : Frame × List ℕ) (f : Frame) → to_end x ≡ Some f → (x.0 ≡
 ended (g, []) f e = (some_is g f e, refl)
 ended (g, b ∷ rest) f e = absurd cc
 
-message_takes : (s : Dimensions) (text : List ℕ) (f : Frame) → IsBytes text → length text ≤ most → is_message text ≡ true → (message_of text >>= (λ m. carried (Message m))) ≡ Some f → (text ≡ link_text f) × HasLink s f
+message_takes : (s : Dimensions) (text : List ℕ) (f : Frame) → IsBytes text → length text ≤ most → is_message text ≡ true → (message_of text >>= (λ m. one_frame (Message m))) ≡ Some f → (text ≡ link_text f) × HasLink s f
 message_takes s text f is short kind e =
-    let b = bind_some (message_of text) (λ m. carried (Message m)) f e in
+    let b = bind_some (message_of text) (λ m. one_frame (Message m)) f e in
     let t = text_takes text b.0 is b.1 in
     let below : nat_lt (kind_of b.0) 10 ≡ true = ap is_message (sym t.0) ∙ kind in
     let has : HasFrame b.0 = record { fit = t.1; short = omega (arith, short, ap length t.0) } in
@@ -170,7 +170,7 @@ own_takes s text f is e =
     let whole : text ≡ own_text b.0.0 = t.parts ∙ ap (λ (rest : List ℕ). own_text b.0.0 ++ rest) last.1 ∙ append-nil (own_text b.0.0) in
     subst (λ (g : Frame). (text ≡ link_text g) × HasLink s g) last.0 (whole ∙ own_is_link b.0.0 t.fits.1, t.fits.0)
 
-takes_by : (b : Bool) (s : Dimensions) (text : List ℕ) (f : Frame) → is_message text ≡ b → IsBytes text → length text ≤ most → cond b (message_of text >>= (λ m. carried (Message m))) (frame_at s text >>= to_end) ≡ Some f → (text ≡ link_text f) × HasLink s f
+takes_by : (b : Bool) (s : Dimensions) (text : List ℕ) (f : Frame) → is_message text ≡ b → IsBytes text → length text ≤ most → cond b (message_of text >>= (λ m. one_frame (Message m))) (frame_at s text >>= to_end) ≡ Some f → (text ≡ link_text f) × HasLink s f
 takes_by true s text f kind is short e = message_takes s text f is short kind e
 takes_by false s text f kind is short e = own_takes s text f is e
 

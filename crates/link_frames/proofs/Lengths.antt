@@ -24,8 +24,8 @@ use Rattle.link_frames.specs.declared.frame.Frame.{Frame}
 use Rattle.link_frames.specs.declared.frame.Frame.TheVariants.{Message, Said, Ping, Pong, Request, Told}
 use Rattle.link_frames.specs.declared.frame.Frame.TheVariants as carries
 use Rattle.link_frames.specs.declared.hello.Hello.{Hello}
-use Rattle.link_frames.specs.Limits.{FitsAct, FitsAnswer, FitsLink, FitsReply, FitsRequest, FitsValue}
-use Rattle.link_frames.specs.Spelling.{act_before, answer_before, answer_value, cause, dimensions, flag, greeting, hello, link_before, link_behind, link_text, link_value, magic_word, reply_before, reply_value, request_before, request_value, signed, told_before}
+use Rattle.link_frames.specs.Limits.{FitsAct, FitsToldAnswer, FitsLink, FitsToldReply, FitsRequest, FitsValue}
+use Rattle.link_frames.specs.Spelling.{act_before, answer_before, answer_value, cause, dimensions, flag_byte, greeting, hello, link_before, link_behind, link_text, link_value, magic_word, reply_before, reply_value, request_before, request_value, signed, told_before}
 
 -- what stands before a value is short
 item_few : (tag : ℕ) (key : List ℕ) (flags : ℕ) (expiry : ℤ) (more : List ℕ) → IsKey key → length (tag ∷ short key ++ four flags ++ signed expiry ++ more) ≤ 264 + length more
@@ -62,7 +62,7 @@ request_few (wire.AskFor caller call op) fits =
     omega (arith, before, value, length-append (request_before (wire.AskFor caller call op)) (value_of op.act), length-append (one caller ++ eight call ++ eight op.moment) (act_before op.act))
 request_few (wire.TraceOf caller call d) fits = omega arith
 
-reply_few : (r : Reply) → FitsReply r → (length (reply_before r) ≤ 20) × (length (reply_value r) ≤ most_space)
+reply_few : (r : Reply) → FitsToldReply r → (length (reply_before r) ≤ 20) × (length (reply_value r) ≤ most_space)
 reply_few (says.Value item) fits = (omega arith, fits.2)
 reply_few says.Miss fits = (omega arith, omega arith)
 reply_few says.Stored fits = (omega arith, omega arith)
@@ -79,7 +79,7 @@ cause_few : (c : Cause) → length (cause c) ≤ 10
 cause_few (Pending d number) = omega arith
 cause_few (Block block) = omega arith
 
-answer_few : (a : Answer) → FitsAnswer a → (length (answer_before a) ≤ 21) × (length (answer_value a) ≤ most_space)
+answer_few : (a : Answer) → FitsToldAnswer a → (length (answer_before a) ≤ 21) × (length (answer_value a) ≤ most_space)
 answer_few (answers.Reply r) fits = let few = reply_few r fits in (let before = few.0 in omega (arith, before), few.1)
 answer_few (answers.Ticket n) fits = (omega arith, omega arith)
 answer_few answers.NotYet fits = (omega arith, omega arith)
@@ -95,7 +95,7 @@ answer_few answers.AlreadyDead fits = (omega arith, omega arith)
 answer_few answers.Gone fits = (omega arith, omega arith)
 answer_few (answers.Stale n) fits = (omega arith, omega arith)
 
-flag_one : (b : Bool) → length (flag b) ≡ 1
+flag_one : (b : Bool) → length (flag_byte b) ≡ 1
 flag_one true = refl
 flag_one false = refl
 
@@ -125,7 +125,7 @@ text_few (Told t) fits =
     let before = few.0 in
     let value = few.1 in
     let sum = length-append (17 ∷ told_before t) (answer_value t.answer) in
-    (omega (arith, sum), omega (arith, sum, before, value, length-append (one t.caller ++ eight t.call ++ flag t.traced) (answer_before t.answer), length-append (one t.caller ++ eight t.call) (flag t.traced), flag_one t.traced))
+    (omega (arith, sum), omega (arith, sum, before, value, length-append (one t.caller ++ eight t.call ++ flag_byte t.traced) (answer_before t.answer), length-append (one t.caller ++ eight t.call) (flag_byte t.traced), flag_one t.traced))
 
 -- a text is what stands before its value, the value, and what stands behind it
 pub link_parts : (f : Frame) → (link_before f ++ link_value f) ++ link_behind f ≡ link_text f

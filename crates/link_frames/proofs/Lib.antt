@@ -2,6 +2,7 @@ mod Acts
 mod Fields
 mod Frames
 mod Greetings
+mod Joins
 mod Lengths
 mod Sequences
 mod Tellings

@@ -9,7 +9,7 @@ use Rattle.wire_codec.specs.Stream.{announced, IsLength}
 use Rattle.wire_codec.proofs.Cuts.{announced-more}
 use Rattle.link_frames.specs.declared.frame.Frame.{Frame}
 use Rattle.link_frames.specs.Limits.{HasLink}
-use Rattle.link_frames.specs.Links.{link_frame, link_stream, HasNoFrame, IsCutShort, IsBroken, ReadsLink, frame_of_bytes}
+use Rattle.link_frames.specs.Links.{link_frame, link_stream, HasNoFrame, IsPartialFrame, IsBroken, ReadsLink, frame_of_bytes}
 use Rattle.link_frames.specs.Spelling.{link_text}
 use Rattle.link_frames.proofs.Whole.{length-link, link_fronts, frame_again}
 use Rattle.wire_codec.proofs.Codes.{some_is}

@@ -13,7 +13,7 @@ use Rattle.wire_codec.proofs.Codes.{IsBytes, IsBytes-drop, IsBytes-take, IsBytes
 use Rattle.wire_codec.proofs.Cuts.{announced-more}
 use Rattle.link_frames.specs.declared.frame.Frame.{Frame}
 use Rattle.link_frames.specs.Limits.{HasLink}
-use Rattle.link_frames.specs.Links.{summed, link_frame, IsLinkFrame, HasNoFrame, IsCutShort, IsBroken, sum_number, frame_of_bytes}
+use Rattle.link_frames.specs.Links.{summed, link_frame, IsLinkFrame, HasNoFrame, IsPartialFrame, IsBroken, sum_number, frame_of_bytes}
 use Rattle.link_frames.specs.Spelling.{link_text}
 use Rattle.link_frames.specs.Texts.{frame_in}
 use Rattle.link_frames.proofs.Frames.{link_again, link_takes}
@@ -61,7 +61,7 @@ link_fronts s bytes more f has e =
       in_range = (omega (arith, says, some), omega (arith, says, short));
     }
 
-pub short-none : (s : Dimensions) (rest : List ℕ) → IsCutShort rest → HasNoFrame s rest
+pub short-none : (s : Dimensions) (rest : List ℕ) → IsPartialFrame rest → HasNoFrame s rest
 short-none s rest partial f more has e =
     let l = link_fronts s rest more f has e in
     let there = l.there in
@@ -139,7 +139,7 @@ record LinkJoined (front piece : List ℕ) (len : ℕ) : Type 0 where
   whole : front ++ piece ≡ (front ++ take (8 + len - length front) piece) ++ drop (8 + len - length front) piece
   says : announced (front ++ take (8 + len - length front) piece) ≡ len
 
-link_joined : (front piece : List ℕ) (len : ℕ) → IsCutShort front → len ≡ announced (front ++ piece) → 8 + len ≤ length front + length piece → LinkJoined front piece len
+link_joined : (front piece : List ℕ) (len : ℕ) → IsPartialFrame front → len ≡ announced (front ++ piece) → 8 + len ≤ length front + length piece → LinkJoined front piece len
 link_joined front piece len partial said there =
     let t = 8 + len - length front in
     let shorter : length front ≤ 8 + len = elim (cases_lt (length front) 4) [
@@ -155,7 +155,7 @@ link_joined front piece len partial said there =
       says = sym (announced-more (front ++ take t piece) (drop t piece) (omega (arith, long))) ∙ ap announced (sym whole) ∙ sym said;
     }
 
-pub link-whole : (s : Dimensions) (front piece : List ℕ) (len : ℕ) (f : Frame) → IsBytes front → IsBytes piece → IsCutShort front → len ≡ announced (front ++ piece) → len ≤ most → 8 + len ≤ length front + length piece
+pub link-whole : (s : Dimensions) (front piece : List ℕ) (len : ℕ) (f : Frame) → IsBytes front → IsBytes piece → IsPartialFrame front → len ≡ announced (front ++ piece) → len ≤ most → 8 + len ≤ length front + length piece
     → frame_of_bytes s (front ++ take (8 + len - length front) piece) ≡ Some f → IsLinkFrame s (front ++ take (8 + len - length front) piece) f
 link-whole s front piece len f is_front is_piece partial said short there e =
     let j = link_joined front piece len partial said there in
@@ -164,7 +164,7 @@ link-whole s front piece len f is_front is_piece partial said short there e =
     let t = 8 + len - length front in
     spelled_link s (front ++ take t piece) f (IsBytes-append front (take t piece) is_front (IsBytes-take t piece is_piece)) (omega (arith, long, says)) (omega (arith, says, short)) e
 
-pub link-bad : (s : Dimensions) (front piece : List ℕ) (len : ℕ) → IsCutShort front → len ≡ announced (front ++ piece) → 8 + len ≤ length front + length piece
+pub link-bad : (s : Dimensions) (front piece : List ℕ) (len : ℕ) → IsPartialFrame front → len ≡ announced (front ++ piece) → 8 + len ≤ length front + length piece
     → frame_of_bytes s (front ++ take (8 + len - length front) piece) ≡ None → IsBroken s (front ++ piece)
 link-bad s front piece len partial said there e =
     let j = link_joined front piece len partial said there in

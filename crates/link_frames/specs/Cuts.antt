@@ -1,7 +1,8 @@
 -- What a reader keeps between pieces, and what it finds at the front of it and a piece.
-use Rattle.std.specs.Prelude.{ℕ, ◌≡◌, ◌≤◌, Bool, List, ◌++◌, length, take}
+use Rattle.std.specs.Prelude.{ℕ, ◌≡◌, ◌+◌, ◌-◌, ◌≤◌, Bool, List, ◌++◌, length}
 use Rattle.group_types.specs.Dimensions.{Dimensions}
-use Rattle.link_frames.specs.Links.{IsLinkFrame, IsCutShort, IsBroken}
+use Rattle.wire_codec.specs.Stream.{announced, IsLength}
+use Rattle.link_frames.specs.Links.{IsPartialFrame, IsBroken}
 use Rattle.link_frames.specs.declared.cut.LinkCut.{LinkCut}
 use Rattle.link_frames.specs.declared.cut.LinkCut.TheVariants.{Partial, Bad, Whole}
 
@@ -11,12 +12,13 @@ pub record Waiting : Type 0 where
   pub bad : Bool
   pub front : List ℕ
 
-abbrev pub IsTakenFrom : List ℕ → LinkCut → Type 0
-IsTakenFrom piece (Whole f taken) = taken ≤ length piece
-IsTakenFrom piece Partial = Unit {0}
-IsTakenFrom piece Bad = Unit {0}
+-- all bytes of a frame are there, as its first four say, with a sum behind them; the piece has the last of them
+pub record IsWholeCut (front piece : List ℕ) (taken : ℕ) : Type 0 where
+  pub in_range : IsLength (announced (front ++ piece))
+  pub there : 8 + announced (front ++ piece) ≤ length front + length piece
+  pub last : taken ≡ 8 + announced (front ++ piece) - length front
 
-abbrev pub IsLinkCut : Dimensions → List ℕ → List ℕ → LinkCut → Type 0
-IsLinkCut s front piece Partial = IsCutShort (front ++ piece)
-IsLinkCut s front piece Bad = IsBroken s (front ++ piece)
-IsLinkCut s front piece (Whole f taken) = IsLinkFrame s (front ++ take taken piece) f
+abbrev pub IsLinkCut : List ℕ → List ℕ → LinkCut → Type 0
+IsLinkCut front piece Partial = IsPartialFrame (front ++ piece)
+IsLinkCut front piece Bad = (s : Dimensions) → IsBroken s (front ++ piece)
+IsLinkCut front piece (Whole taken) = IsWholeCut front piece taken

@@ -56,24 +56,24 @@ abbrev pub FitsRequest : wire.Request → Type 0
 FitsRequest (wire.AskFor caller call op) = IsOne caller × IsEight call × FitsAsked op
 FitsRequest (wire.TraceOf caller call d) = IsOne caller × IsEight call × IsOne d
 
-abbrev pub FitsReply : Reply → Type 0
-FitsReply (says.Value item) = IsFour item.flags × IsEight item.cas × FitsValue item.value
-FitsReply (says.Number n) = IsEight n
-FitsReply _ = ⊤
+abbrev pub FitsToldReply : Reply → Type 0
+FitsToldReply (says.Value item) = IsFour item.flags × IsEight item.cas × FitsValue item.value
+FitsToldReply (says.Number n) = IsEight n
+FitsToldReply _ = ⊤
 
-abbrev pub FitsCause : Cause → Type 0
-FitsCause (Pending d number) = IsOne d.0 × IsEight number
-FitsCause (Block block) = IsFour block
+abbrev pub FitsToldCause : Cause → Type 0
+FitsToldCause (Pending d number) = IsOne d.0 × IsEight number
+FitsToldCause (Block block) = IsFour block
 
-abbrev pub FitsAnswer : Answer → Type 0
-FitsAnswer (answers.Reply reply) = FitsReply reply
-FitsAnswer (answers.Ticket call) = IsEight call
-FitsAnswer (answers.Retry why) = FitsCause why
-FitsAnswer (answers.Stale number) = IsEight number
-FitsAnswer _ = ⊤
+abbrev pub FitsToldAnswer : Answer → Type 0
+FitsToldAnswer (answers.Reply reply) = FitsToldReply reply
+FitsToldAnswer (answers.Ticket call) = IsEight call
+FitsToldAnswer (answers.Retry why) = FitsToldCause why
+FitsToldAnswer (answers.Stale number) = IsEight number
+FitsToldAnswer _ = ⊤
 
 abbrev pub FitsTold : wire.Told → Type 0
-FitsTold t = IsOne t.caller × IsEight t.call × FitsAnswer t.answer
+FitsTold t = IsOne t.caller × IsEight t.call × FitsToldAnswer t.answer
 
 abbrev pub IsNotice : messages.Message → Type 0
 IsNotice (Notice dead) = ⊤
@@ -90,11 +90,11 @@ FitsLink (Request r) = FitsRequest r
 FitsLink (Told t) = FitsTold t
 
 -- it names no process beyond those of the group
-abbrev pub IsOfGroup : Dimensions → Frame → Type 0
-IsOfGroup s (Said names) = names.0 < 2 ^ processes_of s
-IsOfGroup s _ = ⊤
+abbrev pub NamesWithin : Dimensions → Frame → Type 0
+NamesWithin s (Said names) = names.0 < 2 ^ processes_of s
+NamesWithin s _ = ⊤
 
 -- a link of a group of this shape may carry it
 pub record HasLink (s : Dimensions) (f : Frame) : Type 0 where
   pub fits : FitsLink f
-  pub known : IsOfGroup s f
+  pub known : NamesWithin s f

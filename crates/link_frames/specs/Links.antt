@@ -31,8 +31,8 @@ abbrev pub HasNoFrame : Dimensions → List ℕ → Type 0
 HasNoFrame s rest = (f : Frame) (more : List ℕ) → HasLink s f → ¬ (rest ≡ link_frame f ++ more)
 
 -- less than a frame: the four bytes of a length aren't there, or fewer bytes behind them than they say with their sum, in range
-abbrev pub IsCutShort : List ℕ → Type 0
-IsCutShort rest = 4 ≤ length rest → IsLength (announced rest) × (length rest < 8 + announced rest)
+abbrev pub IsPartialFrame : List ℕ → Type 0
+IsPartialFrame rest = 4 ≤ length rest → IsLength (announced rest) × (length rest < 8 + announced rest)
 
 -- a frame that is no spelling: its length is out of range, or all its bytes are there and are no frame with its sum
 pub record IsBroken (s : Dimensions) (rest : List ℕ) : Type 0 where

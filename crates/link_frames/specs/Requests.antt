@@ -4,6 +4,6 @@ use Rattle.group_wire.specs.State as wire
 use Rattle.link_frames.specs.declared.wish.Wish.{Wish}
 use Rattle.link_frames.specs.declared.wish.Wish.TheVariants.{Ask, Trace}
 
-abbrev pub request_of : ℕ → ℕ → Wish → wire.Request
-request_of caller call (Ask op) = wire.AskFor caller call op
-request_of caller call (Trace d) = wire.TraceOf caller call d.0
+abbrev pub wished_request : ℕ → ℕ → Wish → wire.Request
+wished_request caller call (Ask op) = wire.AskFor caller call op
+wished_request caller call (Trace d) = wire.TraceOf caller call d.0

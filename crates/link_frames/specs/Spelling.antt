@@ -33,9 +33,9 @@ greeting h = two h.version ++ (eight h.group.high ++ eight h.group.low) ++ dimen
 abbrev pub hello : Hello → List ℕ
 hello h = eight magic_word ++ greeting h
 
-abbrev pub flag : Bool → List ℕ
-flag false = 0 ∷ []
-flag true = 1 ∷ []
+abbrev pub flag_byte : Bool → List ℕ
+flag_byte false = 0 ∷ []
+flag_byte true = 1 ∷ []
 
 -- a number with a sign, in two's complement
 abbrev pub unsigned : ℤ → ℕ
@@ -111,7 +111,7 @@ answer_value (answers.Reply reply) = reply_value reply
 answer_value _ = []
 
 abbrev pub told_before : wire.Told → List ℕ
-told_before t = one t.caller ++ eight t.call ++ flag t.traced ++ answer_before t.answer
+told_before t = one t.caller ++ eight t.call ++ flag_byte t.traced ++ answer_before t.answer
 
 -- what stands before the value of a frame, the value, and what stands behind it
 abbrev pub link_before : Frame → List ℕ

@@ -23,20 +23,20 @@ use Rattle.link_frames.specs.declared.frame.Frame.TheVariants as carries
 use Rattle.link_frames.specs.Spelling.{magic_word}
 
 -- a number of 64 bits as one with a sign
-abbrev pub signed_of : ℕ → ℤ
-signed_of n = if nat_lt n (2 ^ 63) then pos n else negsuc (2 ^ 64 - 1 - n)
+abbrev pub number_with_sign : ℕ → ℤ
+number_with_sign n = if nat_lt n (2 ^ 63) then pos n else negsuc (2 ^ 64 - 1 - n)
 
 unfoldable pub signed_at : Read ℤ
-signed_at = made_at signed_of (number_at w64)
+signed_at = made_at number_with_sign (number_at w64)
 
 unfoldable pub value_at : Read (List ℕ)
 value_at = tested_at (λ value. nat_le (length value) most_space) long_at
 
-abbrev pub flags_table : List (ℕ × Read Bool)
-flags_table = (0, given false) ∷ (1, given true) ∷ []
+abbrev pub flag_table : List (ℕ × Read Bool)
+flag_table = (0, given false) ∷ (1, given true) ∷ []
 
 unfoldable pub flag_at : Read Bool
-flag_at = tagged_at flags_table
+flag_at = tagged_at flag_table
 
 -- whether a shape is within its limits
 abbrev pub passes_shape : Dimensions → Bool
@@ -74,12 +74,12 @@ cas_at = of_five asks.Cas key_at (number_at w32) signed_at (number_at w64) value
 abbrev pub item_at : (List ℕ → ℕ → ℤ → List ℕ → Act) → Read Act
 item_at make = of_four make key_at (number_at w32) signed_at value_at
 
-abbrev pub acts : List (ℕ × Read Act)
-acts = (0, made_at asks.Get key_at) ∷ (1, item_at asks.Set) ∷ (2, item_at asks.Add) ∷ (3, item_at asks.Replace) ∷ (4, cas_at) ∷ (5, made_at asks.Delete key_at) ∷ (6, touch_at)
+abbrev pub act_table : List (ℕ × Read Act)
+act_table = (0, made_at asks.Get key_at) ∷ (1, item_at asks.Set) ∷ (2, item_at asks.Add) ∷ (3, item_at asks.Replace) ∷ (4, cas_at) ∷ (5, made_at asks.Delete key_at) ∷ (6, touch_at)
     ∷ (7, of_two asks.Append key_at value_at) ∷ (8, of_two asks.Prepend key_at value_at) ∷ (9, of_two asks.Incr key_at (number_at w64)) ∷ (10, of_two asks.Decr key_at (number_at w64)) ∷ []
 
 unfoldable pub act_at : Read Act
-act_at = tagged_at acts
+act_at = tagged_at act_table
 
 unfoldable pub moment_at : Read ℕ
 moment_at = tested_at (λ moment. nat_le moment (2 ^ 62)) (number_at w64)
@@ -87,60 +87,60 @@ moment_at = tested_at (λ moment. nat_le moment (2 ^ 62)) (number_at w64)
 abbrev pub asked_by : ℕ → Act → Asked
 asked_by moment act = record { moment = moment; act = act }
 
-unfoldable pub asked_at : Read Asked
-asked_at = of_two asked_by moment_at act_at
+unfoldable pub op_at : Read Asked
+op_at = of_two asked_by moment_at act_at
 
 unfoldable pub ask_at : Read wire.Request
-ask_at = of_three wire.AskFor one_at (number_at w64) asked_at
+ask_at = of_three wire.AskFor one_at (number_at w64) op_at
 
 unfoldable pub trace_at : Read wire.Request
 trace_at = of_three wire.TraceOf one_at (number_at w64) one_at
 
-abbrev pub shown_by : ℕ → ℕ → List ℕ → Reply
-shown_by flags cas value = says.Value (record { flags = flags; cas = cas; value = value })
+abbrev pub value_reply : ℕ → ℕ → List ℕ → Reply
+value_reply flags cas value = says.Value (record { flags = flags; cas = cas; value = value })
 
-unfoldable pub shown_at : Read Reply
-shown_at = of_three shown_by (number_at w32) (number_at w64) value_at
+unfoldable pub value_reply_at : Read Reply
+value_reply_at = of_three value_reply (number_at w32) (number_at w64) value_at
 
-abbrev pub replies : List (ℕ × Read Reply)
-replies = (0, shown_at) ∷ (1, given says.Miss) ∷ (2, given says.Stored) ∷ (3, given says.NotStored) ∷ (4, given says.Exists) ∷ (5, given says.NotFound) ∷ (6, given says.Deleted) ∷ (7, given says.Touched)
+abbrev pub reply_table : List (ℕ × Read Reply)
+reply_table = (0, value_reply_at) ∷ (1, given says.Miss) ∷ (2, given says.Stored) ∷ (3, given says.NotStored) ∷ (4, given says.Exists) ∷ (5, given says.NotFound) ∷ (6, given says.Deleted) ∷ (7, given says.Touched)
     ∷ (8, made_at says.Number (number_at w64)) ∷ (9, given says.NotNumber) ∷ (10, given says.TooLarge) ∷ []
 
 unfoldable pub reply_at : Read Reply
-reply_at = tagged_at replies
+reply_at = tagged_at reply_table
 
 abbrev pub pending_by : ℕ → ℕ → Cause
 pending_by d number = Pending (record { 0 = d }) number
 
-abbrev pub causes : List (ℕ × Read Cause)
-causes = (0, of_two pending_by one_at (number_at w64)) ∷ (1, made_at Block (number_at w32)) ∷ []
+abbrev pub cause_table : List (ℕ × Read Cause)
+cause_table = (0, of_two pending_by one_at (number_at w64)) ∷ (1, made_at Block (number_at w32)) ∷ []
 
 unfoldable pub cause_at : Read Cause
-cause_at = tagged_at causes
+cause_at = tagged_at cause_table
 
 abbrev pub answer_table : List (ℕ × Read Answer)
 answer_table = (0, made_at answers.Reply reply_at) ∷ (1, made_at answers.Ticket (number_at w64)) ∷ (2, given answers.NotYet) ∷ (3, given answers.NoSpace) ∷ (4, made_at answers.Retry cause_at) ∷ (5, given answers.Moved)
     ∷ (6, given answers.Lost) ∷ (7, given answers.Down) ∷ (8, given answers.Idle) ∷ (9, given answers.Stranger) ∷ (10, given answers.Done) ∷ (11, given answers.AlreadyDead) ∷ (12, given answers.Gone)
     ∷ (13, made_at answers.Stale (number_at w64)) ∷ []
 
-unfoldable pub answer_at : Read Answer
-answer_at = tagged_at answer_table
+unfoldable pub told_answer_at : Read Answer
+told_answer_at = tagged_at answer_table
 
-abbrev pub told_by : ℕ → ℕ → Bool → Answer → wire.Told
-told_by caller call traced answer = record { caller = caller; call = call; traced = traced; answer = answer }
+abbrev pub telling_of : ℕ → ℕ → Bool → Answer → wire.Told
+telling_of caller call traced answer = record { caller = caller; call = call; traced = traced; answer = answer }
 
-unfoldable pub told_at : Read wire.Told
-told_at = of_four told_by one_at (number_at w64) flag_at answer_at
+unfoldable pub telling_at : Read wire.Told
+telling_at = of_four telling_of one_at (number_at w64) flag_at told_answer_at
 
-abbrev pub said_by : ℕ → Frame
-said_by names = Said (record { 0 = names })
+abbrev pub said_names : ℕ → Frame
+said_names names = Said (record { 0 = names })
 
 unfoldable pub said_at : Dimensions → Read Frame
-said_at s = made_at said_by (tested_at (λ names. nat_lt names (2 ^ processes_of s)) (number_at w32))
+said_at s = made_at said_names (tested_at (λ names. nat_lt names (2 ^ processes_of s)) (number_at w32))
 
 -- the kinds that are not messages
 abbrev pub link_kinds : Dimensions → List (ℕ × Read Frame)
-link_kinds s = (11, made_at carries.Hello hello_at) ∷ (12, said_at s) ∷ (13, made_at Ping (number_at w64)) ∷ (14, made_at Pong (number_at w64)) ∷ (15, made_at Request ask_at) ∷ (16, made_at Request trace_at) ∷ (17, made_at Told told_at) ∷ []
+link_kinds s = (11, made_at carries.Hello hello_at) ∷ (12, said_at s) ∷ (13, made_at Ping (number_at w64)) ∷ (14, made_at Pong (number_at w64)) ∷ (15, made_at Request ask_at) ∷ (16, made_at Request trace_at) ∷ (17, made_at Told telling_at) ∷ []
 
 unfoldable pub frame_at : Dimensions → Read Frame
 frame_at s = tagged_at (link_kinds s)
@@ -150,8 +150,8 @@ abbrev pub to_end : {A : Type 0} → A × List ℕ → Option A
 to_end (x, []) = Some x
 to_end (x, b ∷ rest) = None
 
-abbrev pub carried : Frame → Option Frame
-carried f = Some f
+abbrev pub one_frame : Frame → Option Frame
+one_frame f = Some f
 
 -- the frame that a text is: below 10 a message's
 abbrev pub is_message : List ℕ → Bool
@@ -159,4 +159,4 @@ is_message [] = false
 is_message (kind ∷ fields) = nat_lt kind 10
 
 unfoldable pub frame_in : Dimensions → List ℕ → Option Frame
-frame_in s text = if is_message text then message_of text >>= (λ m. carried (Message m)) else frame_at s text >>= to_end
+frame_in s text = if is_message text then message_of text >>= (λ m. one_frame (Message m)) else frame_at s text >>= to_end

@@ -4,7 +4,7 @@ ghost use Rattle.std.specs.List.{AllByRecursion};
 ghost use Rattle.group_types.specs.Dimensions.{Dimensions};
 ghost use Rattle.link_frames.specs.declared.frame.Frame.{Frame};
 ghost use Rattle.link_frames.specs.Limits.{HasLink};
-ghost use Rattle.link_frames.specs.Links.{HasNoFrame, IsBroken, IsCutShort, IsLinkFrame, ReadsLink, link_stream};
+ghost use Rattle.link_frames.specs.Links.{HasNoFrame, IsBroken, IsPartialFrame, IsLinkFrame, ReadsLink, link_stream};
 
 /// No frame is the front of another, and no bytes are two frames.
 pub fn no_link_frame_begins_another()
@@ -19,7 +19,7 @@ pub fn link_stream_reads_once()
     ensures once { (s : Dimensions) (input rest left : List ℕ) (frames others : List Frame) → ReadsLink s input frames rest
         → HasNoFrame s rest → ReadsLink s input others left → HasNoFrame s left
         → (frames ≡ others) × (rest ≡ left) }
-    ensures partial { (s : Dimensions) (rest : List ℕ) → IsCutShort rest → HasNoFrame s rest }
+    ensures partial { (s : Dimensions) (rest : List ℕ) → IsPartialFrame rest → HasNoFrame s rest }
     ensures broken { (s : Dimensions) (rest : List ℕ) → IsBroken s rest → HasNoFrame s rest }
 {}
 

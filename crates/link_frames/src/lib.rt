@@ -4,8 +4,12 @@
 #![tactic(auto)]
 
 mod cut;
+mod fits_act;
+mod fits_number;
+mod fits_told;
 mod frame;
 mod hello;
+mod joining;
 mod keeping;
 pub mod laws;
 mod put_act;
@@ -18,6 +22,7 @@ mod take_act;
 mod take_answer;
 mod take_frame;
 mod take_hello;
+mod take_value;
 mod told;
 mod wish;
 mod writing;

@@ -1,8 +1,8 @@
 ghost use Rattle.std.specs.Prelude.{◌≡◌, ◌∷◌, ◌++◌, [], ◌<◌, OnOk};
-ghost use Rattle.link_frames.specs.Limits.{FitsAnswer, FitsCause, FitsReply, FitsTold};
+ghost use Rattle.link_frames.specs.Limits.{FitsToldAnswer, FitsToldCause, FitsToldReply, FitsTold};
 ghost use Rattle.wire_codec.specs.Frame.{eight};
 ghost use Rattle.link_frames.specs.Spelling as spec;
-ghost use Rattle.link_frames.specs.Spelling.{answer_before, flag, reply_before, told_before};
+ghost use Rattle.link_frames.specs.Spelling.{answer_before, flag_byte, reply_before, told_before};
 
 use crate::put_act::{put_call, put_length};
 use crate::told::Told;
@@ -22,13 +22,13 @@ pub(crate) fn put_told(out: &mut Vec<u8>, told: &Told) -> Result<(), AllocError>
 }
 
 fn put_flag(out: &mut Vec<u8>, is_set: bool) -> Result<(), AllocError>
-    ensures { OnOk result (out.new.items ≡ out.old.items ++ flag is_set) }
+    ensures { OnOk result (out.new.items ≡ out.old.items ++ flag_byte is_set) }
 {
     put_one(out, if is_set { 1 } else { 0 })
 }
 
 fn put_answer(out: &mut Vec<u8>, answer: &Answer) -> Result<(), AllocError>
-    requires { FitsAnswer answer.now }
+    requires { FitsToldAnswer answer.now }
     ensures { OnOk result (out.new.items ≡ out.old.items ++ answer_before answer.now) }
 {
     match answer {
@@ -65,7 +65,7 @@ fn put_numbered(out: &mut Vec<u8>, variant: u32, number: u64) -> Result<(), Allo
 }
 
 fn put_cause(out: &mut Vec<u8>, cause: &Cause) -> Result<(), AllocError>
-    requires { FitsCause cause.now }
+    requires { FitsToldCause cause.now }
     ensures { OnOk result (out.new.items ≡ out.old.items ++ spec.cause cause.now) }
 {
     match cause {
@@ -82,7 +82,7 @@ fn put_cause(out: &mut Vec<u8>, cause: &Cause) -> Result<(), AllocError>
 }
 
 fn put_reply(out: &mut Vec<u8>, reply: &Reply) -> Result<(), AllocError>
-    requires { FitsReply reply.now }
+    requires { FitsToldReply reply.now }
     ensures { OnOk result (out.new.items ≡ out.old.items ++ reply_before reply.now) }
 {
     match reply {

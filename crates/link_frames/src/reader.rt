@@ -2,11 +2,13 @@ ghost use Rattle.std.specs.Prelude.{◌≡◌, ◌↔◌, ◌<◌, ◌+◌, ◌+
 ghost use Rattle.wire_codec.specs.Fits.{most};
 ghost use Rattle.link_frames.specs.Links.{IsBroken};
 
-use crate::cut::{LinkCut, first_link};
+use crate::cut::{LinkCut, first_cut};
 use crate::frame::Frame;
+use crate::joining::whole_frame;
 use group_types::Shape;
 use std::alloc::{AllocError, Global};
 use std::marker::Model;
+use wire_codec::fields::ReadFault;
 
 /// Why no frame was given: the one that is due is no spelling of one of the group's frames with its sum, or there was no memory.
 #[derive(Clone, Copy, Debug, PartialEq, Eq)]
@@ -44,14 +46,14 @@ pub struct LinkReader {
 }
 
 impl Model for LinkReader {
-    ghost use Rattle.link_frames.specs.Links.{IsCutShort};
+    ghost use Rattle.link_frames.specs.Links.{IsPartialFrame};
     ghost use Rattle.link_frames.specs.Cuts.{Waiting};
 
     ghost Value = { Waiting };
 
     ghost view = { λ r. record { shape = r.shape; bad = r.bad; front = r.front.items } };
 
-    ghost invariant = { λ r. IsCutShort r.front.items };
+    ghost invariant = { λ r. IsPartialFrame r.front.items };
 }
 
 impl LinkReader {
@@ -83,7 +85,7 @@ impl LinkReader {
         if self.bad {
             return Err(LinkFault::BadFrame);
         }
-        match first_link(self.alloc, self.shape, &self.front, piece)? {
+        match first_cut(&self.front, piece) {
             LinkCut::Partial => {
                 self.front.extend_from_slice(piece)?;
                 Ok(Next::Partial)
@@ -92,9 +94,15 @@ impl LinkReader {
                 self.bad = true;
                 Err(LinkFault::BadFrame)
             }
-            LinkCut::Whole { frame, taken } => {
-                self.front.clear();
-                Ok(Next::Whole { frame, taken })
+            LinkCut::Whole { taken } => {
+                match whole_frame(self.alloc, self.shape, &mut self.front, piece, taken) {
+                    Ok(frame) => Ok(Next::Whole { frame, taken }),
+                    Err(ReadFault::NoSpelling) => {
+                        self.bad = true;
+                        Err(LinkFault::BadFrame)
+                    }
+                    Err(ReadFault::Want) => Err(LinkFault::Want),
+                }
             }
         }
     }

@@ -1,5 +1,5 @@
 ghost use Rattle.std.specs.Prelude.{◌≡◌};
-ghost use Rattle.link_frames.specs.Requests.{request_of};
+ghost use Rattle.link_frames.specs.Requests.{wished_request};
 
 use crate::wish::Wish;
 use std::marker::Model;
@@ -14,23 +14,23 @@ pub struct Request {
 
 impl Model for Request {
     ghost use Rattle.group_wire.specs.State as wire;
-    ghost use Rattle.link_frames.specs.Requests.{request_of};
+    ghost use Rattle.link_frames.specs.Requests.{wished_request};
 
     ghost Value = { wire.Request };
 
-    ghost view = { λ r. request_of r.caller r.call r.wish };
+    ghost view = { λ r. wished_request r.caller r.call r.wish };
 }
 
 impl Request {
     pub fn new(caller: u32, call: u64, wish: Wish) -> Request
-        ensures { result ≡ request_of caller call wish }
+        ensures { result ≡ wished_request caller call wish }
     {
         Request { caller, call, wish }
     }
 
     /// The caller, the position of its call, and what is asked.
     pub fn parts(&self) -> (u32, u64, &Wish)
-        ensures { self.now ≡ request_of result.0 result.1 result.2.now }
+        ensures { self.now ≡ wished_request result.0 result.1 result.2.now }
     {
         (self.caller, self.call, &self.wish)
     }

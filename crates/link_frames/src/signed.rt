@@ -3,7 +3,7 @@ ghost use Rattle.std.specs.Prelude.{◌≡◌, ◌++◌, OnOk};
 ghost use Rattle.wire_codec.specs.Reading.{Gives};
 ghost use Rattle.link_frames.specs.Spelling as spelling;
 ghost use Rattle.link_frames.specs.Spelling.{signed};
-ghost use Rattle.link_frames.specs.Texts.{signed_of, signed_at};
+ghost use Rattle.link_frames.specs.Texts.{number_with_sign, signed_at};
 
 use std::alloc::AllocError;
 use wire_codec::fields::{ReadFault, put_eight, take_eight};
@@ -19,7 +19,7 @@ fn unsigned(z: i64) -> u64
 }
 
 fn with_sign(n: u64) -> i64
-    ensures { result ≡ signed_of n }
+    ensures { result ≡ number_with_sign n }
 {
     if n < 1 << 63 {
         n as i64

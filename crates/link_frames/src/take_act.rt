@@ -2,15 +2,16 @@ ghost use Rattle.std.specs.Prelude.{◌≡◌, ◌≤◌, ◌^◌, IfOk};
 ghost use Rattle.memc_table.specs.declared.act.Act.TheVariants as asks;
 ghost use Rattle.wire_codec.specs.Reading.{Gives, of_two, key_at, number_at};
 ghost use Rattle.std.specs.Int.{w64};
-ghost use Rattle.link_frames.specs.Texts.{act_at, ask_at, asked_at, cas_at, item_at, moment_at, touch_at, trace_at, value_at};
+ghost use Rattle.link_frames.specs.Texts.{act_at, ask_at, op_at, cas_at, item_at, moment_at, touch_at, trace_at, value_at};
 
 use crate::request::Request;
 use crate::signed::take_signed;
+use crate::take_value::take_value;
 use crate::wish::Wish;
-use group_types::{Partition, Payload};
+use group_types::Partition;
 use memc_table::{Act, Op};
 use std::alloc::Global;
-use wire_codec::fields::{ReadFault, take_eight, take_four, take_key, take_long, take_one};
+use wire_codec::fields::{ReadFault, take_eight, take_four, take_key, take_one};
 
 /// An ask, behind its kind.
 #[tactic(auto, unfolding(crate::specs::Texts::ask_at))]
@@ -34,9 +35,9 @@ pub(crate) fn take_trace(bytes: &[u8]) -> Result<(Request, &[u8]), ReadFault>
     Ok((Request::new(caller, call, Wish::Trace(Partition(d))), rest))
 }
 
-#[tactic(auto, unfolding(crate::specs::Texts::asked_at))]
+#[tactic(auto, unfolding(crate::specs::Texts::op_at))]
 fn take_op(alloc: Global, bytes: &[u8]) -> Result<(Op, &[u8]), ReadFault>
-    ensures { Gives (λ x. (x.0, x.1.now)) result (asked_at bytes.now) }
+    ensures { Gives (λ x. (x.0, x.1.now)) result (op_at bytes.now) }
 {
     let (moment, rest) = take_moment(bytes)?;
     let (act, rest) = take_act(alloc, rest)?;
@@ -188,23 +189,4 @@ fn take_decr(alloc: Global, bytes: &[u8]) -> Result<(Act, &[u8]), ReadFault>
     let (key, rest) = take_key(alloc, bytes)?;
     let (by, rest) = take_eight(rest)?;
     Ok((Act::Decr { key, by }, rest))
-}
-
-/// A value, with its length before it.
-pub(crate) fn take_value(alloc: Global, bytes: &[u8]) -> Result<(Payload, &[u8]), ReadFault>
-    ensures { Gives (λ x. (x.0, x.1.now)) result (value_at bytes.now) }
-{
-    let (value, rest) = take_short_of_space(bytes)?;
-    Ok((Payload::of(alloc, value)?, rest))
-}
-
-#[tactic(auto, unfolding(crate::specs::Texts::value_at))]
-fn take_short_of_space(bytes: &[u8]) -> Result<(&[u8], &[u8]), ReadFault>
-    ensures { Gives (λ x. (x.0.now, x.1.now)) result (value_at bytes.now) }
-{
-    let (value, rest) = take_long(bytes)?;
-    if value.len() > 67_108_864 {
-        return Err(ReadFault::NoSpelling);
-    }
-    Ok((value, rest))
 }

@@ -1,8 +1,8 @@
 ghost use Rattle.std.specs.Prelude.{◌≡◌};
 ghost use Rattle.wire_codec.specs.Reading.{Gives};
-ghost use Rattle.link_frames.specs.Texts.{answer_at, cause_at, flag_at, reply_at, shown_at, told_at};
+ghost use Rattle.link_frames.specs.Texts.{told_answer_at, cause_at, flag_at, reply_at, value_reply_at, telling_at};
 
-use crate::take_act::take_value;
+use crate::take_value::take_value;
 use crate::told::Told;
 use group_calls::{Answer, Cause};
 use group_types::Partition;
@@ -11,9 +11,9 @@ use std::alloc::Global;
 use wire_codec::fields::{ReadFault, take_eight, take_four, take_one};
 
 /// What is told, behind its kind.
-#[tactic(auto, unfolding(crate::specs::Texts::told_at))]
+#[tactic(auto, unfolding(crate::specs::Texts::telling_at))]
 pub(crate) fn take_told(alloc: Global, bytes: &[u8]) -> Result<(Told, &[u8]), ReadFault>
-    ensures { Gives (λ x. (x.0, x.1.now)) result (told_at bytes.now) }
+    ensures { Gives (λ x. (x.0, x.1.now)) result (telling_at bytes.now) }
 {
     let (caller, rest) = take_one(bytes)?;
     let (call, rest) = take_eight(rest)?;
@@ -34,9 +34,9 @@ fn take_flag(bytes: &[u8]) -> Result<(bool, &[u8]), ReadFault>
     }
 }
 
-#[tactic(auto, unfolding(crate::specs::Texts::answer_at))]
+#[tactic(auto, unfolding(crate::specs::Texts::told_answer_at))]
 fn take_answer(alloc: Global, bytes: &[u8]) -> Result<(Answer, &[u8]), ReadFault>
-    ensures { Gives (λ x. (x.0, x.1.now)) result (answer_at bytes.now) }
+    ensures { Gives (λ x. (x.0, x.1.now)) result (told_answer_at bytes.now) }
 {
     let (variant, rest) = take_one(bytes)?;
     match variant {
@@ -114,9 +114,9 @@ fn take_reply(alloc: Global, bytes: &[u8]) -> Result<(Reply, &[u8]), ReadFault>
     }
 }
 
-#[tactic(auto, unfolding(crate::specs::Texts::shown_at))]
+#[tactic(auto, unfolding(crate::specs::Texts::value_reply_at))]
 fn take_shown(alloc: Global, bytes: &[u8]) -> Result<(Reply, &[u8]), ReadFault>
-    ensures { Gives (λ x. (x.0, x.1.now)) result (shown_at bytes.now) }
+    ensures { Gives (λ x. (x.0, x.1.now)) result (value_reply_at bytes.now) }
 {
     let (flags, rest) = take_four(bytes)?;
     let (cas, rest) = take_eight(rest)?;

@@ -10,5 +10,14 @@ returns c =
     let widened : bit_xor c.from.result c.args.eight ≡ bit_xor c.args.register c.args.eight = ap (λ k. bit_xor k c.args.eight) c.from.ensures in
     let lt : bit_xor c.from.result c.args.eight < 2 ^ 64 = subst (λ k. k < 2 ^ 64) (sym widened) (xor_lt 64 c.args.register c.args.eight small c.ranges.eight.fits) in
     tables_sum (bit_xor c.from.result c.args.eight) c.to_le_bytes.result _ _ _ _ _ _ _ _ lt c.to_le_bytes.ensures
-    c.eight_bytes.ensures c.seven_bytes.ensures c.six_bytes.ensures c.five_bytes.ensures c.four_bytes.ensures c.three_bytes.ensures c.two_bytes.ensures c.one_byte.ensures
+    (record {
+      is_eight = c.eight_bytes.ensures;
+      is_seven = c.seven_bytes.ensures;
+      is_six = c.six_bytes.ensures;
+      is_five = c.five_bytes.ensures;
+      is_four = c.four_bytes.ensures;
+      is_three = c.three_bytes.ensures;
+      is_two = c.two_bytes.ensures;
+      is_one = c.one_byte.ensures;
+    })
     ∙ ap (shifted_by 64) widened

@@ -1,0 +1,14 @@
+pub mod Rulings
+pub mod Updates
+pub mod Addresses
+pub mod Apart
+pub mod Sizes
+pub mod Logs
+pub mod Lanes
+pub mod Between
+pub mod Started
+pub mod Distinct
+pub mod Sessions
+pub mod Words
+pub mod ClosingSteps
+pub mod Closing
