@@ -1,18 +1,18 @@
-use Rattle.std.proofs.Common.{◌≡◌, ℕ, ◌+◌, min, map, Bool, true, false, List, [], ◌∷◌, ◌++◌, length, take, Option, Result, OnOk, MatchResult, MatchBool, if◌then◌else◌, append-nil, refl, sym, ap, ◌∙◌, subst, arith}
+use Rattle.std.proofs.Common.{◌≡◌, ℕ, ◌+◌, min, map, Bool, true, false, List, [], ◌∷◌, ◌++◌, length, take, Option, MatchBool, if◌then◌else◌, append-nil, refl, sym, ap, ◌∙◌, subst, arith}
 use Rattle.edge_io.proofs.Moving.{Appends-trans}
 use Rattle.std.proofs.Math.Seq.{take-append-add}
 use Rattle.std.proofs.lemmas.List.{take-append-le, take_min}
 use Rattle.edge_io.specs.Moving.{Appends}
 use Rattle.edge_io.specs.Writing.{HasWritten}
 use Rattle.memc_table.specs.declared.act.Act.TheVariants as act
-use Rattle.memc_proto.specs.Text.{end_text, end_of_items}
+use Rattle.memc_proto.specs.Text.{end_text}
 use Rattle.memc_proto.specs.declared.end.CallEnd.{CallEnd}
 use Rattle.memc_proto.specs.declared.request.Request.TheVariants.{Get}
 use Rattle.front_end.specs.Answers.{Stand, stand, IsMade, IsKeyAnswered, IsAnswered, IsBroken}
 use Rattle.front_end.specs.Calls.{Made, Ways}
-use Rattle.front_end.specs.Turns.{Acts, AreCallsOf, is_reply, key_text, get_text, last_text}
+use Rattle.front_end.specs.Turns.{Acts, AreCallsOf, is_reply, key_text, get_text}
 use Rattle.front_end.specs.declared.end.ConnectionFault.{ConnectionFault}
-use Rattle.front_end.proofs.Answering.{ends-calls, no_calls, first-none, stands-here, written}
+use Rattle.front_end.proofs.Answering.{no_calls, first-none, stands-here}
 
 -- the front of a text is a front of what begins with it
 front_of : (n : ℕ) (text more : List ℕ) → take n text ≡ take (min n (length text)) (text ++ more)
@@ -57,34 +57,6 @@ answered-stop ways told before after with_cas key keys first = record {
   leads = (after.caller, first.leads, refl);
   bytes = subst (λ (b : Bool). Appends before.held after.held (key_text with_cas key first.call ++ (if b then get_text with_cas keys [] else []))) first.replied_is
       (subst (Appends before.held after.held) (sym (append-nil (key_text with_cas key first.call))) first.bytes);
-}
-
--- a get of no key
-pub asked-nothing : {C : Type 0} (ways : Ways C) (told : Option ℕ) (at : C) (held now : List ℕ) (with_cas : Bool) (keys : List (List ℕ)) (text : List ℕ) (result : Result (Unit {0}) ConnectionFault)
-    → keys ≡ [] → text ≡ end_of_items → OnOk result (Appends held now text) → HasWritten held now text
-    → MatchResult result (λ _. IsAnswered ways told (stand at held) (stand at now) (Get keys with_cas)) (λ fault. IsBroken ways told (stand at held) (stand at now) fault (Get keys with_cas))
-asked-nothing ways told at held now with_cas keys text result none is whole part =
-    written ways told at at held now (Get keys with_cas) [] text result (subst (λ (ks : List (List ℕ)). AreCallsOf told true (map (λ k. Acts (act.Get k)) ks) []) (sym none) tt) refl
-    (is ∙ sym (ap (λ (ks : List (List ℕ)). get_text with_cas ks []) none)) whole part
-
--- the last key of a get was asked, and the text of its call and what stands behind it was written, or the front of both
-pub last-answered : {C : Type 0} (ways : Ways C) (told : Option ℕ) (before at : C) (held now : List ℕ) (with_cas : Bool) (key : List ℕ) (end : CallEnd) (result : Result (Unit {0}) ConnectionFault)
-    → IsMade ways told before at (act.Get key) end → OnOk result (Appends held now (last_text key with_cas end))
-    → HasWritten held now (last_text key with_cas end)
-    → MatchResult result (λ _. IsAnswered ways told (stand before held) (stand at now) (Get (key ∷ []) with_cas)) (λ fault. IsBroken ways told (stand before held) (stand at now) fault (Get (key ∷ []) with_cas))
-last-answered ways told before at held now with_cas key end result made whole part =
-    written ways told before at held now (Get (key ∷ []) with_cas) (Made made.op end ∷ []) (last_text key with_cas end) result
-    ((made.act_is, made.moment), ends-calls (is_reply end)) (at, made.made, refl) refl whole part
-
--- the key of a get whose call ended, and whose text is written
-pub key-answered : {C : Type 0} (ways : Ways C) (told : Option ℕ) (before after : C) (held now : List ℕ) (with_cas : Bool) (key : List ℕ) (end : CallEnd) (replied : Bool)
-    → IsMade ways told before after (act.Get key) end → Appends held now (end_text key with_cas end) → replied ≡ is_reply end → IsKeyAnswered ways told (stand before held) (stand after now) with_cas key replied
-key-answered ways told before after held now with_cas key end replied made bytes is = record {
-  call = Made made.op end;
-  is_call = (made.act_is, made.moment);
-  leads = made.made;
-  bytes = bytes;
-  replied_is = is;
 }
 
 -- a fault came while the text of a key was written

@@ -1,4 +1,4 @@
-use Rattle.std.proofs.Common.{◌≡◌, ℕ, suc, ◌+◌, ◌<◌, ◌≤◌, get_or, drop, add-one, List, [], ◌∷◌, ◌++◌, length, Result, Ok, Err, MatchResult, refl, sym, ap, ◌∙◌, subst, arith}
+use Rattle.std.proofs.Common.{◌≡◌, ℕ, suc, ◌+◌, ◌<◌, ◌≤◌, get_or, drop, add-one, List, [], ◌∷◌, ◌++◌, length, Result, Ok, Err, IfErr, OnOk, MatchResult, refl, sym, ap, ◌∙◌, subst, arith}
 use Rattle.std.proofs.Math.Seq.{drop-cons}
 use Rattle.std.specs.Result.{IsErrAnd}
 use Rattle.edge_io.specs.Faults.{Rose}
@@ -10,6 +10,19 @@ use Rattle.front_end.specs.declared.end.ConnectionFault.TheVariants.{ReadFault, 
 pub on_fault : {T : Type 0} (P : T → Type 0) (Q : ConnectionFault → Type 0) (result : Result T ConnectionFault) (fault : ConnectionFault) → IsErrAnd result (λ e. e ≡ fault) → Q fault → MatchResult result P Q
 on_fault P Q (Ok _) fault is holds = absurd is
 on_fault P Q (Err e) fault is holds = subst Q (sym is) holds
+
+pub if-fault : {T : Type 0} (Q : ConnectionFault → Type 0) (result : Result T ConnectionFault) (fault : ConnectionFault) → IsErrAnd result (λ e. e ≡ fault) → Q fault → IfErr result Q
+if-fault Q (Ok _) fault is holds = absurd is
+if-fault Q (Err e) fault is holds = subst Q (sym is) holds
+
+-- what holds at each fault, and what follows where there is none
+pub if-any : {T : Type 0} (Q : ConnectionFault → Type 0) (result : Result T ConnectionFault) → ((fault : ConnectionFault) → Q fault) → IfErr result Q
+if-any Q (Ok _) holds = tt
+if-any Q (Err fault) holds = holds fault
+
+pub if-none : {T P Q : Type 0} (result : Result T ConnectionFault) → (P → Q) → OnOk result P → OnOk result Q
+if-none (Ok _) follows holds = follows holds
+if-none (Err fault) follows holds = tt
 
 -- the sink's count did not fall in two calls, of which the later has the fault
 pub cause-then : {T : Type 0} (before now after : ℕ) (result : Result T ConnectionFault) → before ≤ now → HasSinkCause now after result → HasSinkCause before after result

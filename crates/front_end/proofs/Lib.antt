@@ -1,7 +1,9 @@
 pub mod Answering
 pub mod Asking
 pub mod Handing
+pub mod Leading
 pub mod Piecing
 pub mod Serving
+pub mod Settling
 pub mod Stepping
 pub mod Turning

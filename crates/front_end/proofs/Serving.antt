@@ -1,10 +1,8 @@
-use Rattle.std.proofs.Common.{◌≡◌, ℕ, ◌+◌, ◌<◌, ◌≤◌, false, List, [], ◌∷◌, ◌++◌, length, take, Option, None, Some, Result, Ok, Err, append-nil, length-append, append_assoc, refl, sym, ap, ◌∙◌, subst, inl, inr, arith}
-use Rattle.std.specs.List.{list_any}
+use Rattle.std.proofs.Common.{◌≡◌, ℕ, ◌+◌, ◌<◌, ◌≤◌, List, [], ◌∷◌, ◌++◌, length, take, Option, None, Some, Result, Ok, Err, append-nil, length-append, append_assoc, refl, sym, ap, ◌∙◌, subst, inl, inr, arith}
 use Rattle.std.specs.Result.{IsErrAnd}
 use Rattle.edge_io.specs.Moving.{Input, IsEnded, Takes}
 use Rattle.edge_io.proofs.Moving.{Takes-none, Takes-trans}
-use Rattle.memc_proto.specs.Reader.{Kept, HasRead, IsTooLong}
-use Rattle.memc_proto.specs.Reads.{is_quit}
+use Rattle.memc_proto.specs.Reader.{Kept, HasRead}
 use Rattle.memc_proto.specs.declared.request.Request.{Request}
 use Rattle.front_end.specs.Answers.{Stand, AreAnswered, AreHalted}
 use Rattle.front_end.specs.Calls.{Ways}

@@ -1,14 +1,15 @@
-use Rattle.std.proofs.Common.{◌≡◌, ◌<◌, ◌≤◌, not, suc, ℕ, ◌+◌, length, Bool, true, false, List, [], ◌∷◌, ◌++◌, drop, Option, Result, MatchBool, append-nil, append_assoc, refl, sym, ap, ◌∙◌, subst, inl, inr, arith}
+use Rattle.std.proofs.Common.{◌≡◌, ◌<◌, ◌≤◌, suc, ℕ, ◌+◌, length, List, [], ◌∷◌, ◌++◌, drop, get_or, Option, append-nil, append_assoc, refl, sym, ap, ◌∙◌, subst, inl, inr, arith}
 use Rattle.std.proofs.Math.Seq.{drop-drop}
 use Rattle.std.proofs.Math.ListN.{drop_of_length-le}
 use Rattle.std.proofs.lemmas.List.{length-drop}
 use Rattle.memc_proto.specs.declared.request.Request.{Request}
-use Rattle.memc_proto.specs.declared.request.Request.TheVariants.{Get}
-use Rattle.front_end.specs.Answers.{Stand, IsKeyAnswered, IsAnswered, IsBroken, AreAnswered, AreBroken}
+use Rattle.memc_proto.specs.declared.request.Request.TheVariants.{Get, Change, Version, Quit, Fail, Refused}
+use Rattle.front_end.specs.Answers.{Stand, IsAnswered, IsBroken, AreAnswered, AreBroken}
 use Rattle.front_end.specs.Calls.{Ways}
-use Rattle.front_end.specs.Progress.{behind, waiting_behind, IsKeyTaken, ComesOfStep, HasStepped, BreaksAt}
+use Rattle.front_end.specs.Progress.{behind, waiting_behind, IsKeyTaken, HasStepped, BreaksAt}
 use Rattle.front_end.specs.declared.end.ConnectionFault.{ConnectionFault}
-use Rattle.front_end.proofs.Asking.{answered-more, answered-stop, broken-more}
+use Rattle.front_end.proofs.Asking.{answered-more, broken-more}
+use Rattle.front_end.proofs.Handing.{rest_at}
 use Rattle.front_end.proofs.Turning.{answered-none, answered-one, answered-append}
 
 -- what comes of the rest of a request comes of the whole
@@ -100,27 +101,6 @@ up_to-broken {C} ways told before now after fault requests waiting up_to breaks 
       broken = begun.1.broken after fault breaks;
     }
 
--- a key of a get was asked that isn't the last
-pub key-step : {C : Type 0} (ways : Ways C) (told : Option ℕ) (before after : Stand C) (with_cas : Bool) (keys : List (List ℕ)) (key : List ℕ) (others : List (List ℕ)) (goes_on : Bool) → keys ≡ key ∷ others
-    → IsKeyAnswered ways told before after with_cas key goes_on → MatchBool (not goes_on) (IsAnswered ways told before after (Get keys with_cas)) (IsKeyTaken ways told before after (Get keys with_cas) (Get (drop 1 keys) with_cas))
-key-step ways told before after with_cas keys key others true is first = record {
-  key = key;
-  keys = others;
-  with_cas = with_cas;
-  request_is = ap (λ (ks : List (List ℕ)). Get ks with_cas) is;
-  answered = first;
-  next_is = ap (λ (ks : List (List ℕ)). Get (drop 1 ks) with_cas) is;
-}
-key-step ways told before after with_cas keys key others false is first = subst (λ (ks : List (List ℕ)). IsAnswered ways told before after (Get ks with_cas)) (sym is) (answered-stop ways told before after with_cas key others first)
-
--- a step at a get of which n keys are answered
-pub get-step : {C : Type 0} (ways : Ways C) (told : Option ℕ) (before after : Stand C) (with_cas : Bool) (keys left : List (List ℕ)) (n : ℕ) (request : Request) (result : Result Bool ConnectionFault) → request ≡ Get keys with_cas → left ≡ drop n keys
-    → ComesOfStep ways told before after (Get left with_cas) (Get (drop 1 left) with_cas) result → ComesOfStep ways told before after (behind n request) (behind (n + 1) request) result
-get-step ways told before after with_cas keys left n request result is left_is came =
-    subst (λ (r : Request). ComesOfStep ways told before after (behind n r) (behind (n + 1) r) result) (sym is)
-    (subst (λ (next : List (List ℕ)). ComesOfStep ways told before after (Get (drop n keys) with_cas) (Get next with_cas) result) (drop-drop 1 n keys)
-    (subst (λ (ks : List (List ℕ)). ComesOfStep ways told before after (Get ks with_cas) (Get (drop 1 ks) with_cas) result) left_is came))
-
 left-some : (k : ℕ) (left : List Request) → 0 < length left → waiting_behind k left ≡ [] → ⊥
 left-some k [] some none = omega (arith, some)
 left-some k (request ∷ left) some none = cc
@@ -131,6 +111,38 @@ some-wait k n given waiting is fewer none = left-some k (drop n given) (omega (a
 
 pub none-wait : (k n : ℕ) (given waiting : List Request) → waiting_behind k (drop n given) ≡ waiting → length given ≤ n → waiting ≡ []
 none-wait k n given waiting is all = sym is ∙ ap (waiting_behind k) (drop_of_length-le given all)
+
+-- the first of the requests that wait, of which k keys are answered, and those behind it
+pub first-of : (k n : ℕ) (given waiting : List Request) (request : Request) → waiting_behind k (drop n given) ≡ waiting → n < length given → request ≡ get_or given n request → waiting ≡ behind k request ∷ drop (n + 1) given
+first-of k n given waiting request is fewer read = sym is ∙ ap (waiting_behind k) (rest_at given n request fewer read)
+
+pub fewer-wait : (k n : ℕ) (given waiting : List Request) → waiting_behind k (drop n given) ≡ waiting → (waiting ≡ [] → ⊥) → n < length given
+fewer-wait k n given waiting is some = by_left (drop n given) refl
+  where
+    by_left : (left : List Request) → drop n given ≡ left → n < length given
+    by_left [] none = absurd (some (sym is ∙ ap (waiting_behind k) none))
+    by_left (request ∷ left) e = let l : length (drop n given) ≡ suc (length left) = ap length e in omega (arith, l, length-drop n given)
+
+whole-behind : (waiting : List Request) → waiting_behind 0 waiting ≡ waiting
+whole-behind [] = refl
+whole-behind (Get keys with_cas ∷ others) = refl
+whole-behind (Change act noreply ∷ others) = refl
+whole-behind (Version ∷ others) = refl
+whole-behind (Quit ∷ others) = refl
+whole-behind (Fail at keep ∷ others) = refl
+whole-behind (Refused refusal ∷ others) = refl
+
+others-behind : (k : ℕ) (waiting : List Request) → drop 1 (waiting_behind k waiting) ≡ drop 1 waiting
+others-behind k [] = refl
+others-behind k (request ∷ others) = refl
+
+-- the first of the requests that wait is answered
+pub first-passed : (k n : ℕ) (given waiting : List Request) → waiting_behind k (drop n given) ≡ waiting → waiting_behind 0 (drop (n + 1) given) ≡ drop 1 waiting
+first-passed k n given waiting is = whole-behind (drop (n + 1) given) ∙ sym (drop-drop 1 n given) ∙ sym (others-behind k (drop n given)) ∙ ap (λ (rs : List Request). drop 1 rs) is
+
+-- the last of the requests that wait is answered
+pub last-passed : (k n : ℕ) (given waiting : List Request) → waiting_behind k (drop n given) ≡ waiting → length given ≤ n + 1 → drop 1 waiting ≡ []
+last-passed k n given waiting is all = sym (first-passed k n given waiting is) ∙ ap (waiting_behind 0) (drop_of_length-le given all)
 
 -- how many steps requests need at most
 abbrev keys_of : Request → ℕ

@@ -8,7 +8,6 @@ use Rattle.memc_proto.specs.Reader.{IsTooLong}
 use Rattle.memc_proto.specs.Text.{too_long_text}
 use Rattle.memc_proto.specs.declared.end.CallEnd.{CallEnd}
 use Rattle.memc_proto.specs.declared.request.Request.{Request}
-use Rattle.memc_proto.specs.declared.request.Request.TheVariants as request
 use Rattle.front_end.specs.Calls.{Call, Ways, LeadsBy, Leads}
 use Rattle.front_end.specs.Faults.{StandsAt}
 use Rattle.front_end.specs.Turns.{Exchange, Acts, IsMoment, IsCallOf, AreCallsOf, AreWhole, dues_of}
@@ -60,16 +59,6 @@ module _ {C : Type 0} (ways : Ways C) (told : Option ℕ) where
     pub stands : StandsAt ways led after.caller fault
     pub count : ℕ
     pub bytes : Appends before.held after.held (take count (answer_text request calls))
-
-  -- what came of a request: it was answered, or a fault came while it was
-  abbrev pub ComesOf : Stand C → Stand C → Request → Result (Unit {0}) ConnectionFault → Type 0
-  ComesOf before after request result = MatchResult result (λ _. IsAnswered before after request) (λ fault. IsBroken before after fault request)
-
-  -- what came of the first of the keys that a get still asks
-  abbrev pub ComesOfKey : Stand C → Stand C → Bool → List ℕ → Result Bool ConnectionFault → Type 0
-  ComesOfKey before after with_cas key result =
-      MatchResult result (λ replied. IsKeyAnswered before after with_cas key replied)
-      (λ fault. (keys : List (List ℕ)) → IsBroken before after fault (request.Get (key ∷ keys) with_cas))
 
   -- requests were answered in order, and behind their text this was written
   pub record AreAnswered (before after : Stand C) (requests : List Request) (more : List ℕ) : Type 0 where

@@ -1,8 +1,12 @@
 pub mod Answers
+pub mod AtOnce
 pub mod Calls
 pub mod Connection
 pub mod Faults
+pub mod Gateway
 pub mod Going
+pub mod Order
 pub mod Piece
 pub mod Progress
+pub mod Settling
 pub mod Turns

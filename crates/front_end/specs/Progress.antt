@@ -1,5 +1,5 @@
 -- What a connection keeps between two pieces, and what one step of answering makes of the requests that wait.
-use Rattle.std.specs.Prelude.{ℕ, ◌≡◌, ◌⊎◌, Bool, true, false, List, [], ◌∷◌, drop, Option, Some, None, Result, Ok, Err, MatchBool, MatchResult}
+use Rattle.std.specs.Prelude.{ℕ, ◌≡◌, ◌⊎◌, Bool, true, false, List, [], ◌∷◌, drop, Option, Some, None, Result, Ok, Err}
 use Rattle.edge_io.specs.Moving.{Appends}
 use Rattle.edge_io.specs.Writing.{HasWritten}
 use Rattle.memc_proto.specs.Reader.{Kept, IsTooLong}
@@ -21,11 +21,6 @@ pub record Progress : Type 0 where
   pub quits : Bool
   pub count : ℕ
 
--- whether a request is a get
-abbrev pub is_get : Request → Bool
-is_get (Get _ _) = true
-is_get _ = false
-
 -- a request of which the first n keys are answered
 abbrev pub behind : ℕ → Request → Request
 behind n (Get keys with_cas) = Get (drop n keys) with_cas
@@ -45,11 +40,6 @@ module _ {C : Type 0} (ways : Ways C) (told : Option ℕ) where
     pub request_is : request ≡ Get (key ∷ keys) with_cas
     pub answered : IsKeyAnswered ways told before after with_cas key true
     pub next_is : next ≡ Get keys with_cas
-
-  -- what came of a step at a request: it was answered (true), or its first key was; or a fault came
-  abbrev pub ComesOfStep : Stand C → Stand C → Request → Request → Result Bool ConnectionFault → Type 0
-  ComesOfStep before after request next result =
-      MatchResult result (λ whole. MatchBool whole (IsAnswered ways told before after request) (IsKeyTaken before after request next)) (λ fault. IsBroken ways told before after fault request)
 
   -- the first of the requests that waited was answered, or its first key was
   abbrev pub HasStepped : Stand C → Stand C → List Request → List Request → Type 0

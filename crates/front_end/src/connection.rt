@@ -7,12 +7,13 @@ ghost use Rattle.front_end.specs.Connection.{IsEndAt};
 ghost use Rattle.front_end.specs.Faults.{HasSinkCause};
 ghost use Rattle.front_end.specs.Progress.{IsClosed};
 
-use crate::answer::write_text;
-use crate::caller::Caller;
+use crate::caller::{Caller, make_call};
+use crate::close::{close_at, end_at, has_quit};
+use crate::due::Due;
 use crate::end::{ConnectionFault, End};
-use crate::step::answer_at;
+use crate::waiting::Waiting;
 use edge_io::{Clock, Sink};
-use memc_proto::{Reader, Request, Requests, too_long_text};
+use memc_proto::{CallEnd, FailEnd, Reader};
 use std::alloc::{AllocError, Global};
 use std::marker::Model;
 
@@ -26,34 +27,34 @@ pub(crate) const PIECE: usize = 65_536;
 #[derive(Drop)]
 pub struct Connection {
     reader: Reader,
-    given: Requests,
-    answered: usize,
-    keys: usize,
+    waiting: Waiting,
     quits: bool,
     count: u64,
 }
 
 impl Model for Connection {
-    ghost use Rattle.std.specs.Prelude.{◌≤◌, ◌^◌, drop, length};
-    ghost use Rattle.front_end.specs.Progress.{Progress, waiting_behind};
+    ghost use Rattle.std.specs.Prelude.{◌≤◌, ◌^◌};
+    ghost use Rattle.front_end.specs.Progress.{Progress};
 
     ghost Value = { Progress };
 
     ghost view = { λ c. record {
       kept = c.reader;
-      waiting = waiting_behind c.keys (drop c.answered c.given);
+      waiting = c.waiting;
       quits = c.quits;
       count = c.count;
     } };
 
-    ghost invariant = { λ c. (c.answered ≤ length c.given) × (c.count ≤ 2 ^ 62) };
+    ghost invariant = { λ c. c.count ≤ 2 ^ 62 };
 }
 
 impl Connection {
     ghost use Rattle.std.specs.Prelude.{◌≡◌, ◌≢◌, ◌+◌, ◌≤◌, ◌↔◌, ◌^◌, IfOk, OnOk, IfErr, OnErr, IsTrue};
+    ghost use Rattle.edge_io.specs.Writing.{HasWritten};
+    ghost use Rattle.memc_proto.specs.Text.{fail_text};
     ghost use Rattle.front_end.specs.Answers.{stand};
-    ghost use Rattle.front_end.specs.Piece.{IsServed};
     ghost use Rattle.front_end.specs.Progress.{HasStepped, BreaksAt};
+    ghost use Rattle.front_end.specs.Settling.{CallIsDue, HasSettled, HasTold, IsDue, OrderIsDue, TextIsDue, first_text, own_text};
 
     /// A connection of which nothing was read.
     pub fn new(alloc: Global) -> Connection
@@ -64,9 +65,7 @@ impl Connection {
     {
         Connection {
             reader: Reader::new(alloc),
-            given: Requests::from(Vec::new(alloc)),
-            answered: 0,
-            keys: 0,
+            waiting: Waiting::none(alloc),
             quits: false,
             count: 0,
         }
@@ -84,7 +83,7 @@ impl Connection {
         ensures some { result ≡ true → self.now.waiting ≢ [] }
         ensures none { result ≡ false → self.now.waiting ≡ [] }
     {
-        self.answered < self.given.requests().len()
+        self.waiting.has_some()
     }
 
     /// Takes the next piece of the input, once no request waits: those that are whole with it wait from then on.
@@ -101,9 +100,7 @@ impl Connection {
     {
         let given = self.reader.feed(piece)?;
         self.quits = has_quit(given.requests());
-        self.given = given;
-        self.answered = 0;
-        self.keys = 0;
+        self.waiting = Waiting::new(given);
         self.count += piece.len() as u64;
         Ok(())
     }
@@ -128,25 +125,83 @@ impl Connection {
         ensures count { self.new.count ≡ self.old.count }
         ensures cause { HasSinkCause (K.faults sink.old) (K.faults sink.new) result }
     {
-        let request = &self.given.requests()[self.answered];
-        if answer_at(alloc, caller, sink, clock, request, self.keys)? {
-            self.answered += 1;
-            self.keys = 0;
-            self.give_back(alloc);
-        } else {
-            self.keys += 1;
+        match self.due(clock)? {
+            Due::Call(op) => {
+                let end = make_call(caller, op)?;
+                self.settle(alloc, end, sink)
+            }
+            Due::Fail { at, keep } => {
+                let end = caller.fail(at, keep)?;
+                self.settle_fail(alloc, end, sink)
+            }
+            Due::Text => self.settle_text(alloc, sink),
         }
-        Ok(())
     }
 
-    // Gives back the memory of the requests once all are answered.
-    fn give_back(&mut self, alloc: Global)
-        ensures { self.new ≡ self.old }
+    /// What the first request that waits needs next.
+    pub fn due<T: Clock>(&self, clock: &T) -> Result<Due, AllocError>
+        requires some { self.now.waiting ≢ [] }
+        ensures due { IfOk result (IsDue (T.moment clock.now) self.now.waiting) }
     {
-        if self.answered == self.given.requests().len() {
-            self.given = Requests::from(Vec::new(alloc));
-            self.answered = 0;
-        }
+        self.waiting.due(clock)
+    }
+
+    /// Takes the end of the call that was due, and writes its text. After a fault the request still waits.
+    pub fn settle<K: Sink>(
+        &mut self,
+        alloc: Global,
+        end: CallEnd,
+        sink: &mut K,
+    ) -> Result<(), ConnectionFault>
+        requires due { CallIsDue self.old.waiting }
+        ensures settled { OnOk result (HasSettled end (K.held sink.old) (K.held sink.new) self.old.waiting self.new.waiting) }
+        ensures part { HasWritten (K.held sink.old) (K.held sink.new) (first_text end self.old.waiting) }
+        ensures stays { OnErr result (self.new ≡ self.old) }
+        ensures kept { self.new.kept ≡ self.old.kept }
+        ensures quits { self.new.quits ≡ self.old.quits }
+        ensures count { self.new.count ≡ self.old.count }
+        ensures cause { HasSinkCause (K.faults sink.old) (K.faults sink.new) result }
+    {
+        self.waiting.settle(alloc, &end, sink)
+    }
+
+    /// Takes the end of the order that was due, and writes its text. After a fault the request still waits.
+    pub fn settle_fail<K: Sink>(
+        &mut self,
+        alloc: Global,
+        end: FailEnd,
+        sink: &mut K,
+    ) -> Result<(), ConnectionFault>
+        requires due { OrderIsDue self.old.waiting }
+        ensures told { OnOk result (HasTold (fail_text end) (K.held sink.old) (K.held sink.new) self.old.waiting
+            self.new.waiting) }
+        ensures part { HasWritten (K.held sink.old) (K.held sink.new) (fail_text end) }
+        ensures stays { OnErr result (self.new ≡ self.old) }
+        ensures kept { self.new.kept ≡ self.old.kept }
+        ensures quits { self.new.quits ≡ self.old.quits }
+        ensures count { self.new.count ≡ self.old.count }
+        ensures cause { HasSinkCause (K.faults sink.old) (K.faults sink.new) result }
+    {
+        self.waiting.settle_fail(alloc, end, sink)
+    }
+
+    /// Writes the text of the first request that waits, which needs no call. After a fault it still waits.
+    pub fn settle_text<K: Sink>(
+        &mut self,
+        alloc: Global,
+        sink: &mut K,
+    ) -> Result<(), ConnectionFault>
+        requires due { TextIsDue self.old.waiting }
+        ensures told { OnOk result (HasTold (own_text self.old.waiting) (K.held sink.old) (K.held sink.new)
+            self.old.waiting self.new.waiting) }
+        ensures part { HasWritten (K.held sink.old) (K.held sink.new) (own_text self.old.waiting) }
+        ensures stays { OnErr result (self.new ≡ self.old) }
+        ensures kept { self.new.kept ≡ self.old.kept }
+        ensures quits { self.new.quits ≡ self.old.quits }
+        ensures count { self.new.count ≡ self.old.count }
+        ensures cause { HasSinkCause (K.faults sink.old) (K.faults sink.new) result }
+    {
+        self.waiting.settle_text(alloc, sink)
     }
 
     /// How the connection ends by what was read, if it does, once all of it is answered: a line that is too long is told.
@@ -167,43 +222,4 @@ impl Connection {
     {
         end_at(&self.reader)
     }
-}
-
-/// How a connection ends by what its reader read, if it does.
-fn close_at<K: Sink>(
-    reader: &Reader,
-    quits: bool,
-    sink: &mut K,
-) -> Result<Option<End>, ConnectionFault>
-    ensures closed { (input : List ℕ) (requests : List Request) → (read : HasRead reader.now input requests)
-        → list_any is_quit requests ≡ quits
-        → IsClosed quits read.rest (K.held sink.old) (K.held sink.new) result }
-    ensures cause { HasSinkCause (K.faults sink.old) (K.faults sink.new) result }
-{
-    if quits {
-        return Ok(Some(End::Quit));
-    }
-    if reader.too_long() {
-        write_text(sink, too_long_text())?;
-        return Ok(Some(End::LineTooLong));
-    }
-    Ok(None)
-}
-
-/// The end of a connection whose input ended.
-fn end_at(reader: &Reader) -> End
-    ensures { (input : List ℕ) (requests : List Request) → (read : HasRead reader.now input requests)
-        → list_any is_quit requests ≡ false → IsEndAt read.rest result }
-{
-    if reader.at_start() {
-        End::Ended
-    } else {
-        End::Cut
-    }
-}
-
-fn has_quit(requests: &[Request]) -> bool
-    ensures { result ≡ list_any is_quit requests.now }
-{
-    requests.iter().any(|request| request.is_quit())
 }

@@ -19,22 +19,15 @@ use Rattle.front_end.specs.declared.end.ConnectionFault.{ConnectionFault}
 use Rattle.front_end.specs.declared.end.ConnectionFault.TheVariants.{Want}
 use Rattle.front_end.specs.declared.end.End.{End}
 use Rattle.front_end.proofs.Piecing.{served-halted, served-closed}
-use Rattle.front_end.proofs.Serving.{goes_on-more, goes_on-none, served-end, served-fault}
+use Rattle.front_end.proofs.Serving.{goes_on-more, served-end, served-fault}
 use Rattle.front_end.proofs.Stepping.{AnsweredUpTo, up_to-none, up_to-more, up_to-all, up_to-broken}
-use Rattle.ready_client.specs.Apart.{apart, written}
-use Rattle.ready_client.specs.Coming.{Steps, IsUnderWay, HasComeTo, Comes, GoesOnApart, by_close}
+use Rattle.ready_client.specs.Coming.{Steps, IsUnderWay, HasComeTo, by_close}
 
 -- what was answered in so many steps
 up_to : {C : Type 0} (ways : Ways C) (told : Option ℕ) (n : ℕ) (before : Stand C) (given : List Request) (now : Stand C) (waiting : List Request) → Steps ways told n before given now waiting → AnsweredUpTo ways told before now given waiting
 up_to ways told zero before given now waiting steps =
     subst (λ (rs : List Request). AnsweredUpTo ways told before now given rs) (sym steps.1) (subst (λ (s : Stand _). AnsweredUpTo ways told before s given given) (sym steps.0) (up_to-none ways told before given))
 up_to ways told (suc n) before given now waiting steps = up_to-more ways told before steps.0 now given steps.1 waiting (up_to ways told n before given steps.0 steps.1 steps.2) steps.3
-
--- nothing was read
-pub begins : {C : Type 0} (ways : Ways C) (told : Option ℕ) (input : Input) (held : List ℕ) (progress : Progress) → HasRead progress.kept [] [] → progress.waiting ≡ [] → progress.count ≡ 0
-    → Comes ways told input input held (held ++ []) progress None
-begins ways told input held progress has_read none unread = subst (λ (bs : List ℕ). Comes ways told input input held bs progress None) (sym (append-nil held))
-    (inl (none, goes_on-none (apart ways) told input (written held) progress.kept progress.count has_read unread))
 
 -- a piece was taken
 pub taken : {C : Type 0} (ways : Ways C) (told : Option ℕ) (input input_then input_now : Input) (before at : Stand C) (was now : Progress) (piece : List ℕ)
@@ -142,19 +135,10 @@ goes-of ways told input input_now before now progress none (inl idle) = idle.1
 goes-of ways told input input_now before now progress none (inr under) = absurd (under.0 none)
 
 -- nothing was sent meanwhile
-pub moved : {C : Type 0} (ways : Ways C) (told : Option ℕ) (input input_now : Input) (before sent sent_now out : List ℕ) (progress : Progress) → sent_now ≡ sent
-    → GoesOnApart ways told input input_now before (sent ++ out) progress → GoesOnApart ways told input input_now before (sent_now ++ out) progress
-moved ways told input input_now before sent sent_now out progress same goes = subst (λ (bs : List ℕ). GoesOnApart ways told input input_now before (bs ++ out) progress) (sym same) goes
+pub moved : {C : Type 0} (ways : Ways C) (told : Option ℕ) (input input_now : Input) (before : Stand C) (at : C) (sent sent_now out : List ℕ) (progress : Progress) → sent_now ≡ sent
+    → GoesOn ways told input input_now before (stand at (sent ++ out)) progress.kept progress.count → GoesOn ways told input input_now before (stand at (sent_now ++ out)) progress.kept progress.count
+moved ways told input input_now before at sent sent_now out progress same goes = subst (λ (bs : List ℕ). GoesOn ways told input input_now before (stand at (bs ++ out)) progress.kept progress.count) (sym same) goes
 
 -- what a read moved, by what it came to
 pub came : {E : Type 0} (before now : Input) (result : Result Reading E) (reading by : Reading) (room : List ℕ) → TryTakes before now result room → result ≡ Ok reading → reading ≡ by → TryTakes {E = E} before now (Ok by) room
 came {E} before now result reading by room takes is same = subst (λ (r : Reading). TryTakes {E = E} before now (Ok r) room) same (subst (λ (r : Result Reading E). TryTakes before now r room) is takes)
-
--- a connection of which text went out
-pub sends : {C : Type 0} (ways : Ways C) (told : Option ℕ) (input input_then input_now : Input) (before held held_now : List ℕ) (progress now : Progress) (end end_now : Option (Result End ConnectionFault)) → held_now ≡ held → input_now ≡ input_then → now ≡ progress → end_now ≡ end
-    → Comes ways told input input_then before held progress end → Comes ways told input input_now before held_now now end_now
-sends ways told input input_then input_now before held held_now progress now end end_now text read same ended come =
-    subst (λ (e : Option (Result End ConnectionFault)). Comes ways told input input_now before held_now now e) (sym ended)
-    (subst (λ (p : Progress). Comes ways told input input_now before held_now p end) (sym same)
-    (subst (λ (i : Input). Comes ways told input i before held_now progress end) (sym read)
-    (subst (λ (bs : List ℕ). Comes ways told input input_then before bs progress end) (sym text) come)))

@@ -1,2 +1,4 @@
+pub mod Calling
 pub mod Coming
+pub mod Keeping
 pub mod Telling

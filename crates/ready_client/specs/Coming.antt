@@ -1,18 +1,23 @@
 -- How far a connection has come that is served step by step.
-use Rattle.std.specs.Prelude.{ℕ, zero, suc, ◌≡◌, ◌≢◌, ◌+◌, ◌≤◌, ◌⊎◌, List, [], ◌++◌, length, Option, Some, None, Result, Ok, Err}
+use Rattle.std.specs.Prelude.{ℕ, zero, suc, ◌≡◌, ◌≢◌, ◌+◌, ◌≤◌, ◌⊎◌, Bool, true, false, List, [], ◌∷◌, ◌++◌, length, IsSome, Option, Some, None, Result, Ok, Err, ⊤}
 use Rattle.std.specs.List.{list_any}
 use Rattle.edge_io.specs.Moving.{Input, Takes}
 use Rattle.memc_proto.specs.Reader.{Kept, HasRead}
 use Rattle.memc_proto.specs.Reads.{is_quit}
 use Rattle.memc_proto.specs.declared.request.Request.{Request}
-use Rattle.front_end.specs.Answers.{Stand}
+use Rattle.memc_proto.specs.declared.request.Request.TheVariants.{Get, Change, Version, Quit, Fail, Refused}
+use Rattle.memc_table.specs.Asked.{Asked}
+use Rattle.front_end.specs.Answers.{Stand, stand}
 use Rattle.front_end.specs.Calls.{Ways}
 use Rattle.front_end.specs.Connection.{HasServed}
+use Rattle.front_end.specs.Gateway.{Rules}
 use Rattle.front_end.specs.Going.{GoesOn}
+use Rattle.front_end.specs.Order.{among}
 use Rattle.front_end.specs.Progress.{Progress, HasStepped}
+use Rattle.front_end.specs.Settling.{IsDue}
+use Rattle.front_end.specs.declared.due.Due.TheVariants.{Call}
 use Rattle.front_end.specs.declared.end.ConnectionFault.{ConnectionFault}
 use Rattle.front_end.specs.declared.end.End.{End}
-use Rattle.ready_client.specs.Apart.{apart, written}
 use Rattle.ready_client.specs.declared.step.Step.{Step}
 use Rattle.ready_client.specs.declared.step.Step.TheVariants.{Goes, Waits, Ends}
 
@@ -59,12 +64,54 @@ end_by (Ok Waits) = None
 end_by (Ok (Ends end)) = Some (Ok end)
 end_by (Err fault) = Some (Err fault)
 
--- the same of a connection among others of one caller, which began with these bytes held and now has these
-abbrev pub Comes : {C : Type 0} → Ways C → Option ℕ → Input → Input → List ℕ → List ℕ → Progress → Option (Result End ConnectionFault) → Type 0
-Comes ways told input input_now before held progress end = HasComeTo (apart ways) told input input_now (written before) (written held) progress end
+-- a call that the first of the requests that wait needs is open at the gateway: it began where the last call of the
+-- connection ended, or later
+pub record IsCalling {G K : Type 0} (rules : Rules G K) (told : Option ℕ) (last now : G) (waiting : List Request) (call : K) : Type 0 where
+  pub op : Asked
+  pub began : G
+  pub later : rules.later last began
+  pub opened : rules.opened now call op began
+  pub due : IsDue told waiting (Call op)
 
-abbrev pub IsUnderWayApart : {C : Type 0} → Ways C → Option ℕ → Input → Input → List ℕ → List ℕ → Progress → Type 0
-IsUnderWayApart ways told input input_now before held progress = IsUnderWay (apart ways) told input input_now (written before) (written held) progress
+-- the open call of a connection, if it has one: none where it ended
+abbrev pub HasCall : {G K : Type 0} → Rules G K → Option ℕ → G → G → List Request → Option K → Option (Result End ConnectionFault) → Type 0
+HasCall rules told last now waiting None end = ⊤
+HasCall rules told last now waiting (Some call) end = (end ≡ None) × IsCalling rules told last now waiting call
 
-abbrev pub GoesOnApart : {C : Type 0} → Ways C → Option ℕ → Input → Input → List ℕ → List ℕ → Progress → Type 0
-GoesOnApart ways told input input_now before held progress = GoesOn (apart ways) told input input_now (written before) (written held) progress.kept progress.count
+-- the same of a connection among others at one gateway, which began there with these bytes held and now has these
+pub record Comes {G K : Type 0} (rules : Rules G K) (told : Option ℕ) (input input_now : Input) (first : G) (before : List ℕ) (now : G) (held : List ℕ)
+    (progress : Progress) (calling : Option K) (end : Option (Result End ConnectionFault)) : Type 0 where
+  pub last : G
+  pub later : rules.later last now
+  pub come : HasComeTo (among rules.later rules.ways) told input input_now (stand first before) (stand last held) progress end
+  pub call : HasCall rules told last now progress.waiting calling end
+
+-- the calls of other connections that were open are so, and none of them has become the one of this connection
+abbrev pub KeepsApart : {G K : Type 0} → Rules G K → Option K → Option K → G → G → Type 0
+KeepsApart {G} {K} rules calling calling_now before after =
+    (call : K) (op : Asked) (began : G) → calling ≢ Some call → rules.opened before call op began → rules.opened after call op began × (calling_now ≢ Some call)
+
+-- a call that has a caller now and isn't this connection's had one before and wasn't
+abbrev pub LendsApart : {G K : Type 0} → Rules G K → Option K → Option K → G → G → Type 0
+LendsApart {G} {K} rules calling calling_now before after =
+    (call : K) → calling_now ≢ Some call → rules.lent after call → rules.lent before call × (calling ≢ Some call)
+
+-- the open call of a connection, if it has one, stays so
+abbrev pub KeepsCall : {G K : Type 0} → Rules G K → Option K → G → G → Type 0
+KeepsCall rules None before after = ⊤
+KeepsCall {G} rules (Some call) before after = (op : Asked) (began : G) → rules.opened before call op began → rules.opened after call op began
+
+-- whether the first of the requests that wait needs a call
+abbrev pub needs_call : List Request → Bool
+needs_call [] = false
+needs_call (Get [] _ ∷ _) = false
+needs_call (Get (_ ∷ _) _ ∷ _) = true
+needs_call (Change _ _ ∷ _) = true
+needs_call (Fail _ _ ∷ _) = false
+needs_call (Version ∷ _) = false
+needs_call (Quit ∷ _) = false
+needs_call (Refused _ ∷ _) = false
+
+-- where a call is open, the first of the requests that wait needs one
+abbrev pub IsCalled : {K : Type 0} → Option K → List Request → Type 0
+IsCalled calling waiting = IsSome calling → needs_call waiting ≡ true

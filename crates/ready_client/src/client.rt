@@ -2,11 +2,11 @@ ghost use Rattle.std.specs.Prelude.{◌≡◌, ◌≢◌, ◌≤◌, ◌^◌, �
 ghost use Rattle.edge_io.specs.Faults.{Rose};
 ghost use Rattle.edge_io.specs.Moving.{Input};
 ghost use Rattle.memc_proto.specs.Reader.{HasRead};
-ghost use Rattle.ready_client.specs.Coming.{end_by, Comes};
+ghost use Rattle.ready_client.specs.Coming.{end_by, Comes, IsCalled, KeepsApart, LendsApart};
 
 use crate::step::{Step, advance};
 use edge_io::{Clock, Failed};
-use front_end::{Caller, Connection, ConnectionFault, End};
+use front_end::{Connection, ConnectionFault, End, Gateway};
 use outbox::{Outbox, Sending, TryStream};
 use std::alloc::Global;
 
@@ -26,53 +26,68 @@ pub enum Turn {
     More,
     /// The stream is to be waited for.
     Waits,
+    /// The end of its call is to be waited for.
+    AwaitsCall,
+    /// A free caller is to be waited for.
+    AwaitsCaller,
     /// The connection is over.
     Over,
 }
 
-/// A connection that is served when its stream is ready: what was read of it, what is not sent yet, and how it ended.
+/// A connection that is served when its stream is ready: what was read of it, its open call, what is not sent yet, and how
+/// it ended.
 #[derive(Drop)]
-pub struct Client<S> {
+pub struct Client<S, K> {
     stream: S,
     connection: Connection,
+    calling: Option<K>,
     outbox: Outbox,
     end: Option<Result<End, ConnectionFault>>,
     ghost within: { connection.count ≤ 2 ^ 62 },
+    ghost called: { IsCalled calling connection.waiting },
 }
 
-impl<S: TryStream> Client<S> {
+impl<S: TryStream, K: Drop> Client<S, K> {
     /// A stream of which nothing was read and to which nothing was written.
-    pub fn new(alloc: Global, stream: S) -> Client<S>
+    pub fn new(alloc: Global, stream: S) -> Client<S, K>
         ensures stream { result.stream ≡ stream }
         ensures kept { HasRead result.connection.kept [] [] }
         ensures waiting { result.connection.waiting ≡ [] }
         ensures count { result.connection.count ≡ 0 }
+        ensures calling { result.calling ≡ None }
         ensures outbox { result.outbox ≡ [] }
         ensures end { result.end ≡ None }
     {
         Client {
             stream,
             connection: Connection::new(alloc),
+            calling: None,
             outbox: Outbox::new(alloc),
             end: None,
         }
     }
 
-    /// One turn: steps until the stream would have to wait, the connection is over, or others are to be served. It is
-    /// over once it ended and all of its text was sent, or the stream counted a fault.
-    pub fn turn<C: Caller, T: Clock>(
+    /// One turn: steps until the stream, its call or a free caller would have to be waited for, the connection is over, or
+    /// others are to be served. Nothing is read while its call is open. It is over once it ended and all of its text was
+    /// sent, or the stream counted a fault.
+    pub fn turn<G: Gateway<Call = K>, T: Clock>(
         &mut self,
         alloc: Global,
-        caller: &mut C,
+        gateway: &mut G,
         clock: &T,
         room: &mut [u8],
     ) -> Turn
         requires room { length room.old ≡ 65536 }
-        ensures comes { (input : Input) (before : List ℕ)
-            → Comes C.ways (T.moment clock.now) input (S.input self.old.stream) before
-            (S.held self.old.stream ++ self.old.outbox) self.old.connection self.old.end
-            → Comes C.ways (T.moment clock.now) input (S.input self.new.stream) before
-            (S.held self.new.stream ++ self.new.outbox) self.new.connection self.new.end }
+        ensures comes { (input : Input) (first : G) (before : List ℕ)
+            → Comes G.rules (T.moment clock.now) input (S.input self.old.stream) first before gateway.old
+            (S.held self.old.stream ++ self.old.outbox) self.old.connection self.old.calling self.old.end
+            → Comes G.rules (T.moment clock.now) input (S.input self.new.stream) first before gateway.new
+            (S.held self.new.stream ++ self.new.outbox) self.new.connection self.new.calling self.new.end }
+        ensures apart { KeepsApart G.rules self.old.calling self.new.calling gateway.old gateway.new }
+        ensures lends { LendsApart G.rules self.old.calling self.new.calling gateway.old gateway.new }
+        ensures onward { G.rules.later gateway.old gateway.new }
+        ensures call { result ≡ Turn.AwaitsCall → self.new.calling ≢ None }
+        ensures caller { result ≡ Turn.AwaitsCaller → (self.new.calling ≡ None) × (self.new.connection.waiting ≢ []) }
         ensures over { result ≡ Turn.Over
             → ((self.new.end ≢ None) × (self.new.outbox ≡ [])) ⊎ Rose (S.faults self.old.stream) (S.faults self.new.stream) }
         ensures later { S.faults self.old.stream ≤ S.faults self.new.stream }
@@ -85,8 +100,8 @@ impl<S: TryStream> Client<S> {
             if self.end.is_some() {
                 return self.send(Turn::Over);
             }
-            if self.step(alloc, caller, clock, room) {
-                return self.send(Turn::Waits);
+            if self.step(alloc, gateway, clock, room) {
+                return self.send(self.awaited());
             }
             if self.outbox.len() > MOST_WAITING {
                 return Turn::More;
@@ -100,7 +115,10 @@ impl<S: TryStream> Client<S> {
         ensures text { S.held self.new.stream ++ self.new.outbox ≡ S.held self.old.stream ++ self.old.outbox }
         ensures input { S.input self.new.stream ≡ S.input self.old.stream }
         ensures connection { self.new.connection ≡ self.old.connection }
+        ensures calling { self.new.calling ≡ self.old.calling }
         ensures end { self.new.end ≡ self.old.end }
+        ensures call { result ≡ Turn.AwaitsCall → all ≡ Turn.AwaitsCall }
+        ensures caller { result ≡ Turn.AwaitsCaller → all ≡ Turn.AwaitsCaller }
         ensures over { result ≡ Turn.Over
             → ((all ≡ Turn.Over) × (self.new.outbox ≡ [])) ⊎ Rose (S.faults self.old.stream) (S.faults self.new.stream) }
         ensures later { S.faults self.old.stream ≤ S.faults self.new.stream }
@@ -113,35 +131,79 @@ impl<S: TryStream> Client<S> {
         }
     }
 
-    // One step, which may be the last. Says whether the stream is to be waited for.
-    fn step<C: Caller, T: Clock>(
+    // What is to be waited for: the end of the open call, a free caller for the call that is due, or the stream.
+    fn awaited(&self) -> Turn
+        ensures call { result ≡ Turn.AwaitsCall → self.now.calling ≢ None }
+        ensures caller { result ≡ Turn.AwaitsCaller → (self.now.calling ≡ None) × (self.now.connection.waiting ≢ []) }
+        ensures over { result ≢ Turn.Over }
+    {
+        if self.calling.is_some() {
+            Turn::AwaitsCall
+        } else if self.connection.has_waiting() {
+            Turn::AwaitsCaller
+        } else {
+            Turn::Waits
+        }
+    }
+
+    // One step, which may be the last. Says whether something is to be waited for.
+    fn step<G: Gateway<Call = K>, T: Clock>(
         &mut self,
         alloc: Global,
-        caller: &mut C,
+        gateway: &mut G,
         clock: &T,
         room: &mut [u8],
     ) -> bool
         requires none { self.old.end ≡ None }
         requires room { length room.old ≡ 65536 }
-        ensures comes { (input : Input) (before : List ℕ)
-            → Comes C.ways (T.moment clock.now) input (S.input self.old.stream) before
-            (S.held self.old.stream ++ self.old.outbox) self.old.connection self.old.end
-            → Comes C.ways (T.moment clock.now) input (S.input self.new.stream) before
-            (S.held self.new.stream ++ self.new.outbox) self.new.connection self.new.end }
+        ensures comes { (input : Input) (first : G) (before : List ℕ)
+            → Comes G.rules (T.moment clock.now) input (S.input self.old.stream) first before gateway.old
+            (S.held self.old.stream ++ self.old.outbox) self.old.connection self.old.calling self.old.end
+            → Comes G.rules (T.moment clock.now) input (S.input self.new.stream) first before gateway.new
+            (S.held self.new.stream ++ self.new.outbox) self.new.connection self.new.calling self.new.end }
+        ensures apart { KeepsApart G.rules self.old.calling self.new.calling gateway.old gateway.new }
+        ensures lends { LendsApart G.rules self.old.calling self.new.calling gateway.old gateway.new }
+        ensures onward { G.rules.later gateway.old gateway.new }
         ensures later { S.faults self.old.stream ≤ S.faults self.new.stream }
         ensures room { length room.new ≡ 65536 }
     {
         let result = advance(
             alloc,
-            caller,
+            gateway,
             clock,
             &mut self.stream,
             &mut self.connection,
+            &mut self.calling,
             &mut self.outbox,
             room,
         );
         self.end = end_by(&result);
         matches!(result, Ok(Step::Waits))
+    }
+}
+
+impl<S: Drop, K: Drop> Client<S, K> {
+    ghost use Rattle.std.specs.Prelude.{◌≡◌, is_some};
+
+    /// Whether a call of it is open.
+    pub fn is_calling(&self) -> bool
+        ensures { result ≡ is_some self.now.calling }
+    {
+        self.calling.is_some()
+    }
+
+    /// The open call of a connection that is over, or is given up. Its caller is free only once the gateway gave its end.
+    pub fn into_call(self) -> Option<K>
+        ensures { result ≡ self.calling }
+    {
+        let Client {
+            stream: _,
+            connection: _,
+            calling,
+            outbox: _,
+            end: _,
+        } = self;
+        calling
     }
 }
 

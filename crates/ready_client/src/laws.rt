@@ -1,14 +1,25 @@
-ghost use Rattle.std.specs.Prelude.{◌≡◌, ◌++◌, ℕ, List, Option, [], None};
+ghost use Rattle.std.specs.Prelude.{◌≡◌, ◌++◌, ℕ, List, Option, Result, [], None};
 ghost use Rattle.edge_io.specs.Moving.{Input};
 ghost use Rattle.memc_proto.specs.Reader.{HasRead};
 ghost use Rattle.front_end.specs.Progress.{Progress};
-ghost use Rattle.ready_client.specs.Coming.{Comes};
+ghost use Rattle.front_end.specs.declared.end.ConnectionFault.{ConnectionFault};
+ghost use Rattle.front_end.specs.declared.end.End.{End};
+ghost use Rattle.ready_client.specs.Coming.{Comes, KeepsCall};
 
-use front_end::Caller;
+use front_end::Gateway;
 
-/// What `Client::new` makes has come to its start, whoever its caller is to be: from there each `Client::turn` goes on.
-pub fn begins<C: Caller>()
-    ensures { (told : Option ℕ) (input : Input) (held : List ℕ) (progress : Progress)
+/// What `Client::new` makes has come to its start, whoever its gateway is to be: from there each `Client::turn` goes on.
+pub fn begins<G: Gateway>()
+    ensures { (told : Option ℕ) (input : Input) (gateway : G) (held : List ℕ) (progress : Progress)
         → HasRead progress.kept [] [] → progress.waiting ≡ [] → progress.count ≡ 0
-        → Comes C.ways told input input held (held ++ []) progress None }
+        → Comes G.rules told input input gateway held gateway (held ++ []) progress None None }
+{}
+
+/// Between two of its turns a connection stays as far as it has come, where the gateway keeps its call and comes later.
+pub fn stays<G: Gateway>()
+    ensures { (told : Option ℕ) (input input_now : Input) (first now next : G) (before held : List ℕ) (progress : Progress)
+        (calling : Option G.Call) (end : Option (Result End ConnectionFault))
+        → G.rules.later now next → KeepsCall G.rules calling now next
+        → Comes G.rules told input input_now first before now held progress calling end
+        → Comes G.rules told input input_now first before next held progress calling end }
 {}

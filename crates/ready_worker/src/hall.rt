@@ -1,5 +1,8 @@
 use crate::lane::Lane;
-use crate::worker::Worker;
+use crate::poll_readiness::PollReadiness;
+use crate::readiness::Readiness;
+use crate::station::Station;
+use mio::Waker;
 use mio::net::TcpStream;
 use std::alloc::Global;
 use std::io;
@@ -12,21 +15,21 @@ pub const MOST_OPEN: u64 = 10_000;
 /// The lanes of all workers.
 #[derive(Drop)]
 pub(crate) struct Hall {
-    lanes: Vec<Lane>,
+    lanes: Vec<Lane<TcpStream, Waker>>,
 }
 
 impl Hall {
-    /// A lane for each of these workers.
-    pub(crate) fn new(alloc: Global, workers: &[Worker]) -> io::Result<Hall> {
-        let mut lanes = Vec::with_capacity(alloc, workers.len())?;
-        'workers: for worker in workers {
-            lanes.push(Lane::new(alloc, worker.poll())?)?;
+    /// A lane for each of these stations.
+    pub(crate) fn new(alloc: Global, stations: &[Station<PollReadiness>]) -> io::Result<Hall> {
+        let mut lanes = Vec::with_capacity(alloc, stations.len())?;
+        'stations: for station in stations {
+            lanes.push(Lane::new(alloc, station.readiness().waker()?))?;
         }
         Ok(Hall { lanes })
     }
 
     /// The lanes, in order.
-    pub(crate) fn lanes(&self) -> &[Lane] {
+    pub(crate) fn lanes(&self) -> &[Lane<TcpStream, Waker>] {
         &self.lanes
     }
 
@@ -60,8 +63,8 @@ impl Hall {
     }
 
     // The lane with the fewest connections of those whose workers run.
-    fn emptiest(&self) -> Option<&Lane> {
-        let mut best: Option<&Lane> = None;
+    fn emptiest(&self) -> Option<&Lane<TcpStream, Waker>> {
+        let mut best: Option<&Lane<TcpStream, Waker>> = None;
         let mut fewest = u64::MAX;
         'lanes: for lane in &self.lanes {
             let open = lane.open();

@@ -1,34 +1,29 @@
-use mio::net::TcpStream;
-use mio::{Poll, Token, Waker};
-use std::alloc::{AllocError, Global};
+use crate::readiness::Wake;
+use std::alloc::Global;
 use std::collections::VecDeque;
-use std::io;
 use std::sync::atomic::{AtomicBool, AtomicU64, Ordering};
 use std::sync::{Mutex, Wait};
 
-/// The token of a lane's waker.
-pub(crate) const WAKER: Token = Token(usize::MAX);
-
 /// Where the accepting thread puts connections for one worker.
 #[derive(Drop)]
-pub(crate) struct Lane {
-    inbox: Mutex<VecDeque<TcpStream>>,
-    waker: Waker,
+pub struct Lane<S, W> {
+    inbox: Mutex<VecDeque<S>>,
+    waker: W,
     started: AtomicBool,
     over: AtomicBool,
     open: AtomicU64,
 }
 
-impl Lane {
-    /// A lane with no connection, whose worker waits at this poll.
-    pub(crate) fn new(alloc: Global, poll: &Poll) -> io::Result<Lane> {
-        Ok(Lane {
+impl<S: Drop, W: Wake> Lane<S, W> {
+    /// A lane with no connection, whose worker is woken by this.
+    pub fn new(alloc: Global, waker: W) -> Lane<S, W> {
+        Lane {
             inbox: Mutex::new(VecDeque::new(alloc)),
-            waker: Waker::new(poll.registry(), WAKER)?,
+            waker,
             started: AtomicBool::new(false),
             over: AtomicBool::new(false),
             open: AtomicU64::new(0),
-        })
+        }
     }
 
     /// Its worker runs from now on.
@@ -42,35 +37,37 @@ impl Lane {
     }
 
     /// How many connections its worker has, with those that are on their way to it.
-    pub(crate) fn open(&self) -> u64 {
+    pub fn open(&self) -> u64 {
         self.open.load(Ordering::SeqCst)
     }
 
     /// Hands a connection to the worker. Without memory for it the connection is let go.
-    pub(crate) fn hand<R: Wait>(&self, rt: &R, stream: TcpStream) {
+    pub fn hand<R: Wait>(&self, rt: &R, stream: S) {
         self.open.fetch_add(1, Ordering::SeqCst);
         let taken = self.inbox.lock(rt).push_back(stream).is_ok();
         if taken {
-            let _ = self.waker.wake();
+            self.waker.wake();
         } else {
-            self.leave();
+            self.leave(1);
         }
     }
 
     /// The next connection that was handed over.
-    pub(crate) fn next<R: Wait>(&self, rt: &R) -> Option<TcpStream> {
+    pub(crate) fn next<R: Wait>(&self, rt: &R) -> Option<S> {
         self.inbox.lock(rt).pop_front()
     }
 
-    /// One of the connections is over.
-    pub(crate) fn leave(&self) {
-        self.open.fetch_sub(1, Ordering::SeqCst);
+    /// So many of the connections are over.
+    pub(crate) fn leave(&self, count: usize) {
+        if count != 0 {
+            self.open.fetch_sub(count as u64, Ordering::SeqCst);
+        }
     }
 
     /// No further connection comes.
-    pub(crate) fn end(&self) {
+    pub fn end(&self) {
         self.over.store(true, Ordering::SeqCst);
-        let _ = self.waker.wake();
+        self.waker.wake();
     }
 
     /// Whether no further connection comes, all that were handed over being in the inbox.

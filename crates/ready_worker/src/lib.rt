@@ -6,16 +6,23 @@
 mod either;
 mod hall;
 mod lane;
-mod places;
+mod poll_readiness;
+mod readiness;
 mod ready_listener;
 mod serve;
+mod settling;
+mod station;
 mod told_edge;
 mod watch;
 mod worker;
 
 pub use either::serve_either;
 pub use hall::MOST_OPEN;
+pub use lane::Lane;
+pub use readiness::{Readiness, Wake};
 pub use ready_listener::ReadyListener;
 pub use serve::serve_ready;
+pub use station::Station;
 pub use told_edge::ToldEdge;
 pub use watch::Watch;
+pub use worker::Worker;

@@ -5,10 +5,14 @@ ghost use Rattle.node_worker.specs.declared.fault.ServeFault.{ServeFault};
 
 use crate::hall::{Hall, refuse};
 use crate::lane::Lane;
+use crate::poll_readiness::PollReadiness;
 use crate::ready_listener::ReadyListener;
+use crate::station::Station;
 use crate::worker::Worker;
 use edge_io::{Clock, Failed};
-use front_end::Caller;
+use front_end::{AtOnce, Caller};
+use mio::Waker;
+use mio::net::TcpStream;
 use node_worker::{Port, ServeFault};
 use std::alloc::Global;
 use std::sync::Wait;
@@ -63,12 +67,16 @@ pub fn serve_ready<R: Threads + Wait + Sync, L: ReadyListener, P: Port, T: Clock
     end
 }
 
-/// So many workers, each with a poll of its own.
-fn crew_of<L: ReadyListener>(alloc: Global, listener: &L, workers: u32) -> io::Result<Vec<Worker>> {
+/// Stations for so many workers, each with a poll of its own.
+fn crew_of<L: ReadyListener>(
+    alloc: Global,
+    listener: &L,
+    workers: u32,
+) -> io::Result<Vec<Station<PollReadiness>>> {
     let mut crew = Vec::with_capacity(alloc, workers as usize)?;
     'workers: for _ in 0..workers {
-        let worker = Worker::new(alloc, listener.poll()?)?;
-        crew.push(worker)?;
+        let readiness = PollReadiness::new(alloc, listener.poll()?)?;
+        crew.push(Station::new(alloc, readiness)?)?;
     }
     Ok(crew)
 }
@@ -85,7 +93,7 @@ fn serve_in_scope<
     rt: &R,
     listener: &'a mut L,
     hall: &Hall,
-    crew: Vec<Worker>,
+    crew: Vec<Station<PollReadiness>>,
     port: &P,
     clock: &T,
     connections: u64,
@@ -153,17 +161,18 @@ fn start_all<
     rt: &'s R,
     scope: &'s Scope<'s, E>,
     hall: &'s Hall,
-    crew: Vec<Worker>,
+    crew: Vec<Station<PollReadiness>>,
     port: &'s P,
     clock: &'s T,
 ) {
     let mut crew = crew;
     'lanes: for lane in hall.lanes().iter().rev() {
-        let Some(worker) = crew.pop() else {
+        let Some(station) = crew.pop() else {
             return;
         };
-        let caller = borrow::<R, Q, P>(rt, port);
-        let job = move || work::<R, Q, P, T>(rt, lane, worker, caller, port, clock);
+        let gateway = AtOnce::new(borrow::<R, Q, P>(rt, port));
+        let worker = Worker::new(station, gateway, clock);
+        let job = move || work::<R, Q, P, T>(rt, lane, worker, port);
         if scope.spawn(job).is_ok() {
             lane.start();
         }
@@ -171,18 +180,15 @@ fn start_all<
 }
 
 /// Serves the connections of a lane, and gives the caller back.
-fn work<R: Wait, Q: Caller, P: Port<Lent = Q>, T: Clock>(
+fn work<R: Wait, Q: Caller + Drop, P: Port<Lent = Q>, T: Clock>(
     rt: &R,
-    lane: &Lane,
-    worker: Worker,
-    caller: Q,
+    lane: &Lane<TcpStream, Waker>,
+    worker: Worker<'_, PollReadiness, AtOnce<Q>, T>,
     port: &P,
-    clock: &T,
 ) {
-    let (mut worker, mut caller) = (worker, caller);
-    worker.run(rt, lane, &mut caller, clock);
-    drop(worker);
-    port.give_back(caller);
+    let mut worker = worker;
+    worker.run(rt, lane);
+    port.give_back(worker.into_gateway().into_caller());
 }
 
 /// Accepts connections, and hands each to a worker.

@@ -1,143 +1,178 @@
-ghost use Rattle.std.specs.Prelude.{◌≡◌, vec_len};
+ghost use Rattle.std.specs.Prelude.{◌≡◌, ◌+◌, vec_len, None, true, IfSome, OnSome, IfNone};
+ghost use Rattle.slab.specs.Slab.{slab_len};
+ghost use Rattle.ready_places.specs.Placed.{HasPlace, placed_at};
+ghost use Rattle.ready_places.specs.Queue.{is_queued};
+ghost use Rattle.ready_worker.specs.Come.{AreApart, ClientComes, ClientsCome, ClientIsOver};
 
 use crate::lane::Lane;
-use crate::places::Places;
+use crate::readiness::{Readiness, Wake};
+use crate::settling::{queue_all, settle, with_call};
+use crate::station::Station;
 use edge_io::Clock;
-use front_end::Caller;
-use mio::net::TcpStream;
-use mio::{Events, Interest, Poll, Token};
+use front_end::Gateway;
 use outbox::TryEdge;
+use ready_client::laws::begins;
 use ready_client::{Client, Turn};
-use std::alloc::{AllocError, Global};
+use ready_places::Places;
+use std::alloc::Global;
 use std::sync::Wait;
 use std::time::Duration;
 
-/// The most events that one wait gives.
-const EVENTS: usize = 256;
-
-/// The most bytes that one read takes.
-const PIECE: usize = 65_536;
-
-/// A worker: its connections, and those of them that are to be served.
+/// A worker: its connections, and those of them that are to be served, over one gateway. Each has come from its own
+/// beginning to the gateway as it is, at the moment of the clock that the worker was given, and no two have the same open
+/// call. One that awaits its call or a free caller is served again once it is woken by its key.
 #[derive(Drop)]
-pub(crate) struct Worker {
+pub struct Worker<'t, Y: Readiness, G: Gateway, T: Clock> {
     alloc: Global,
-    poll: Poll,
-    events: Events,
-    places: Places<Client<TryEdge<TcpStream>>>,
+    readiness: Y,
+    gateway: G,
+    clock: &'t T,
+    places: Places<Client<TryEdge<Y::Stream>, G::Call>>,
     room: Vec<u8>,
     ghost full: { vec_len room ≡ 65536 },
+    ghost come: { ClientsCome G.rules (T.moment clock.now) gateway places },
+    ghost apart: { AreApart places },
 }
 
-impl Worker {
-    /// A worker that waits at this poll and has no connection.
-    pub(crate) fn new(alloc: Global, poll: Poll) -> Result<Worker, AllocError> {
-        Ok(Worker {
+impl<'t, Y: Readiness, G: Gateway, T: Clock> Worker<'t, Y, G, T> {
+    /// A worker with no connection.
+    pub fn new(station: Station<Y>, gateway: G, clock: &'t T) -> Worker<'t, Y, G, T>
+        ensures gateway { result.gateway ≡ gateway }
+        ensures clock { result.clock.now ≡ clock.now }
+        ensures none { slab_len result.places.values ≡ 0 }
+    {
+        let Station {
             alloc,
-            poll,
-            events: Events::with_capacity(alloc, EVENTS)?,
+            readiness,
+            room,
+        } = station;
+        Worker {
+            alloc,
+            readiness,
+            gateway,
+            clock,
             places: Places::new(alloc),
-            room: vec![in alloc; 0; PIECE]?,
-        })
+            room,
+        }
     }
 
-    /// What it waits at.
-    pub(crate) fn poll(&self) -> &Poll {
-        &self.poll
+    /// Its gateway.
+    pub fn into_gateway(self) -> G
+        ensures { result ≡ self.entry.gateway }
+    {
+        let Worker { gateway, .. } = self;
+        gateway
     }
 
-    /// Serves the connections of its lane until no further one comes and all are over.
-    pub(crate) fn run<R: Wait, C: Caller, T: Clock>(
-        &mut self,
-        rt: &R,
-        lane: &Lane,
-        caller: &mut C,
-        clock: &T,
-    ) {
+    /// Serves the connections of a lane until no further one comes and all are over.
+    pub fn run<R: Wait, W: Wake>(&mut self, rt: &R, lane: &Lane<Y::Stream, W>)
+        ensures clock { self.new.clock ≡ self.old.clock }
+    {
         'rounds: for _ in rt.forever() {
             let is_over = lane.is_over();
             self.take_in(rt, lane);
             if is_over && self.places.is_empty() {
                 return;
             }
-            let ready = self.wait();
-            self.serve_round(lane, caller, clock, ready);
+            lane.leave(self.round());
         }
     }
 
     // Takes the connections that were handed over.
-    fn take_in<R: Wait>(&mut self, rt: &R, lane: &Lane) {
+    fn take_in<R: Wait, W: Wake>(&mut self, rt: &R, lane: &Lane<Y::Stream, W>)
+        ensures clock { self.new.clock ≡ self.old.clock }
+    {
         'streams: for _ in rt.forever() {
             let Some(stream) = lane.next(rt) else {
                 return;
             };
             if !self.admit(stream) {
-                lane.leave();
+                lane.leave(1);
             }
         }
     }
 
-    // Gives a connection a place. Says whether there was memory for it, and the system could watch it.
-    fn admit(&mut self, stream: TcpStream) -> bool {
+    /// Gives a connection a place. Says whether there was memory for it, and it could be watched.
+    pub fn admit(&mut self, stream: Y::Stream) -> bool
+        ensures clock { self.new.clock ≡ self.old.clock }
+    {
         let mut stream = stream;
-        let token = Token(self.places.vacant_key());
-        let watched = self.poll.registry().register(
-            &mut stream,
-            token,
-            Interest::READABLE | Interest::WRITABLE,
-        );
+        let watched = self
+            .readiness
+            .register(&mut stream, self.places.vacant_key());
         let client = Client::new(self.alloc, TryEdge::new(stream));
-        watched.is_ok() && self.places.insert(client)
+        begins::<G>();
+        watched && self.places.insert(client)
+    }
+
+    /// Waits until a connection is ready, unless there are some to serve, and gives each that is ready one turn, and then
+    /// one of those that have more to do. It says how many connections were over and let go.
+    pub fn round(&mut self) -> usize
+        ensures clock { self.new.clock ≡ self.old.clock }
+        ensures left { slab_len self.old.places.values ≡ slab_len self.new.places.values + result }
+    {
+        let before = self.places.len();
+        let ready = self.wait();
+        'queue: for _ in 0..=ready {
+            if self.places.is_empty() {
+                break 'queue;
+            }
+            drop(self.serve_first());
+        }
+        before - self.places.len()
     }
 
     // Waits until a connection is ready or the acceptor calls, unless there are some to serve. Those that are ready come
     // before those that have more to do: it says how many they are.
-    fn wait(&mut self) -> usize {
-        let time = if self.places.has_queued() {
+    fn wait(&mut self) -> usize
+        ensures clock { self.new.clock ≡ self.old.clock }
+        ensures values { self.new.places.values ≡ self.old.places.values }
+    {
+        let limit = if self.places.has_queued() {
             Some(Duration::from_secs(0))
         } else {
             None
         };
-        let mut ready: usize = 0;
-        if self.poll.poll(&mut self.events, time).is_err() {
-            return ready;
-        }
-        'events: for event in self.events.iter() {
-            let Token(key) = event.token();
-            if self.places.put_first(key) {
-                ready = ready.saturating_add(1);
-            }
-        }
-        ready
+        self.readiness.wait(limit);
+        queue_all(&mut self.places, self.readiness.ready())
     }
 
-    // Gives each connection that is ready one turn, and then one of those that have more to do.
-    fn serve_round<C: Caller, T: Clock>(
-        &mut self,
-        lane: &Lane,
-        caller: &mut C,
-        clock: &T,
-        ready: usize,
-    ) {
-        'queue: for _ in 0..=ready {
-            let Some(key) = self.places.take_first() else {
-                return;
-            };
-            match self.serve_one(key, caller, clock) {
-                Turn::More => self.places.put_last(key),
-                Turn::Waits => {}
-                Turn::Over => {
-                    self.places.remove(key);
-                    lane.leave();
-                }
-            }
-        }
+    /// A connection is to be served once more: its call ended, or a caller is free.
+    pub fn wake(&mut self, key: usize)
+        ensures clock { self.new.clock ≡ self.old.clock }
+        ensures values { self.new.places.values ≡ self.old.places.values }
+        ensures queued { HasPlace self.old.places key → is_queued self.new.places.queue key ≡ true }
+    {
+        let _ = self.places.put_first(key);
     }
 
-    // Gives a connection one turn.
-    fn serve_one<C: Caller, T: Clock>(&mut self, key: usize, caller: &mut C, clock: &T) -> Turn {
+    // Gives the first connection of the queue one turn. Where that was its last, it is let go.
+    fn serve_first(&mut self) -> Option<Client<TryEdge<Y::Stream>, G::Call>>
+        ensures clock { self.new.clock ≡ self.old.clock }
+        ensures come { IfSome result (ClientComes G.rules (T.moment self.old.clock.now) self.new.gateway) }
+        ensures over { IfSome result ClientIsOver }
+        ensures left { OnSome result (slab_len self.new.places.values + 1 ≡ slab_len self.old.places.values) }
+        ensures stays { IfNone result (slab_len self.new.places.values ≡ slab_len self.old.places.values) }
+    {
+        let key = self.places.take_first()?;
+        let turn = self.serve_one(key);
+        settle(&mut self.places, key, turn)
+    }
+
+    // Gives a connection one turn. One whose stream broke while its call is open is over only once that has ended.
+    fn serve_one(&mut self, key: usize) -> Turn
+        requires place { HasPlace self.old.places key }
+        ensures clock { self.new.clock ≡ self.old.clock }
+        ensures place { HasPlace self.new.places key }
+        ensures queue { self.new.places.queue ≡ self.old.places.queue }
+        ensures len { slab_len self.new.places.values ≡ slab_len self.old.places.values }
+        ensures over { result ≡ Turn.Over → IfSome (placed_at self.new.places key) ClientIsOver }
+    {
         match self.places.get_mut(key) {
-            Some(client) => client.turn(self.alloc, caller, clock, &mut self.room),
+            Some(client) => {
+                let turn = client.turn(self.alloc, &mut self.gateway, self.clock, &mut self.room);
+                with_call(turn, client.is_calling())
+            }
             None => Turn::Waits,
         }
     }

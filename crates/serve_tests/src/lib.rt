@@ -3,18 +3,28 @@
 #![tactic(auto)]
 
 #[cfg(test)]
+mod bench;
+#[cfg(test)]
 mod crowd;
 #[cfg(test)]
 mod loopback;
 #[cfg(test)]
 mod memory;
 #[cfg(test)]
+mod places;
+#[cfg(test)]
 mod rows;
+#[cfg(test)]
+mod schedules;
 #[cfg(test)]
 mod settings;
 #[cfg(test)]
 mod shop;
 #[cfg(test)]
+mod throngs;
+#[cfg(test)]
 mod unsteady;
+#[cfg(test)]
+mod wires;
 #[cfg(test)]
 mod workers;

@@ -1,3 +1,4 @@
+pub mod Behind
 pub mod Calling
 pub mod Failing
 pub mod Moving

@@ -76,9 +76,16 @@ impl<'a> StageCaller<'a> {
 }
 
 impl<'a> Caller for StageCaller<'a> {
-    ghost use Rattle.stage_caller.specs.Ordering.{HasCalled, HasGone, HasMadeNone, IsOrdered};
+    ghost use Rattle.stage_caller.specs.Behind.{IsBehind, stage_onward, stage_order, stage_ways};
+    ghost use Rattle.stage_caller.specs.Ordering.{HasGone, HasMadeNone, IsOrdered};
 
-    ghost ways = { record { made = HasCalled; failed = IsOrdered; kept = HasGone } };
+    ghost ways = { stage_ways };
+
+    ghost later = { IsBehind };
+
+    ghost order = { stage_order };
+
+    ghost onward = { stage_onward };
 
     fn call(&mut self, op: &Op) -> Result<CallEnd, AllocError> {
         make_call(self.stage, &mut self.seat, &mut self.heads, op, Phase::Asks)

@@ -55,9 +55,16 @@ impl WorldCaller {
 
 impl Caller for WorldCaller {
     ghost use Rattle.std.specs.Prelude.{◌≡◌, IfOk, OnErr};
-    ghost use Rattle.world_caller.specs.Callers.{HasCalled, HasGone, IsOrdered};
+    ghost use Rattle.world_caller.specs.Behind.{IsBehind, world_onward, world_order, world_ways};
+    ghost use Rattle.world_caller.specs.Callers.{HasGone, IsOrdered};
 
-    ghost ways = { record { made = HasCalled; failed = IsOrdered; kept = HasGone } };
+    ghost ways = { world_ways };
+
+    ghost later = { IsBehind };
+
+    ghost order = { world_order };
+
+    ghost onward = { world_onward };
 
     fn call(&mut self, op: &Op) -> Result<CallEnd, AllocError> {
         make_call(&mut self.world, self.caller, op)

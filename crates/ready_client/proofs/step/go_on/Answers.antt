@@ -4,10 +4,10 @@ use Rattle.ready_client.proofs.Telling.{closed}
 use Rattle.ready_client.proofs.step.go_on.Goals as goal
 
 pub returns-then-has_waiting : goal.returns-then-has_waiting
-returns-then-has_waiting g c = record { comes = λ told input input_now before sent under. inr (c.has_waiting.ensures.some c.if-has_waiting.true, under) }
+returns-then-has_waiting g c = record { comes = λ told input input_now first last before sent under. inr (c.has_waiting.ensures.some c.if-has_waiting.true, under) }
 
 pub returns : goal.returns
 returns g c = record {
-  comes = λ told input input_now before sent under. stepped-to _ _ _ _ _ _ _ _ _ c.step_of.ensures
+  comes = λ told input input_now first last before sent under. stepped-to _ _ _ _ _ _ _ _ _ c.step_of.ensures
       (closes _ told input input_now _ _ _ _ _ c.close.result under (c.has_waiting.ensures.none c.if-has_waiting.false) (λ fed requests read quits. closed sent _ _ _ _ _ (c.close.ensures.closed fed requests read quits)));
 }

@@ -6,19 +6,19 @@ use Rattle.ready_client.proofs.Coming.{came, moved, still}
 use Rattle.ready_client.proofs.step.read.Goals as goal
 
 pub returns-then-most-eq0-clause-comes : goal.returns-then-most-eq0-clause-comes
-returns-then-most-eq0-clause-comes g c = λ told input before goes. served-worn _ _ _ _ _ _ _ _ goes (omega (arith, c.most-most.ensures, c.if-most-eq0.true, c.requires.within))
+returns-then-most-eq0-clause-comes g c = λ told input first last before goes. served-worn _ _ _ _ _ _ _ _ goes (omega (arith, c.most-most.ensures, c.if-most-eq0.true, c.requires.within))
 
 pub returns-in-Ok-Came-clause-comes : goal.returns-in-Ok-Came-clause-comes
-returns-in-Ok-Came-clause-comes g c = λ told input before goes. c.take.ensures.comes told input _ _ before (g.S.TryStream.held c.try_read.new.self)
-    (moved _ told input _ before _ _ _ c.args.connection.now c.in-Ok-Came.ensures.held goes) (came _ _ c.try_read.result _ (Came c.in-Ok-Came.n) _ c.try_read.ensures.bytes c.in-Ok-Came.is c.in-Ok-Came.field-0-is).0
+returns-in-Ok-Came-clause-comes g c = λ told input first last before goes. c.take.ensures.comes told input _ _ first last before (g.S.TryStream.held c.try_read.new.self)
+    (moved _ told input _ _ last _ _ _ c.args.connection.now c.in-Ok-Came.ensures.held goes) (came _ _ c.try_read.result _ (Came c.in-Ok-Came.n) _ c.try_read.ensures.bytes c.in-Ok-Came.is c.in-Ok-Came.field-0-is).0
 
 pub returns-in-Ok-Ended-clause-comes : goal.returns-in-Ok-Ended-clause-comes
-returns-in-Ok-Ended-clause-comes g c = λ told input before goes.
-    let now = moved _ told input _ before _ (g.S.TryStream.held c.try_read.new.self) _ c.args.connection.now c.in-Ok-Ended.ensures.held goes in
+returns-in-Ok-Ended-clause-comes g c = λ told input first last before goes.
+    let now = moved _ told input _ _ last _ (g.S.TryStream.held c.try_read.new.self) _ c.args.connection.now c.in-Ok-Ended.ensures.held goes in
     served-ended _ told input _ _ _ _ _ _ now _ (omega (arith, c.most-most.ensures, c.if-most-eq0.false)) (came _ _ c.try_read.result _ Ended _ c.try_read.ensures.bytes c.in-Ok-Ended.is c.in-Ok-Ended.field-0-is).0 (came _ _ c.try_read.result _ Ended _ c.try_read.ensures.bytes c.in-Ok-Ended.is c.in-Ok-Ended.field-0-is).1 (c.end.ensures now.read now.requests now.has_read now.no_quit)
 
 pub returns-in-Ok-Waits-clause-comes : goal.returns-in-Ok-Waits-clause-comes
-returns-in-Ok-Waits-clause-comes g c = λ told input before goes. inl (c.requires.idle, still _ told input _ _ _ _ _ _ _ (moved _ told input _ before _ _ _ c.args.connection.now c.in-Ok-Waits.ensures.held goes) refl (came _ _ c.try_read.result _ Waits _ c.try_read.ensures.bytes c.in-Ok-Waits.is c.in-Ok-Waits.field-0-is).0)
+returns-in-Ok-Waits-clause-comes g c = λ told input first last before goes. inl (c.requires.idle, still _ told input _ _ _ _ _ _ _ (moved _ told input _ _ last _ _ _ c.args.connection.now c.in-Ok-Waits.ensures.held goes) refl (came _ _ c.try_read.result _ Waits _ c.try_read.ensures.bytes c.in-Ok-Waits.is c.in-Ok-Waits.field-0-is).0)
 
 pub returns-in-Err-clause-comes : goal.returns-in-Err-clause-comes
-returns-in-Err-clause-comes g c = λ told input before goes. served-read_fault _ told input _ _ _ _ _ _ (Err ReadFault) (moved _ told input _ before _ _ _ c.args.connection.now c.in-Err.ensures.held goes) c.in-Err.ensures.bytes.0 refl
+returns-in-Err-clause-comes g c = λ told input first last before goes. served-read_fault _ told input _ _ _ _ _ _ (Err ReadFault) (moved _ told input _ _ last _ _ _ c.args.connection.now c.in-Err.ensures.held goes) c.in-Err.ensures.bytes.0 refl

@@ -1,0 +1,3 @@
+mod Noting
+mod Coming
+mod Placing

@@ -1,0 +1,5 @@
+use Rattle.std.proofs.Common.{◌≡◌}
+use Rattle.ready_worker.proofs.worker.Worker.take_in.Given as goal
+
+abbrev pub invariant-streams : goal.invariant-streams
+invariant-streams g l = (goal.iterator-streams g).can_next l.iterator' × (goal.iterator-streams g).is_finite l.iterator' × (l.self.clock ≡ l.initial.self.clock)

@@ -1,0 +1,31 @@
+use std::io;
+use std::io::{Read, Write};
+use std::time::Duration;
+
+/// Tells which of the streams that it watches became ready to be read or written, each by its key. It tells a stream again
+/// only once more came for it or it has room again, and one that was let go no more.
+pub trait Readiness: Drop {
+    /// A stream that can be watched, which says `WouldBlock` where it would have to wait.
+    type Stream: Read + Write + Drop;
+
+    /// What ends a wait.
+    type Waker: Wake;
+
+    /// What ends the waits of this one.
+    fn waker(&self) -> io::Result<Self::Waker>;
+
+    /// Watches a stream from now on, under this key. Says whether it can.
+    fn register(&mut self, stream: &mut Self::Stream, key: usize) -> bool;
+
+    /// Waits until a stream is ready, the waker ends it, or so much time went by.
+    fn wait(&mut self, limit: Option<Duration>);
+
+    /// The keys of the streams that were ready when the last wait ended.
+    fn ready(&self) -> &[usize];
+}
+
+/// Ends a wait of a worker, from any thread.
+pub trait Wake {
+    /// Ends the wait, or the next one.
+    fn wake(&self);
+}

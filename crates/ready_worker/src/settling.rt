@@ -1,0 +1,53 @@
+ghost use Rattle.std.specs.Prelude.{◌≡◌, ◌≢◌, ◌+◌, ◌++◌, ◌∷◌, [], None, false, IsSome, OnSome};
+ghost use Rattle.slab.specs.Slab.{slab_len, Updates};
+ghost use Rattle.ready_places.specs.Placed.{HasPlace, placed_at};
+ghost use Rattle.ready_places.specs.Queue.{is_queued};
+ghost use Rattle.ready_worker.specs.Queued.{AreQueued};
+
+use ready_client::Turn;
+use ready_places::Places;
+
+/// Puts the values of all keys that have a place at the head of the queue, and says how many didn't stand in it.
+pub(crate) fn queue_all<T: Drop>(places: &mut Places<T>, keys: &[usize]) -> usize
+    ensures values { places.new.values ≡ places.old.values }
+    ensures queued { AreQueued places.new keys.now }
+{
+    let mut count: usize = 0;
+    'keys: for key in keys {
+        if places.put_first(*key) {
+            count = count.saturating_add(1);
+        }
+    }
+    count
+}
+
+/// Settles what becomes of a value after its turn: it is queued again, waits to be told of, or is let go.
+pub(crate) fn settle<T: Drop>(places: &mut Places<T>, key: usize, turn: Turn) -> Option<T>
+    requires place { HasPlace places.old key }
+    requires out { is_queued places.old.queue key ≡ false }
+    ensures more { turn ≡ Turn.More → places.new ≡ record places.old { queue = places.old.queue ++ key ∷ [] } }
+    ensures waits { turn ≢ Turn.More → turn ≢ Turn.Over → places.new ≡ places.old }
+    ensures stays { turn ≢ Turn.Over → result ≡ None }
+    ensures over { turn ≡ Turn.Over → Updates places.old.values places.new.values key None }
+    ensures gone { turn ≡ Turn.Over → IsSome result × (result ≡ placed_at places.old key) }
+    ensures queue { turn ≡ Turn.Over → places.new.queue ≡ places.old.queue }
+    ensures len { OnSome result (slab_len places.new.values + 1 ≡ slab_len places.old.values) }
+{
+    match turn {
+        Turn::More => places.put_last(key),
+        Turn::Waits | Turn::AwaitsCall | Turn::AwaitsCaller => {}
+        Turn::Over => return places.remove(key),
+    }
+    None
+}
+
+/// What a turn comes to where a call may be open: a client is over only once its call has ended.
+pub(crate) fn with_call(turn: Turn, is_calling: bool) -> Turn
+    ensures over { result ≡ Turn.Over → (turn ≡ Turn.Over) × (is_calling ≡ false) }
+    ensures same { is_calling ≡ false → result ≡ turn }
+{
+    match turn {
+        Turn::Over if is_calling => Turn::AwaitsCall,
+        _ => turn,
+    }
+}
