@@ -81,7 +81,7 @@ module _ (s : Dimensions) (from : ProcessId) (m : Message) (node : Node) where
       ∙ link-grows s step node q member unknown
 
 -- one that isn't cut isn't known dead
-unknown-uncut : (w : OwnWords) (known : Membership) → AreWords w → AreAmong known w.taken → (q : ProcessId) → knows_dead w.cut q ≡ false → knows_dead known q ≡ false
+pub unknown-uncut : (w : OwnWords) (known : Membership) → AreWords w → AreAmong known w.taken → (q : ProcessId) → knows_dead w.cut q ≡ false → knows_dead known q ≡ false
 unknown-uncut w known whole among q uncut =
     unknown-among known w.cut q (λ is. whole.permitted q (whole.taken q (among q is))) uncut
 
@@ -160,6 +160,9 @@ receive-acts v from m can plain words whole g out st comes =
         works = subst (λ (u : ProcessStep). HasWorks (stepped g.words.cut p u read) out w now) (sym step)
             (stepped-works g.words.cut read out w v.node now t st.words.cut has (sym (heard-process s from m v.node)) sends);
         signs = record { pinged = st.signs.pinged; answered = st.signs.answered; pings = st.signs.pings; pongs = st.signs.pongs };
+        own = st.own;
+        callers = st.callers;
+        requests = st.requests;
       });
     }
 
@@ -223,10 +226,13 @@ take-acts v x can words after-words whole g out st =
         works = subst (λ (u : ProcessStep). HasWorks (stepped g.words.cut p u g.works) out after.words after.node) (sym step)
             (stepped-works g.words.cut g.works out after.words v.node after.node t st.words.cut has (sym (heard-process s x (tells.Notice x) v.node)) sends);
         signs = record { pinged = st.signs.pinged; answered = st.signs.answered; pings = st.signs.pings; pongs = st.signs.pongs };
+        own = st.own;
+        callers = st.callers;
+        requests = st.requests;
       };
     }
 
-if-up : (down dead : Bool) (node : Node) (t : NodeStep) → down ≡ false → dead ≡ false → if_up down dead node t ≡ t
+pub if-up : (down dead : Bool) (node : Node) (t : NodeStep) → down ≡ false → dead ≡ false → if_up down dead node t ≡ t
 if-up false false node t up lives = refl
 if-up false true node t up lives = absurd (cc lives)
 if-up true dead node t up lives = absurd (cc up)
@@ -265,5 +271,8 @@ module _ (v : Member) (whole : IsWholeMember v.words.shape v.words v.signs v.nod
           works = subst (λ (u : ProcessStep). HasWorks (stepped g.words.cut p u g.works) out w then) (sym step)
               (stepped-works g.words.cut g.works out w v.node then t st.words.cut has refl sends);
           signs = record { pinged = st.signs.pinged; answered = st.signs.answered; pings = st.signs.pings; pongs = st.signs.pongs };
+          own = st.own;
+          callers = st.callers;
+          requests = st.requests;
         };
       }

@@ -1,25 +1,23 @@
 -- What a member hands out of its node's links, and how it opens.
-use Rattle.std.proofs.Common.{ℕ, ◌≡◌, ◌≢◌, ◌+◌, nat_lt, Bool, true, false, List, [], ◌∷◌, ◌++◌, drop, replicate, refl, sym, ap, subst, inl, inr, ◌∙◌, arith}
+use Rattle.std.proofs.Common.{◌≡◌, ◌≢◌, ◌+◌, Bool, true, false, List, [], ◌∷◌, ◌++◌, drop, refl, sym, ap, subst, inl, inr, ◌∙◌}
 use Rattle.std.specs.Prelude.{IfSome, Option, Some, None, slice_get}
 use Rattle.std.proofs.lemmas.List.{append_assoc, length-replicate}
-use Rattle.std.proofs.lemmas.Grind.{common_steps}
 use Rattle.group_types.specs.Dimensions.{Dimensions}
 use Rattle.group_types.specs.Lists.{at}
 use Rattle.group_types.specs.Names.{IsProcess, index_of}
 use Rattle.group_types.specs.declared.process.ProcessId.{ProcessId}
-use Rattle.group_types.specs.declared.process.ProcessId.TheVariants.{DataNode, ParityNode}
-use Rattle.group_types.proofs.Lists.{at-put, at-put-other, at-replicate}
+use Rattle.group_types.proofs.Lists.{at-put, at-put-other}
 use Rattle.group_types.proofs.Names.{index-one, same-cases}
-use Rattle.membership.specs.Members.{Membership, all_living, knows_dead}
+use Rattle.membership.specs.Members.{knows_dead}
 use Rattle.group_message.specs.declared.message.Message.{Message}
 use Rattle.group_run.specs.Process.{Node}
 use Rattle.group_run.specs.World.{opening_node, with_link}
-use Rattle.group_wire.specs.State.{opening_group}
-use Rattle.group_member.specs.Acting.{Acts, ActsHanding, message_handed, nothing_out}
+use Rattle.group_member.specs.Acting.{Acts, ActsHanding, message_handed}
 use Rattle.group_member.specs.Opening.{opening_member, opening_words}
 use Rattle.group_member.specs.Whole.{IsWholeMember}
 use Rattle.group_member.specs.Words.{AreWords}
-use Rattle.group_member.specs.Standing.{IsAhead, Member, MemberStands}
+use Rattle.group_member.specs.Standing.{IsAhead, Member}
+use Rattle.group_member.proofs.Calls.{requests-stay}
 use Rattle.group_member.proofs.Reading.{changed-here, changed-other}
 
 -- a node without the first message of its link to q
@@ -76,6 +74,9 @@ module _ (v : Member) (q : ProcessId) (member : IsProcess v.words.shape q) where
         ];
       };
       signs = record { pinged = st.signs.pinged; answered = st.signs.answered; pings = st.signs.pings; pongs = st.signs.pongs };
+      own = st.own;
+      callers = st.callers;
+      requests = requests-stay (message_handed q m out) refl refl st.requests;
     };
   }
 
@@ -103,38 +104,11 @@ module _ (v : Member) (q : ProcessId) (member : IsProcess v.words.shape q) where
         ];
       };
       signs = st.signs;
+      own = st.own;
+      callers = st.callers;
+      requests = st.requests;
     };
   }
-
-nobody-known : (s : Dimensions) (q : ProcessId) → knows_dead (all_living s) q ≡ false
-nobody-known s (DataNode d) = at-replicate false 16 d
-nobody-known s (ParityNode i) = at-replicate false 4 i
-
-none-below : (j n : ℕ) → n ≡ 0 → false ≡ nat_lt j n
-none-below j n is = grind (arith, common_steps)
-
-pub opening-stands : (s : Dimensions) (name : ProcessId) → IsProcess s name → MemberStands (opening_group s) nothing_out (opening_member s name)
-opening-stands s name member = record {
-  shape = refl;
-  here = record { member = member; runs = refl };
-  words = record {
-    cut = λ q. sym (nobody-known s q);
-    heard = λ q named x. sym (ap (λ (m : Membership). knows_dead m x) (at-replicate (all_living s) (s.k + s.m) (index_of s q)) ∙ nobody-known s x);
-    permitted = λ q. sym (nobody-known s q);
-    taken = λ q. sym (nobody-known s q);
-    said = λ q. tt;
-  };
-  works = record {
-    process = refl;
-    links = λ q named. record { behind = []; is = refl; kept = λ off. sym (at-replicate [] (s.k + s.m) (index_of s q)) };
-  };
-  signs = record {
-    pinged = refl;
-    answered = λ q j named. none-below j (at 0 (replicate (s.k + s.m) 0) (index_of s q)) (at-replicate 0 (s.k + s.m) (index_of s q));
-    pings = λ q. refl;
-    pongs = λ q. refl;
-  };
-}
 
 -- a new member is whole
 pub opening-whole : (s : Dimensions) (name : ProcessId) → AreWords (opening_words s name) → IsWholeMember s (opening_words s name) (opening_member s name).signs (opening_node s name)

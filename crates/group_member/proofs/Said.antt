@@ -1,5 +1,5 @@
 -- What a member cuts, says, hears and permits are the group's actions.
-use Rattle.std.proofs.Common.{ℕ, ◌≡◌, ◌≢◌, ◌≤◌, ◌||◌, Bool, true, false, List, [], ◌∷◌, ◌++◌, sym, ap, subst, inl, inr, ◌∙◌, arith}
+use Rattle.std.proofs.Common.{ℕ, ◌≡◌, ◌≢◌, ◌≤◌, ◌||◌, Bool, true, false, List, [], ◌∷◌, ◌++◌, refl, sym, ap, subst, inl, inr, ◌∙◌, arith}
 use Rattle.group_types.specs.Dimensions.{Dimensions}
 use Rattle.group_types.specs.Lists.{at}
 use Rattle.group_types.specs.Names.{IsProcess, index_of, same_process}
@@ -14,6 +14,7 @@ use Rattle.group_member.specs.Acting.{Acts, ActsHanding, ActsWhere, SetComes, se
 use Rattle.group_member.specs.Standing.{AreSets, IsSetOf, Member, OwnWords, MemberStands, heard_of}
 use Rattle.group_member.specs.Words.{AreWords, CanCut, CanPermit, CanReadFrom}
 use Rattle.group_member.proofs.Keeping.{known-of, with-is}
+use Rattle.group_member.proofs.Calls.{requests-stay}
 use Rattle.group_member.proofs.Reading.{changed-here, changed-other, size-same, unknown-before}
 
 pub cut-acts : (v : Member) (x : ProcessId) → CanCut v.words x → AreWords v.words
@@ -56,6 +57,9 @@ cut-acts v x can whole g out st =
           };
         };
         signs = record { pinged = st.signs.pinged; answered = st.signs.answered; pings = st.signs.pings; pongs = st.signs.pongs };
+        own = st.own;
+        callers = st.callers;
+        requests = st.requests;
       };
     }
 
@@ -83,6 +87,9 @@ permit-acts v can g out st =
         };
         works = record { process = st.works.process; links = st.works.links };
         signs = record { pinged = st.signs.pinged; answered = st.signs.answered; pings = st.signs.pings; pongs = st.signs.pongs };
+        own = st.own;
+        callers = st.callers;
+        requests = st.requests;
       };
     }
 
@@ -120,6 +127,9 @@ say-acts v g out st =
         };
         works = record { process = st.works.process; links = st.works.links };
         signs = record { pinged = st.signs.pinged; answered = st.signs.answered; pings = st.signs.pings; pongs = st.signs.pongs };
+        own = st.own;
+        callers = st.callers;
+        requests = requests-stay {out = out} (set_handed w.cut out) refl refl st.requests;
       };
     }
 
@@ -185,5 +195,8 @@ hear-acts v from known heard can has g out st comes =
         };
         works = record { process = st.works.process; links = st.works.links };
         signs = record { pinged = st.signs.pinged; answered = st.signs.answered; pings = st.signs.pings; pongs = st.signs.pongs };
+        own = st.own;
+        callers = st.callers;
+        requests = st.requests;
       });
     }

@@ -16,6 +16,7 @@ use Rattle.group_wire.specs.Stepping.{answered_first, counted_first}
 use Rattle.group_member.specs.Acting.{ActsHanding, ActsWhere, PingComes, PongComes, behind_at, ping_handed, pong_handed}
 use Rattle.group_member.specs.Standing.{HandedFrames, Member, MemberStands}
 use Rattle.group_member.specs.Words.{CanReadFrom}
+use Rattle.group_member.proofs.Calls.{requests-stay}
 use Rattle.group_member.proofs.Reading.{changed-here, changed-other}
 
 pub reads-other : (v : Member) (from : ProcessId) (g : Group) (out : HandedFrames) → CanReadFrom v.words from → MemberStands g out v → MayReadOther g from v.words.name
@@ -50,6 +51,9 @@ ping-acts v to g out st =
               ∙ ap (λ (n : ℕ). one_or (knows_dead w.cut q) (out.pings q) (out.pings q ++ one_or (to q) (n ∷ []) [])) st.signs.pinged;
           pongs = st.signs.pongs;
         };
+        own = st.own;
+        callers = st.callers;
+        requests = requests-stay (ping_handed to w.cut v.signs.pinged out) refl refl st.requests;
       };
     }
 
@@ -89,6 +93,9 @@ pong-acts v from ping can g out st comes =
                 | inr other ↦ changed-other (g.signs.pongs p) from q more other ∙ st.signs.pongs q ∙ sym (changed-other out.pongs from q (out.pongs from ++ ping ∷ []) other)
               ];
         };
+        own = st.own;
+        callers = st.callers;
+        requests = requests-stay (pong_handed from ping out) refl refl st.requests;
       });
     }
 
@@ -149,5 +156,8 @@ count-acts v from ping can g out st comes =
           pings = st.signs.pings;
           pongs = λ q. ap (λ (f : ProcessId → List ℕ). f q) (changed-other g.signs.pongs from p (changed (g.signs.pongs from) p rest) (λ same. can.other (sym same))) ∙ st.signs.pongs q;
         };
+        own = st.own;
+        callers = st.callers;
+        requests = st.requests;
       });
     }

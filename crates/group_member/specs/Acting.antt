@@ -1,12 +1,13 @@
 -- What a member's calls are in a group on its machines: actions that may come there, after which it stands there again.
-use Rattle.std.specs.Prelude.{ℕ, ◌≡◌, List, [], ◌∷◌, ◌++◌, ⊤}
+use Rattle.std.specs.Prelude.{ℕ, ◌≡◌, List, [], ◌∷◌, ◌++◌, Option, Some, None, ⊤}
+use Rattle.group_types.specs.Dimensions.{Dimensions}
 use Rattle.group_types.specs.declared.process.ProcessId.{ProcessId}
 use Rattle.membership.specs.Members.{Membership, knows_dead}
 use Rattle.group_message.specs.declared.message.Message.{Message}
 use Rattle.group_wire.specs.Actions.{Action}
 use Rattle.group_wire.specs.May.{MayAct}
 use Rattle.group_wire.specs.Sets.{Processes, changed, one_or}
-use Rattle.group_wire.specs.State.{Group}
+use Rattle.group_wire.specs.State.{Request, Told, Group, gateway_of}
 use Rattle.group_wire.specs.Stepping.{group_after}
 use Rattle.group_member.specs.Standing.{HandedFrames, IsSetOf, Member, MemberStands}
 
@@ -41,7 +42,7 @@ Acts actions before after = ActsHanding actions (λ out. out) before after
 abbrev pub IsFirst : {X : Type 0} → List X → X → Type 0
 IsFirst {X} wire x = (rest : List X) × (wire ≡ x ∷ rest)
 
--- a message, a set, a ping or a pong stands in front on the wire from x to p
+-- a message, a set, a ping, a pong, a request or an answer stands in front on the wire from x to p
 abbrev pub MessageComes : ProcessId → ProcessId → Message → Group → Type 0
 MessageComes x p m g = IsFirst (g.works.messages x p) m
 
@@ -53,6 +54,12 @@ PingComes x p ping g = IsFirst (g.signs.pings x p) ping
 
 abbrev pub PongComes : ProcessId → ProcessId → ℕ → Group → Type 0
 PongComes x p ping g = IsFirst (g.signs.pongs x p) ping
+
+abbrev pub RequestComes : ProcessId → ProcessId → Request → Group → Type 0
+RequestComes x p r g = IsFirst (g.gateways.requests x p) r
+
+abbrev pub AnswerComes : ProcessId → ProcessId → Told → Group → Type 0
+AnswerComes x p t g = IsFirst (g.gateways.answers x p) t
 
 -- a frame more is handed out for q
 abbrev pub behind_at : {X : Type 0} → (ProcessId → List X) → ProcessId → X → ProcessId → List X
@@ -74,6 +81,14 @@ set_handed cut out = record out { said = λ q. one_or (knows_dead cut q) (out.sa
 abbrev pub ping_handed : Processes → Membership → ℕ → HandedFrames → HandedFrames
 ping_handed to cut ping out = record out { pings = behind_all out.pings to cut ping }
 
+abbrev pub request_handed : ProcessId → Request → HandedFrames → HandedFrames
+request_handed q r out = record out { requests = behind_at out.requests q r }
+
+-- an answer, if there is one, is handed out for its caller's gateway
+abbrev pub answer_handed : Dimensions → Option Told → HandedFrames → HandedFrames
+answer_handed s None out = out
+answer_handed s (Some t) out = record out { answers = behind_at out.answers (gateway_of s t.caller) t }
+
 -- nothing was handed out
 abbrev pub nothing_out : HandedFrames
-nothing_out = record { messages = λ q. []; said = λ q. []; pings = λ q. []; pongs = λ q. [] }
+nothing_out = record { messages = λ q. []; said = λ q. []; pings = λ q. []; pongs = λ q. []; requests = λ q. []; answers = λ q. [] }

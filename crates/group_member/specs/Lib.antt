@@ -1,6 +1,11 @@
+pub mod Callers
 pub mod Standing
 pub mod Acting
 pub mod Words
+pub mod Requests
 pub mod Whole
 pub mod Opening
 pub mod Receiving
+pub mod Treating
+pub mod Telling
+pub mod Showing

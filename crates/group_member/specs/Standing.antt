@@ -1,5 +1,5 @@
 -- What a member keeps, and how it stands in a group on its machines.
-use Rattle.std.specs.Prelude.{ℕ, ◌≡◌, nat_lt, Bool, false, List, [], ◌∷◌, ◌++◌, ⊤}
+use Rattle.std.specs.Prelude.{ℕ, ◌≡◌, ◌≢◌, nat_lt, Bool, false, List, [], ◌∷◌, ◌++◌, ⊤}
 use Rattle.group_types.specs.Dimensions.{Dimensions}
 use Rattle.group_types.specs.Lists.{at}
 use Rattle.group_types.specs.Names.{IsProcess, index_of}
@@ -9,7 +9,8 @@ use Rattle.group_message.specs.declared.message.Message.{Message}
 use Rattle.group_run.specs.Process.{Node}
 use Rattle.group_wire.specs.May.{IsHere}
 use Rattle.group_wire.specs.Sets.{Processes}
-use Rattle.group_wire.specs.State.{Words, Works, Signs, Group}
+use Rattle.group_wire.specs.State.{Request, Told, Words, Works, Gateways, Signs, Group}
+use Rattle.group_member.specs.Callers.{AreCallersOf, IsItsCaller, OwnCallers, caller_of}
 
 -- whom a member has cut, what each other has told it that it has cut, by index, and whose deaths it may take and has taken
 pub record OwnWords : Type 0 where
@@ -25,9 +26,12 @@ pub record OwnSigns : Type 0 where
   pub pinged : ℕ
   pub answered : List ℕ
 
+-- beside these a member has its callers, the requests that it has read and not treated, in order, and its node
 pub record Member : Type 0 where
   pub words : OwnWords
   pub signs : OwnSigns
+  pub callers : OwnCallers
+  pub parked : List Request
   pub node : Node
 
 -- what a member has handed out for each other, and nobody has read there
@@ -36,6 +40,8 @@ pub record HandedFrames : Type 0 where
   pub said : ProcessId → List Membership
   pub pings : ProcessId → List ℕ
   pub pongs : ProcessId → List ℕ
+  pub requests : ProcessId → List Request
+  pub answers : ProcessId → List Told
 
 -- what a member has heard of another
 abbrev pub heard_of : OwnWords → ProcessId → Membership
@@ -79,10 +85,28 @@ pub record HasSigns (g : Signs) (out : HandedFrames) (w : OwnWords) (v : OwnSign
   pub pings : (q : ProcessId) → g.pings w.name q ≡ out.pings q
   pub pongs : (q : ProcessId) → g.pongs w.name q ≡ out.pongs q
 
--- a member stands in a group where it is here, and the group has its words, its process and its signs
+-- the group has the open calls and positions of a member's callers
+pub record HasCallers (g : Gateways) (v : OwnCallers) : Type 0 where
+  pub call : (caller : ℕ) → IsItsCaller v caller → g.call caller ≡ (caller_of v caller).call
+  pub next : (caller : ℕ) → IsItsCaller v caller → g.next caller ≡ (caller_of v caller).next
+
+-- the group has the requests of a member and its answers, those that it has read and not treated, and what it has sent to
+-- itself and not read
+pub record HasRequests (g : Gateways) (out : HandedFrames) (name : ProcessId) (read asked : List Request) (told : List Told) : Type 0 where
+  pub requests : (q : ProcessId) → q ≢ name → g.requests name q ≡ out.requests q
+  pub answers : (q : ProcessId) → q ≢ name → g.answers name q ≡ out.answers q
+  pub parked : g.parked name ≡ read
+  pub own_requests : g.requests name name ≡ asked
+  pub own_answers : g.answers name name ≡ told
+
+-- a member stands in a group where it is here, and the group has its words, its process, its signs and its callers; what it
+-- sends itself it reads at once
 pub record MemberStands (g : Group) (out : HandedFrames) (v : Member) : Type 0 where
   pub shape : g.shape ≡ v.words.shape
   pub here : IsHere g v.words.name
   pub words : HasWords g.words out v.words
   pub works : HasWorks g.works out v.words v.node
   pub signs : HasSigns g.signs out v.words v.signs
+  pub own : AreCallersOf v.words.shape v.words.name v.callers
+  pub callers : HasCallers g.gateways v.callers
+  pub requests : HasRequests g.gateways out v.words.name v.parked [] []

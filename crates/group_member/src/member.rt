@@ -7,30 +7,41 @@ ghost use Rattle.group_member.specs.Opening.{opening_member};
 ghost use Rattle.group_member.specs.Standing.{MemberStands};
 ghost use Rattle.group_member.specs.Words.{CanReadFrom};
 
+use crate::own_callers::OwnCallers;
 use crate::signs::OwnSigns;
 use crate::words::OwnWords;
 use group_node::Node;
 use group_types::{ProcessId, Shape};
+use link_frames::Request;
 use std::alloc::{AllocError, Global};
 use std::marker::Model;
 
-/// One process of a group, with what its program needs around it.
+/// One process of a group, with what its program needs around it. A member that is dropped has stopped, for ever.
 #[derive(Drop)]
 pub struct Member {
+    pub(crate) alloc: Global,
     pub(crate) words: OwnWords,
     pub(crate) signs: OwnSigns,
+    pub(crate) callers: OwnCallers,
+    pub(crate) parked: Vec<Request>,
     pub(crate) node: Node,
 }
 
 impl Model for Member {
     ghost use Rattle.group_member.specs.Standing as standing;
-    ghost use Rattle.group_member.specs.Whole.{IsWholeMember};
+    ghost use Rattle.group_member.specs.Whole.{IsWhole};
 
     ghost Value = { standing.Member };
 
-    ghost view = { λ m. record { words = m.words; signs = m.signs; node = m.node.node } };
+    ghost view = { λ m. record {
+      words = m.words;
+      signs = m.signs;
+      callers = m.callers;
+      parked = m.parked.items;
+      node = m.node.node;
+    } };
 
-    ghost invariant = { λ m. IsWholeMember m.node.shape m.words m.signs m.node.node };
+    ghost invariant = { λ m. IsWhole m.node.shape m.words m.signs m.callers m.parked.items m.node.node };
 }
 
 impl Member {
@@ -41,9 +52,12 @@ impl Member {
         ensures stands { IfOk result (λ m. MemberStands (opening_group shape) nothing_out m) }
     {
         Ok(Member {
+            alloc,
             words: OwnWords::new(alloc, shape, name)?,
             signs: OwnSigns::new(alloc, shape)?,
+            callers: OwnCallers::new(alloc, shape, name)?,
             node: Node::new(alloc, shape, name)?,
+            parked: Vec::new(alloc),
         })
     }
 

@@ -1,14 +1,15 @@
-ghost use Rattle.std.specs.Prelude.{◌≡◌, ◌↔◌, ◌-◌, ◌<◌, ◌^◌, [], ◌∷◌, nat_lt, IsTrue};
+ghost use Rattle.std.specs.Prelude.{◌≡◌, ◌↔◌, ◌-◌, ◌+◌, ◌<◌, ◌^◌, [], ◌∷◌, nat_lt, IsTrue};
 ghost use Rattle.group_types.specs.Lists.{at};
 ghost use Rattle.group_types.specs.Names as names;
 ghost use Rattle.group_types.specs.Names.{IsProcess};
 ghost use Rattle.membership.specs.Members.{knows_dead};
 ghost use Rattle.group_wire.specs.Actions as act;
 ghost use Rattle.group_member.specs.Acting.{ActsHanding, ActsWhere, PingComes, PongComes, ping_handed, pong_handed};
+ghost use Rattle.group_member.specs.Showing.{HasEnough, counts_for};
 ghost use Rattle.group_member.specs.Words.{CanReadFrom};
 
 use crate::member::Member;
-use group_node::index_of;
+use group_node::{index_of, process_at};
 use group_types::ProcessId;
 use membership::Members;
 
@@ -64,5 +65,26 @@ impl Member {
     {
         self.signs
             .has_answered(index_of(self.words.shape(), from), ping)
+    }
+
+    /// Whether enough have answered a ping, or a later one: with those whose deaths are taken, which don't count as
+    /// answers, at least m.
+    pub fn has_enough(&self, ping: u64) -> bool
+        ensures { IsTrue result ↔ HasEnough self.now.words self.now.signs ping }
+    {
+        let shape = self.words.shape();
+        let mut many = 0u32;
+        'all: for x in 0..shape.k() + shape.m() {
+            many += u32::from(self.counts(x, ping));
+        }
+        shape.m() <= many
+    }
+
+    // Whether the process at an index has answered a ping, or a later one, or its death is taken.
+    fn counts(&self, x: u32, ping: u64) -> bool
+        requires { x < self.now.words.shape.k + self.now.words.shape.m }
+        ensures { result ≡ counts_for self.now.words self.now.signs ping (names.process_at self.now.words.shape x) }
+    {
+        self.words.has_taken(process_at(self.words.shape(), x)) || self.signs.has_answered(x, ping)
     }
 }

@@ -1,0 +1,14 @@
+pub mod Rows
+pub mod Acting
+pub mod KeptWords
+pub mod KeptSigns
+pub mod KeptWorks
+pub mod KeptGateways
+pub mod Others
+pub mod Reading
+pub mod Reaching
+pub mod Calling
+pub mod Naming
+pub mod Stepping
+pub mod Running
+pub mod Following
