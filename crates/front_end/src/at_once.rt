@@ -55,6 +55,8 @@ impl<C: Caller> Gateway for AtOnce<C> {
 
     ghost order = { order_of C.later C.order };
 
+    fn turn_of(&mut self, _key: usize) {}
+
     fn begin(&mut self, op: Op) -> Result<Option<OnlyCall>, AllocError> {
         if self.ended.is_some() {
             return Ok(None);

@@ -18,6 +18,12 @@ pub trait Gateway {
     // Each comes behind itself, and they come one behind the other.
     ghost order: { IsOrder rules.later };
 
+    /// The connection of this key has its turn: a call that begins now is its own.
+    fn turn_of(&mut self, key: usize)
+        ensures open { KeepsOpen rules self.old self.new }
+        ensures lends { LendsNone rules self.old self.new }
+        ensures later { rules.later self.old self.new };
+
     /// Begins a call. None: no caller is free, and one has to be waited for.
     fn begin(&mut self, op: Op) -> Result<Option<Self::Call>, AllocError>
         ensures begun { IfOk result (λ begun. IfSome begun (λ call. rules.opened self.new call op self.old)) }

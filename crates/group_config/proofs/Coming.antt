@@ -1,8 +1,13 @@
 -- What a result that the checks give says of its text.
-use Rattle.std.proofs.Common.{◌≡◌, inl, inr, List, ℕ, Result, Ok, Err, refl, sym, subst}
+use Rattle.std.proofs.Common.{◌≡◌, inl, inr, List, ℕ, Option, Result, Ok, Err, refl, sym, subst}
 use Rattle.toml.specs.Data.{Members}
+use Rattle.group_config.specs.MemberReading as member
+use Rattle.group_config.specs.MemberReading.{Answers, MemberComesOf}
 use Rattle.group_config.specs.Reading.{ComesOf, IsDocument, Tells, settings_of}
 use Rattle.group_config.specs.declared.fault.ConfigFault.{ConfigFault}
+use Rattle.group_config.specs.declared.member_fault.MemberFault.{MemberFault}
+use Rattle.group_config.specs.declared.member_key.MemberKey.{MemberKey}
+use Rattle.group_config.specs.declared.member_settings.MemberSettings.{MemberSettings}
 use Rattle.group_config.specs.declared.settings.Settings.{Settings}
 use Rattle.group_types.specs.declared.config_key.ConfigKey.{ConfigKey}
 
@@ -13,3 +18,12 @@ comes text ms result document = by (settings_of ms) refl where
   by (Ok settings) are (inr is) = subst (ComesOf text) (sym is) tt
   by (Err key) are (inl is) = subst (ComesOf text) (sym is) (inr (ms, document, are))
   by (Err key) are (inr is) = subst (ComesOf text) (sym is) tt
+
+-- and of a member's
+pub member_comes : (word : Option (List ℕ)) (text : List ℕ) (ms : Members) (result : Result MemberSettings MemberFault) → IsDocument text ms → Answers (member.settings_of word ms) result → MemberComesOf word text result
+member_comes word text ms result document = by (member.settings_of word ms) refl where
+  by : (checked : Result MemberSettings MemberKey) → member.settings_of word ms ≡ checked → Answers checked result → MemberComesOf word text result
+  by (Ok settings) are (inl is) = subst (MemberComesOf word text) (sym is) (record { members = ms; document = document; are = are })
+  by (Ok settings) are (inr is) = subst (MemberComesOf word text) (sym is) tt
+  by (Err key) are (inl is) = subst (MemberComesOf word text) (sym is) (inr (ms, document, are))
+  by (Err key) are (inr is) = subst (MemberComesOf word text) (sym is) tt

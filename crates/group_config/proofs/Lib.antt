@@ -1,2 +1,4 @@
+mod Answering
 pub mod Coming
-mod Differing
+mod Knowing
+mod Naming

@@ -76,7 +76,10 @@ control_in ms = or_else false truth (get_member (codes "control") ms)
 abbrev pub known_keys : List (List ℕ)
 known_keys = codes "k" ∷ codes "m" ∷ codes "blocks" ∷ codes "block" ∷ codes "address" ∷ codes "workers" ∷ codes "connections" ∷ codes "control" ∷ []
 
--- every key is one of those
+-- every key of a table is one of these
+abbrev pub all_among : List (List ℕ) → Members → Bool
+all_among keys no_members = true
+all_among keys (member key d ms) = list_any (λ k. bytes_eq k key) keys && all_among keys ms
+
 abbrev pub all_known : Members → Bool
-all_known no_members = true
-all_known (member key d ms) = list_any (bytes_eq key) known_keys && all_known ms
+all_known ms = all_among known_keys ms

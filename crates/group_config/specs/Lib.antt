@@ -1,3 +1,6 @@
 pub mod Keys
+pub mod MemberKeys
+pub mod MemberReading
+pub mod MemberTable
 pub mod Reading
 pub mod Text

@@ -19,12 +19,12 @@ abbrev pub IsNoDocument : List ℕ → Type 0
 IsNoDocument text = IsUtf8 text → parse_document text ≡ None
 
 -- a check: where it finds nothing that key is told, and else the next checks follow
-abbrev pub check : {A B : Type 0} → ConfigKey → Option A → (A → Result B ConfigKey) → Result B ConfigKey
+abbrev pub check : {K A B : Type 0} → K → Option A → (A → Result B K) → Result B K
 check key None next = Err key
 check key (Some a) next = next a
 
 -- checks behind other checks
-abbrev pub follow : {A B : Type 0} → Result A ConfigKey → (A → Result B ConfigKey) → Result B ConfigKey
+abbrev pub follow : {K A B : Type 0} → Result A K → (A → Result B K) → Result B K
 follow (Ok a) next = next a
 follow (Err key) next = Err key
 

@@ -62,7 +62,19 @@ fn behind_shape_in(alloc: Global, table: &Table, shape: Shape) -> Result<Setting
     let Some(control) = truth_or_false(value_at(table, "control")) else {
         return Err(bad(ConfigKey::Control));
     };
-    if !all_known_in(table) {
+    if !all_known_in(
+        table,
+        &[
+            "k",
+            "m",
+            "blocks",
+            "block",
+            "address",
+            "workers",
+            "connections",
+            "control",
+        ],
+    ) {
         return Err(bad(ConfigKey::Unknown));
     }
     Ok(Settings {

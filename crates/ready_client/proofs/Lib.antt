@@ -1,4 +1,5 @@
 pub mod Calling
 pub mod Coming
 pub mod Keeping
+mod Ordering
 pub mod Telling

@@ -1,13 +1,14 @@
 -- A client that has come nowhere yet, and one that stays as far as it has come while another is served.
 use Rattle.std.proofs.Common.{◌≡◌, ◌≢◌, ℕ, List, [], ◌++◌, Option, Some, None, false, refl, ap, ◌∙◌, subst}
 use Rattle.std.proofs.Math.Logic.{∥∥₁_map, ∥∥₁_elim}
-use Rattle.front_end.specs.Gateway.{Rules, IsFree}
+use Rattle.front_end.specs.Gateway.{Rules, IsFree, KeepsOpen}
 use Rattle.front_end.specs.Order.{IsOrder}
 use Rattle.outbox.specs.declared.try_edge.TryEdge.{TryEdge}
 use Rattle.ready_client.proofs.Calling.{stays}
 use Rattle.ready_client.specs.Coming.{Comes, HasCall, KeepsApart, KeepsCall}
 use Rattle.ready_client.specs.declared.client.Client.{Client}
-use Rattle.ready_worker.specs.Come.{ClientComes, unread}
+use Rattle.ready_places.specs.Placed.{Placed}
+use Rattle.ready_worker.specs.Come.{ClientComes, ClientsCome, unread}
 
 -- nothing was read of a stream, and nothing written to it
 pub fresh : {G K X : Type 0} (rules : Rules G K) (told : Option ℕ) (now : G) (client : Client (TryEdge X) K) (stream : TryEdge X) → client.stream ≡ stream → stream.incoming.bytes ≡ [] → stream.ended ≡ false → stream.outgoing.bytes ≡ []
@@ -42,3 +43,7 @@ module _ {G K X : Type 0} (rules : Rules G K) (told : Option ℕ) where
       → KeepsApart rules calling_then calling_now before after → ClientComes rules told before client → calling_now ≢ Some call
   stays-apart calling_then calling_now before after client call holds other apart come = λ same. ∥∥₁_elim come (λ x y. absurd x)
       (λ found. holds-by found.1.last before client client.calling call holds found.1.call (λ op began opened. (apart call op began other opened).1 same))
+
+  -- between turns the gateway came to be later, and the open calls stay so
+  pub come-between : IsOrder rules.later → (before after : G) (placed : Placed (Client (TryEdge X) K)) → KeepsOpen rules before after → rules.later before after → ClientsCome rules told before placed → ClientsCome rules told after placed
+  come-between order before after placed kept later have = λ key client at. stays-come order None None before after client (λ call holds same. cc) later (λ call op began other opened. (kept call op began opened, λ same. cc)) (have key client at)

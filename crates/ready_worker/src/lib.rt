@@ -4,6 +4,8 @@
 #![tactic(auto)]
 
 mod either;
+mod exchange;
+mod exchanging;
 mod hall;
 mod lane;
 mod poll_readiness;
@@ -17,6 +19,7 @@ mod watch;
 mod worker;
 
 pub use either::serve_either;
+pub use exchange::Exchange;
 pub use hall::MOST_OPEN;
 pub use lane::Lane;
 pub use readiness::{Readiness, Wake};

@@ -1,4 +1,4 @@
-ghost use Rattle.std.specs.Prelude.{◌≡◌, ◌+◌, vec_len, None, true, IfSome, OnSome, IfNone};
+ghost use Rattle.std.specs.Prelude.{◌≡◌, ◌+◌, ◌==◌, length, not, vec_len, None, true, IfSome, OnSome, IfNone};
 ghost use Rattle.slab.specs.Slab.{slab_len};
 ghost use Rattle.ready_places.specs.Placed.{HasPlace, placed_at};
 ghost use Rattle.ready_places.specs.Queue.{is_queued};
@@ -25,7 +25,7 @@ use std::time::Duration;
 pub struct Worker<'t, Y: Readiness, G: Gateway, T: Clock> {
     alloc: Global,
     readiness: Y,
-    gateway: G,
+    pub(crate) gateway: G,
     clock: &'t T,
     places: Places<Client<TryEdge<Y::Stream>, G::Call>>,
     room: Vec<u8>,
@@ -105,14 +105,65 @@ impl<'t, Y: Readiness, G: Gateway, T: Clock> Worker<'t, Y, G, T> {
         watched && self.places.insert(client)
     }
 
+    /// What tells it of ready streams.
+    pub fn readiness(&self) -> &Y
+        ensures { result.now ≡ self.now.readiness }
+    {
+        &self.readiness
+    }
+
+    /// Its gateway, as it is.
+    pub fn gateway(&self) -> &G
+        ensures { result.now ≡ self.now.gateway }
+    {
+        &self.gateway
+    }
+
+    /// How many connections it has.
+    pub fn len(&self) -> usize
+        ensures { result ≡ slab_len self.now.places.values }
+    {
+        self.places.len()
+    }
+
+    /// Whether a connection is to be served at once.
+    pub fn has_queued(&self) -> bool
+        ensures { result ≡ not (length self.now.places.queue == 0) }
+    {
+        self.places.has_queued()
+    }
+
     /// Waits until a connection is ready, unless there are some to serve, and gives each that is ready one turn, and then
     /// one of those that have more to do. It says how many connections were over and let go.
     pub fn round(&mut self) -> usize
         ensures clock { self.new.clock ≡ self.old.clock }
         ensures left { slab_len self.old.places.values ≡ slab_len self.new.places.values + result }
     {
+        let ready = self.await_ready(None);
+        self.serve(ready)
+    }
+
+    /// Waits until a connection is ready, something ends the wait, or so much time went by, and not at all where there are
+    /// some to serve. Those that are ready come before those that have more to do: it says how many they are.
+    pub fn await_ready(&mut self, limit: Option<Duration>) -> usize
+        ensures clock { self.new.clock ≡ self.old.clock }
+        ensures gateway { self.new.gateway ≡ self.old.gateway }
+        ensures values { self.new.places.values ≡ self.old.places.values }
+    {
+        if self.places.has_queued() {
+            self.readiness.wait(Some(Duration::from_secs(0)));
+        } else {
+            self.readiness.wait(limit);
+        }
+        queue_all(&mut self.places, self.readiness.ready())
+    }
+
+    /// Gives so many of the connections that are to be served one turn, and one more. It says how many were over and let go.
+    pub fn serve(&mut self, ready: usize) -> usize
+        ensures clock { self.new.clock ≡ self.old.clock }
+        ensures left { slab_len self.old.places.values ≡ slab_len self.new.places.values + result }
+    {
         let before = self.places.len();
-        let ready = self.wait();
         'queue: for _ in 0..=ready {
             if self.places.is_empty() {
                 break 'queue;
@@ -120,21 +171,6 @@ impl<'t, Y: Readiness, G: Gateway, T: Clock> Worker<'t, Y, G, T> {
             drop(self.serve_first());
         }
         before - self.places.len()
-    }
-
-    // Waits until a connection is ready or the acceptor calls, unless there are some to serve. Those that are ready come
-    // before those that have more to do: it says how many they are.
-    fn wait(&mut self) -> usize
-        ensures clock { self.new.clock ≡ self.old.clock }
-        ensures values { self.new.places.values ≡ self.old.places.values }
-    {
-        let limit = if self.places.has_queued() {
-            Some(Duration::from_secs(0))
-        } else {
-            None
-        };
-        self.readiness.wait(limit);
-        queue_all(&mut self.places, self.readiness.ready())
     }
 
     /// A connection is to be served once more: its call ended, or a caller is free.
@@ -159,6 +195,14 @@ impl<'t, Y: Readiness, G: Gateway, T: Clock> Worker<'t, Y, G, T> {
         settle(&mut self.places, key, turn)
     }
 
+    // A call that begins now is that of this connection.
+    fn begin_turn(&mut self, key: usize)
+        ensures clock { self.new.clock ≡ self.old.clock }
+        ensures places { self.new.places ≡ self.old.places }
+    {
+        self.gateway.turn_of(key);
+    }
+
     // Gives a connection one turn. One whose stream broke while its call is open is over only once that has ended.
     fn serve_one(&mut self, key: usize) -> Turn
         requires place { HasPlace self.old.places key }
@@ -168,6 +212,7 @@ impl<'t, Y: Readiness, G: Gateway, T: Clock> Worker<'t, Y, G, T> {
         ensures len { slab_len self.new.places.values ≡ slab_len self.old.places.values }
         ensures over { result ≡ Turn.Over → IfSome (placed_at self.new.places key) ClientIsOver }
     {
+        self.begin_turn(key);
         match self.places.get_mut(key) {
             Some(client) => {
                 let turn = client.turn(self.alloc, &mut self.gateway, self.clock, &mut self.room);

@@ -1,6 +1,6 @@
 // Many clients of one worker over connections in memory: none is starved, none hears what is another's, and one that
 // takes nothing is read no further.
-use crate::bench::{admit, hears, rounds, tells, worker};
+use crate::bench::{MemoryWorker, admit, hears, rounds, tells, worker};
 use crate::shop::Till;
 use crate::wires::Change::{Cuts, Says, Takes};
 use crate::wires::{Change, Nobody, Teller, Wires};
@@ -76,6 +76,39 @@ fn one_with_more_to_do_comes_on_beside_those_that_are_ready(rt: HostRuntime) {
     }
     let all = many(alloc, VERSION, 3_000).expect(&rt, "answers");
     hears(&rt, alloc, &wires, 0, &all);
+}
+
+/// A worker whose one connection said this, of which nothing can be written.
+fn said<'t, R: Wait + Abort + Copy>(
+    rt: &R,
+    alloc: Global,
+    wires: &'t Wires,
+    table: &'t Mutex<Table>,
+    clock: &'t FixedClock,
+    bytes: &[u8],
+) -> MemoryWorker<'t, R, FixedClock> {
+    let mut worker = worker(rt, alloc, wires, table, clock);
+    admit(rt, &mut worker, wires, 0);
+    tells(rt, wires, 0, Says(bytes));
+    worker
+}
+
+// One asks 20,000 times at once and takes nothing: at most 64 KiB of it are read, until it takes.
+#[test]
+fn one_that_takes_nothing_is_read_no_further(rt: HostRuntime) {
+    let alloc = rt.alloc();
+    let asks = many(alloc, ASKS, 20_000).expect(&rt, "requests");
+    let heard = many(alloc, VERSION, 20_000).expect(&rt, "answers");
+    let table = Mutex::new(Table::new(alloc, 1).expect(&rt, "a table"));
+    let wires = Wires::new(alloc, 1).expect(&rt, "a connection");
+    let clock = FixedClock::new(0);
+    let mut worker = said(&rt, alloc, &wires, &table, &clock, &asks);
+    rounds(&mut worker, 700);
+    let read = wires.read(0);
+    assert!(rt; read <= 65_536, "{read} bytes were read");
+    tells(&rt, &wires, 0, ALL);
+    rounds(&mut worker, 700);
+    hears(&rt, alloc, &wires, 0, &heard);
 }
 
 // Each stores a value of its own under a key of its own and reads it back, a byte or some at a time.

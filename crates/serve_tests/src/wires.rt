@@ -168,6 +168,14 @@ impl Wires {
         Ok(heard)
     }
 
+    /// How many bytes of a connection were read.
+    pub(crate) fn read(&self, number: usize) -> usize {
+        match self.lines.try_lock() {
+            Some(lines) => lines.get(number).map_or(0, |line| line.read),
+            None => 0,
+        }
+    }
+
     fn key(&self, number: usize) -> Option<usize> {
         self.lines.try_lock()?.get(number)?.key
     }

@@ -1,10 +1,12 @@
 //! Texts of settings, each with what it must give. Standard input has the texts, an empty line behind each; the first
-//! line of each is a comment, which names it. Standard output has a line for each: its name, and the shape, address,
-//! workers, connections and control that it gives, or the key that is refused and what
-//! is allowed there.
+//! line of each is a comment, which names it. Standard output has a line for each: its name, and what it gives, or the
+//! key that is refused and what is allowed there. A text whose name begins with `member` has the settings of a member,
+//! of the name behind `, as ` where that stands there, and each other the settings of a served group.
 #![tactic(auto)]
 
-use group_config::{ConfigFault, Settings, read_settings};
+mod member;
+mod served;
+
 use std::alloc::{AllocError, Global};
 use std::io;
 
@@ -13,7 +15,7 @@ fn main(rt: HostRuntime) -> io::Result<()> {
     for line in rt.lines(rt.alloc()) {
         let line = line?;
         if line.is_empty() {
-            let told = told(rt.alloc(), read_settings(rt.alloc(), text.as_bytes()))?;
+            let told = told(rt.alloc(), &text)?;
             println!(rt; "{}: {told}", name_of(&text))?;
             text.clear();
         } else {
@@ -30,22 +32,12 @@ fn name_of(text: &str) -> &str {
     line.strip_prefix("# ").unwrap_or(line)
 }
 
-fn told(alloc: Global, read: Result<Settings, ConfigFault>) -> Result<String, AllocError> {
-    match read {
-        Ok(settings) => told_settings(alloc, &settings),
-        Err(ConfigFault::BadConfig { key }) => format!(in alloc; "{key} ({})", key.allowed()),
-        Err(ConfigFault::Want) => Err(AllocError),
+fn told(alloc: Global, text: &str) -> Result<String, AllocError> {
+    let name = name_of(text);
+    if name.starts_with("member") {
+        let word = name.split_once(", as ").map(|(_, word)| word);
+        member::told(alloc, text.as_bytes(), word)
+    } else {
+        served::told(alloc, text.as_bytes())
     }
-}
-
-fn told_settings(alloc: Global, settings: &Settings) -> Result<String, AllocError> {
-    let shape = settings.shape;
-    let address = settings.address.as_str();
-    let (k, m, blocks, block) = (shape.k(), shape.m(), shape.blocks(), shape.block());
-    let (workers, connections, control) = (
-        settings.workers,
-        settings.connections,
-        settings.control,
-    );
-    format!(in alloc; "{k} {m} {blocks} {block}, {address}, {workers}, {connections}, {control}")
 }

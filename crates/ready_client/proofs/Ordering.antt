@@ -1,0 +1,56 @@
+-- The calls of one connection over a caller whose calls are made at once.
+use Rattle.std.proofs.Common.{◌≡◌, ℕ, List, [], ◌∷◌, Option, None, append-nil, sym, subst}
+use Rattle.edge_io.specs.Moving.{Appends, Input}
+use Rattle.memc_proto.specs.Reader.{HasRead}
+use Rattle.memc_proto.specs.declared.request.Request.{Request}
+use Rattle.front_end.specs.Answers.{stand}
+use Rattle.front_end.specs.AtOnce.{at_once}
+use Rattle.front_end.specs.Calls.{Call, Made, Failed, Ways, Leads, LeadsBy}
+use Rattle.front_end.specs.Going.{GoesOn}
+use Rattle.front_end.specs.Order.{IsOrder, among}
+use Rattle.front_end.specs.Progress.{Progress}
+use Rattle.front_end.specs.Turns.{text_in}
+use Rattle.front_end.specs.declared.at_once.AtOnce.{AtOnce}
+use Rattle.ready_client.specs.Coming.{Comes}
+use Rattle.ready_client.specs.Ordered.{AnsweredInOrder, AreInOrder}
+use Rattle.ready_client.proofs.Coming.{goes-of}
+
+module _ {C : Type 0} (ways : Ways C) (later : C → C → Type 0) (order : IsOrder later) where
+  abbrev ways_among : Ways (AtOnce C)
+  ways_among = among (at_once ways later).later (at_once ways later).ways
+
+  -- a call of the connection was made by the caller, and what others made came before and behind it
+  record IsMadeBehind (last : C) (call : Call) (now : C) : Type 0 where
+    before : C
+    after : C
+    behind : later last before
+    leads : LeadsBy ways before call after
+    follows : later after now
+
+  made-behind : (last : AtOnce C) (call : Call) (next : AtOnce C) → LeadsBy ways_among last call next → IsMadeBehind last.caller call next.caller
+  made-behind last (Made op end) next by = record { before = by.0.caller; after = by.2.after; behind = by.1; leads = by.2.made; follows = by.2.follows }
+  made-behind last (Failed at keep end) next by = record { before = by.0.caller; after = next.caller; behind = by.1; leads = by.2; follows = order.same next.caller }
+
+  in-order : (from : C) (last : AtOnce C) (calls : List Call) (now : AtOnce C) (end : C) → later from last.caller → later now.caller end → Leads ways_among last calls now → AreInOrder ways later from calls end
+  in-order from last [] now end behind onward leads =
+      order.on from last.caller end behind (subst (λ (gateway : AtOnce C). later gateway.caller end) leads onward)
+  in-order from last (call ∷ calls) now end behind onward leads =
+      let made = made-behind last call leads.0 leads.1 in
+      (made.before, made.after, order.on from last.caller made.before behind made.behind, made.leads, in-order made.after leads.0 calls now end made.follows onward leads.2)
+
+  -- where all that was read is answered, the calls were made in their order
+  pub answered-in-order : (told : Option ℕ) (input input_now : Input) (first now : AtOnce C) (before held : List ℕ) (progress : Progress) → progress.waiting ≡ []
+      → Comes (at_once ways later) told input input_now first before now held progress None None
+      → AnsweredInOrder ways later told input input_now progress.kept first.caller now.caller before held
+  answered-in-order told input input_now first now before held progress none come = record {
+    read = goes.read;
+    consumed = goes.consumed;
+    turns = goes.answered.turns;
+    has_read = subst (λ (requests : List Request). HasRead progress.kept goes.read requests) (sym goes.answered.asked) goes.has_read;
+    whole = goes.answered.whole;
+    order = in-order first.caller first _ come.last now.caller (order.same first.caller) come.later goes.answered.leads;
+    bytes = subst (λ (text : List ℕ). Appends before held text) (append-nil (text_in goes.answered.turns)) goes.answered.bytes;
+  }
+    where
+      goes : GoesOn ways_among told input input_now (stand first before) (stand come.last held) progress.kept progress.count
+      goes = goes-of ways_among told input input_now (stand first before) (stand come.last held) progress none come.come

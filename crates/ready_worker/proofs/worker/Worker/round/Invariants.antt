@@ -1,9 +1,0 @@
-use Rattle.std.proofs.Common.{◌≡◌, ◌≤◌}
-use Rattle.slab.specs.Slab.{slab_len}
-use Rattle.ready_worker.proofs.worker.Worker.round.Given as goal
-
-abbrev pub invariant-queue : goal.invariant-queue
-invariant-queue g l = record {
-  clock : l.self.clock ≡ l.initial.self.clock;
-  fewer : slab_len l.self.places.values ≤ slab_len l.initial.self.places.values;
-}

@@ -1,0 +1,48 @@
+use group_config::{CallOrder, MemberEntry, MemberFault, MemberSettings, read_member_settings};
+use std::alloc::{AllocError, Global};
+
+/// What the settings of a member say, of this name where there is one, or the key that is refused.
+pub(crate) fn told(alloc: Global, text: &[u8], word: Option<&str>) -> Result<String, AllocError> {
+    match read_member_settings(alloc, text, word) {
+        Ok(settings) => told_settings(alloc, &settings),
+        Err(MemberFault::BadKey { key }) => format!(in alloc; "{key} ({})", key.allowed()),
+        Err(MemberFault::Want) => Err(AllocError),
+    }
+}
+
+fn told_settings(alloc: Global, settings: &MemberSettings) -> Result<String, AllocError> {
+    let group = hex::encode(alloc, settings.group)?;
+    let shape = settings.shape;
+    let (k, m, blocks, block) = (shape.k(), shape.m(), shape.blocks(), shape.block());
+    let entries = settings.members.entries();
+    let names = names_of(alloc, entries)?;
+    let own = told_own(alloc, entries, settings.own)?;
+    let CallOrder::Strict = settings.order;
+    let (patience, one_word) = (settings.patience, settings.one_word);
+    format!(in alloc;
+        "{group} {k} {m} {blocks} {block},{names}, {own}, strict, {patience}, {one_word}"
+    )
+}
+
+// The names, a space in front of each.
+fn names_of(alloc: Global, entries: &[MemberEntry]) -> Result<String, AllocError> {
+    let mut names = String::new(alloc);
+    for entry in entries {
+        names.push(' ')?;
+        names.push_str(entry.name.as_str())?;
+    }
+    Ok(names)
+}
+
+// The index of the member itself, and where it is reached.
+fn told_own(alloc: Global, entries: &[MemberEntry], own: u32) -> Result<String, AllocError> {
+    match entries.get(own as usize) {
+        Some(entry) => format!(in alloc;
+            "{own} {} {} {}",
+            entry.link.as_str(),
+            entry.client.as_str(),
+            entry.control.as_str()
+        ),
+        None => String::from_str(alloc, "none"),
+    }
+}
