@@ -1,0 +1,74 @@
+// What a person is told on standard error of each end.
+use crate::program::runs::owned;
+use group_program::{Status, help_at};
+use group_types::{ConfigKey, Field};
+use std::test::Fail;
+
+#[test]
+fn each_end_but_done_is_explained(rt: HostRuntime) -> Result<(), Fail> {
+    for (status, begin) in [
+        (Status::BadWords, "usage: cocytus_main play < SCRIPT\n"),
+        (
+            Status::BadLine(7),
+            "line 7 of the script is none of these, ",
+        ),
+        (Status::ReadFault, "standard input could not be read\n"),
+        (Status::WriteFault, "standard output could not be written\n"),
+        (Status::BadConfig(ConfigKey::K), "k is the number of data "),
+        (Status::AcceptFault, "no connection can be accepted "),
+        (Status::Want, "there is not enough memory\n"),
+        (Status::Cut, "the input ended inside a request or a frame\n"),
+        (
+            Status::LineTooLong,
+            "a line of a request has at most 32768 bytes\n",
+        ),
+        (
+            Status::Worn,
+            "a connection or a stream has at most 2^62 bytes\n",
+        ),
+        (
+            Status::BadFrame(7),
+            "the frame at byte 7 of the input is none of a message\n",
+        ),
+        (Status::Refused(7), "line 7 of the transcript is none "),
+    ] {
+        assert!(rt;
+            help_at(rt.alloc(), &[], status)?.starts_with(begin),
+            "{begin}"
+        );
+    }
+    assert!(rt; help_at(rt.alloc(), &[], Status::Done)?.is_empty());
+    assert!(rt; !help_at(rt.alloc(), &[], Status::BadShape(Field::Block))?.is_empty());
+    Ok(())
+}
+
+#[test]
+fn a_limit_is_told_of_its_command(rt: HostRuntime) -> Result<(), Fail> {
+    for (word, begin) in [
+        ("play", "a script has at most 16777216 bytes\n"),
+        ("serve", "settings have at most 65536 bytes\n"),
+        (
+            "verify",
+            "a script and its transcript have at most 67108864 bytes\n",
+        ),
+    ] {
+        let words = owned(rt.alloc(), &[word])?;
+        let told = help_at(rt.alloc(), &words, Status::TooLong)?;
+        assert_eq!(rt; told.as_str(), begin);
+    }
+    Ok(())
+}
+
+#[test]
+fn the_lines_of_a_command_are_told(rt: HostRuntime) -> Result<(), Fail> {
+    for (word, line) in [
+        ("play", "\ngroup <k> <m> <blocks> <block> "),
+        ("play_groups", "\ngroups <g> <n> <k> <m> <blocks> <block> "),
+        ("play_regroup", "\nregroup <m> <blocks> <block>\n"),
+    ] {
+        let words = owned(rt.alloc(), &[word])?;
+        let told = help_at(rt.alloc(), &words, Status::BadLine(1))?;
+        assert!(rt; told.contains(line), "{word}");
+    }
+    Ok(())
+}

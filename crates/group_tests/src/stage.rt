@@ -1,0 +1,4 @@
+// Groups that threads share.
+mod calls;
+mod counting;
+mod row;

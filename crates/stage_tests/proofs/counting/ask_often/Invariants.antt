@@ -1,5 +1,0 @@
-use Rattle.group_stage.specs.Seated.{IsOf}
-use Rattle.stage_tests.proofs.counting.ask_often.Given as goal
-
-abbrev pub invariant-calls : goal.invariant-calls
-invariant-calls l = IsOf l.fn.stage l.seat
