@@ -1,5 +1,6 @@
 // Frames that are no spelling.
-use crate::streams::{STREAM, WRONG, fed, same};
+use crate::found::same;
+use crate::frames::streams::{STREAM, WRONG, fed};
 use wire_codec::{DecodeFault, Decoder};
 
 #[test]

@@ -1,12 +1,5 @@
 // Streams of frames, and frames that are no spelling, as an independent model of the frames tells them.
-use std::fmt::Debug;
-use std::process::Abort;
 use wire_codec::{DecodeFault, Decoder};
-
-/// Stops where what is found isn't what is wanted.
-pub(crate) fn same<T: Copy + PartialEq + Debug>(rt: &impl Abort, found: T, wanted: T) {
-    assert_eq!(rt; found, wanted);
-}
 
 /// How many messages a piece gives.
 pub(crate) fn fed(decoder: &mut Decoder, piece: &[u8]) -> Result<usize, DecodeFault> {

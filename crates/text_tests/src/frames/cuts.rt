@@ -1,5 +1,6 @@
 // A stream of all kinds, cut at each byte and written again.
-use crate::streams::{FRAMES, STREAM, fed, same};
+use crate::found::same;
+use crate::frames::streams::{FRAMES, STREAM, fed};
 use group_message::Message;
 use std::alloc::Global;
 use std::process::Abort;
