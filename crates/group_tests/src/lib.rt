@@ -5,6 +5,8 @@
 #![tactic(auto)]
 
 #[cfg(test)]
+mod callers;
+#[cfg(test)]
 mod cluster;
 #[cfg(test)]
 mod program;
@@ -12,5 +14,3 @@ mod program;
 mod server;
 #[cfg(test)]
 mod stage;
-#[cfg(test)]
-mod stage_caller;

@@ -1,5 +1,5 @@
 // One caller, which sets and gets while processes fail.
-use crate::stage_caller::acts::{reads, stores};
+use crate::callers::acts::{reads, stores};
 use front_end::Caller;
 use group_stage::Stage;
 use group_types::{ProcessId, Shape};

@@ -3,7 +3,7 @@
 ghost use Rattle.std.specs.Prelude.{◌<◌, IfSome};
 ghost use Rattle.group_stage.specs.Seated.{IsOf, shape_of};
 
-use crate::stage_caller::acts::{is_stored, reads, set};
+use crate::callers::acts::{is_stored, reads, set};
 use group_calls::Answer;
 use group_stage::{Seat, Stage, StageAnswer};
 use group_types::{ProcessId, Shape, home};

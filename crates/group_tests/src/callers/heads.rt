@@ -1,5 +1,5 @@
 // Whom a caller asks first: behind a loss the process that answered last.
-use crate::stage_caller::acts::{reads, stores};
+use crate::callers::acts::{reads, stores};
 use front_end::Caller;
 use group_stage::{Seat, Stage};
 use group_types::{ProcessId, Shape};

@@ -3,7 +3,7 @@ ghost use Rattle.std.specs.Prelude.{◌↔◌, IsTrue, IfSome};
 ghost use Rattle.group_types.specs.Names.{IsProcess};
 ghost use Rattle.group_stage.specs.Seated.{IsOf, shape_of};
 
-use crate::stage_caller::own_keys::is_same;
+use crate::callers::own_keys::is_same;
 use front_end::Caller;
 use group_calls::Answer;
 use group_stage::{Seat, Stage, StageAnswer};

@@ -1,5 +1,5 @@
 // What one thread does on keys that no other writes, and what a table makes of it.
-use crate::stage_caller::place::{Place, is_ended};
+use crate::callers::place::{Place, is_ended};
 use front_end::Caller;
 use group_types::{Key, Payload, home};
 use memc_table::{Act, Op, Reply, Table};

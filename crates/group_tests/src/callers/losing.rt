@@ -2,8 +2,8 @@
 // the tickets of a partition differ, and each key reads afterwards as its thread left it.
 ghost use Rattle.group_stage.specs.Seated.{AreOf, IsOf};
 
-use crate::stage_caller::own_keys::{CALLS, PARTITIONS, call, is_kept};
-use crate::stage_caller::place::Place;
+use crate::callers::own_keys::{CALLS, PARTITIONS, call, is_kept};
+use crate::callers::place::Place;
 use group_stage::{Seat, Seats, Stage};
 use group_types::{ProcessId, Shape};
 use memc_table::Table;
