@@ -1,0 +1,4 @@
+use Rattle.member_gateway.proofs.work.MemberWork.say_cut.Goals as goal
+
+pub returns : goal.returns
+returns c = record { goes = λ start way. way }
