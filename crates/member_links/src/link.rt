@@ -1,7 +1,9 @@
-ghost use Rattle.std.specs.Prelude.{◌≡◌, ◌≢◌, ◌↔◌, ◌<◌, ◌≤◌, ◌++◌, [], length, true, false, IsTrue, IfOk, OnOk, OnErr};
-ghost use Rattle.member_links.specs.Stages.{IsAwaited, TakesText, age};
+ghost use Rattle.std.specs.Prelude.{◌≡◌, ◌↔◌, ◌<◌, ◌≤◌, ◌++◌, length, IsTrue, IfOk, OnOk, OnErr};
+ghost use Rattle.member_links.specs.Stages.{IsAwaited, TakesText};
 
-use crate::heard::Heard;
+mod ending;
+mod linking;
+
 use crate::pipe::{Pipe, PipeFault};
 use crate::stage::Stage;
 use edge_io::Sink;
@@ -159,133 +161,5 @@ impl Link {
             Some(pipe) => pipe.write_out(&mut self.outbox),
             None => Ok(()),
         }
-    }
-
-    /// A stream connects to the other, if that is waited for.
-    pub(crate) fn connect(&mut self, pipe: Pipe)
-        ensures { age self.new.stage ≡ age self.old.stage }
-    {
-        if self.is_awaited() {
-            self.stage = Stage::Greeting;
-            self.pipe = Some(pipe);
-        }
-    }
-
-    /// The stream that connects to the other is let go.
-    pub(crate) fn disconnect(&mut self)
-        ensures { age self.new.stage ≡ age self.old.stage }
-    {
-        if self.is_awaited() {
-            self.stage = Stage::Absent;
-            self.pipe = None;
-        }
-    }
-
-    /// The other greeted by this stream. Says whether it was waited for: it is linked once.
-    pub(crate) fn go_up(&mut self, pipe: Pipe) -> bool
-        ensures awaited { IsTrue result ↔ IsAwaited self.old.stage }
-        ensures up { IsTrue result → self.new.stage ≡ Stage.Up }
-        ensures once { ¬ (IsAwaited self.old.stage) → self.new.stage ≡ self.old.stage }
-    {
-        if !self.is_awaited() {
-            return false;
-        }
-        self.stage = Stage::Up;
-        self.pipe = Some(pipe);
-        true
-    }
-
-    /// The stream by which the other is heard.
-    pub(crate) fn take_pipe(&mut self) -> Option<Pipe>
-        ensures { self.new.stage ≡ self.old.stage }
-    {
-        self.pipe.take()
-    }
-
-    /// What the first frame that came of the other says, once it was greeted.
-    pub(crate) fn hear(&mut self) -> Heard
-        ensures { self.new.stage ≡ self.old.stage }
-    {
-        match &mut self.pipe {
-            Some(pipe) => pipe.hear(),
-            None => Heard::Broken,
-        }
-    }
-
-    /// Whether the stream that connects to the other isn't there yet, and took too long.
-    pub(crate) fn is_late(&self, now: u64) -> bool {
-        match &self.pipe {
-            Some(pipe) => !pipe.is_connected() && self.due <= now,
-            None => true,
-        }
-    }
-
-    /// A stream, if there is one, tells a program that was started anew in the other's name that it is no member.
-    pub(crate) fn deny_by(&mut self, pipe: Option<Pipe>)
-        ensures { self.new.stage ≡ self.old.stage }
-    {
-        if !self.is_up() && !self.is_awaited() {
-            self.pipe = pipe;
-        }
-    }
-
-    /// Writes what tells such a program so. The stream is let go once it took all of it, or broke.
-    pub(crate) fn write_denial(&mut self)
-        ensures { self.new.stage ≡ self.old.stage }
-    {
-        if !self.is_up() && !self.is_awaited() && !self.denies() {
-            self.pipe = None;
-        }
-    }
-
-    // Writes what greets. Says whether some of it is still to go out.
-    fn denies(&mut self) -> bool
-        ensures { self.new.stage ≡ self.old.stage }
-    {
-        match &mut self.pipe {
-            Some(pipe) => matches!(pipe.write_greeting(), Ok(false)),
-            None => false,
-        }
-    }
-
-    /// A program came in the other's name, which was accepted before. Says whether it is the first.
-    pub(crate) fn note_again(&mut self) -> bool
-        ensures first { IsTrue result ↔ (self.old.came_again ≡ false) }
-        ensures noted { self.new.came_again ≡ true }
-        ensures stage { self.new.stage ≡ self.old.stage }
-    {
-        let is_first = !self.came_again;
-        self.came_again = true;
-        is_first
-    }
-
-    /// Its stream broke.
-    pub(crate) fn fail(&mut self)
-        ensures broken { self.old.stage ≡ Stage.Up → self.new.stage ≡ Stage.Broken }
-        ensures stays { self.old.stage ≢ Stage.Up → self.new.stage ≡ self.old.stage }
-    {
-        if self.is_up() {
-            self.close(Stage::Broken);
-        }
-    }
-
-    /// The other was cut.
-    pub(crate) fn cut(&mut self)
-        ensures { self.new.stage ≡ Stage.Cut }
-    {
-        self.close(Stage::Cut);
-    }
-
-    // Nothing comes or goes any more.
-    fn close(&mut self, stage: Stage)
-        ensures stage { self.new.stage ≡ stage }
-        ensures outbox { self.new.outbox ≡ [] }
-        ensures pipe { self.new.pipe ≡ None }
-        ensures returned { self.new.returned ≡ None }
-    {
-        self.stage = stage;
-        self.pipe = None;
-        self.returned = None;
-        self.outbox = Outbox::new(self.alloc);
     }
 }
