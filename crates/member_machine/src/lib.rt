@@ -1,0 +1,13 @@
+//! A machine on which a member of a group can run: the trait `Machine`, and one in memory that runs nothing. Its
+//! contract says what a run by settings may come to in the machine's own words, and which settings it may be given.
+//! Links, clients and the member itself are left to those who implement it.
+#![tactic(auto)]
+
+mod end;
+mod machine;
+mod memory_machine;
+
+pub use end::MemberEnd;
+pub use group_config::{MemberKey, MemberSettings};
+pub use machine::Machine;
+pub use memory_machine::MemoryMachine;

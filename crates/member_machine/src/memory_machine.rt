@@ -1,0 +1,43 @@
+use crate::end::MemberEnd;
+use crate::machine::Machine;
+use group_config::{MemberKey, MemberSettings};
+
+/// A machine in memory: it runs nothing, ends as it is told to, and notes which member it was to run.
+#[derive(Debug, Drop)]
+pub struct MemoryMachine {
+    end: MemberEnd,
+    asked: Option<u32>,
+}
+
+impl MemoryMachine {
+    ghost use Rattle.std.specs.Prelude.{◌≡◌, None};
+
+    /// A machine on which each run ends so.
+    pub fn new(end: MemberEnd) -> MemoryMachine
+        ensures end { result.end ≡ end }
+        ensures asked { result.asked ≡ None }
+    {
+        MemoryMachine { end, asked: None }
+    }
+
+    /// The index of the member that it was to run last.
+    pub fn asked(&self) -> Option<u32>
+        ensures { result ≡ self.now.asked }
+    {
+        self.asked
+    }
+}
+
+impl Machine for MemoryMachine {
+    ghost use Rattle.std.specs.Prelude.{◌≡◌, Some};
+
+    ghost ran = { λ before settings end now.
+        (end ≡ before.end) × (now.end ≡ before.end) × (now.asked ≡ Some settings.own) };
+
+    fn run(&mut self, settings: &MemberSettings) -> MemberEnd {
+        self.asked = Some(settings.own);
+        self.end
+    }
+
+    fn refuse(&self, _key: MemberKey) {}
+}
