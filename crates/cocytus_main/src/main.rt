@@ -4,10 +4,12 @@
 //! what a person reads on standard error.
 #![tactic(auto)]
 
+mod no_machine;
 mod person;
 
 use edge_io::{ReadEdge, SystemClock, WriteEdge};
 use group_program::{Status, exit_of, run_program, tell};
+use no_machine::NoMachine;
 use person::Person;
 use ready_worker::ToldEdge;
 use std::alloc::{AllocError, Global};
@@ -35,6 +37,7 @@ fn main(rt: HostRuntime) -> ExitCode {
         &mut ReadEdge::new(rt.stdin()),
         &mut WriteEdge::new(rt.stdout()),
         &mut port,
+        &mut NoMachine::new(&person),
         &person,
         &SystemClock::new(&rt),
     );

@@ -32,7 +32,7 @@ impl Person {
         }
     }
 
-    fn say(&self, text: &str) {
+    pub(crate) fn say(&self, text: &str) {
         let _ = write_all(&mut WriteEdge::new(self.rt.stderr()), text.as_bytes());
     }
 }

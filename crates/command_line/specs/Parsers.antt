@@ -28,3 +28,11 @@ number_app name = with_rule (bare name) (number_rule (codes "number") most_64)
 abbrev pub session_app : App
 session_app = with_rule (with_rule (with_rule (with_rule (bare (codes "session"))
     (number_rule (codes "k") most_32)) (number_rule (codes "m") most_32)) (number_rule (codes "blocks") most_32)) (number_rule (codes "block") most_32)
+
+-- an argument that may be left out: any text
+abbrev pub name_rule : Rule
+name_rule = record (new_rule (codes "name")) { action = Some Set }
+
+-- a command that may have a name
+abbrev pub member_app : App
+member_app = with_rule (bare (codes "member")) name_rule

@@ -1,5 +1,7 @@
+use crate::name::Name;
+
 /// What the program is to do.
-#[derive(Clone, Copy, Debug, PartialEq, Eq)]
+#[derive(Debug, Drop)]
 pub enum Command {
     /// Plays a script.
     Play,
@@ -18,6 +20,11 @@ pub enum Command {
     },
     /// Serves the connections of a port over one group, by settings.
     Serve,
+    /// Runs a member of a group on machines of its own, by settings: the one of this name, where there is one, or else
+    /// the one that the settings name.
+    Member {
+        name: Option<Name>,
+    },
     /// Makes the script of this number.
     Make {
         number: u64,

@@ -5,9 +5,11 @@
 
 mod command;
 mod fault;
+mod name;
 mod parsers;
 mod words;
 
 pub use command::Command;
 pub use fault::WordsFault;
+pub use name::Name;
 pub use words::read_words;

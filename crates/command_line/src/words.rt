@@ -1,14 +1,15 @@
 ghost use Rattle.std.specs.Prelude.{◌≡◌, ◌≢◌, true, [], Some, None, map, option_map, codes, IfOk, OnOk, IsErrOf};
 ghost use Rattle.std.specs.String.{string_bytes};
-ghost use Rattle.clap.specs.Words.{app_of, fault_of, found_of, is_simple_and_free, matches_of, rows_of};
+ghost use Rattle.clap.specs.Words.{app_of, fault_of, first_of, found_of, is_simple_and_free, matches_of, rows_of};
 ghost use Rattle.command_line.specs.Parsers.{most_32, most_64};
-ghost use Rattle.command_line.specs.Words.{bare_of, command_of, number_at, number_of, session_of, session_with};
+ghost use Rattle.command_line.specs.Words.{bare_of, command_of, member_of, number_at, number_of, session_of, session_with};
 
 use crate::command::Command;
 use crate::fault::WordsFault;
+use crate::name::Name;
 use crate::{fault, parsers};
 use clap::ArgMatches;
-use std::alloc::Global;
+use std::alloc::{AllocError, Global};
 
 /// The command that the words say. Memory may run out; else the words are wrong exactly where they say none.
 pub fn read_words(alloc: Global, words: &[String]) -> Result<Command, WordsFault>
@@ -25,6 +26,7 @@ pub fn read_words(alloc: Global, words: &[String]) -> Result<Command, WordsFault
         "verify" => read_bare(alloc, "verify", Command::Verify, rest),
         "session" => read_session(alloc, rest),
         "serve" => read_bare(alloc, "serve", Command::Serve, rest),
+        "member" => read_member(alloc, rest),
         "make" => read_make(alloc, rest),
         "trial" => read_trial(alloc, rest),
         "frames" => read_bare(alloc, "frames", Command::Frames, rest),
@@ -73,6 +75,25 @@ fn session(
         blocks: blocks?,
         block: block?,
     })
+}
+
+fn read_member(alloc: Global, words: &[String]) -> Result<Command, WordsFault>
+    ensures ok { IfOk result (λ command. member_of (map string_bytes words.now) ≡ Some command) }
+    ensures bad_words { IsErrOf result WordsFault.BadWords → member_of (map string_bytes words.now) ≡ None }
+{
+    let matches = parse(parsers::member(alloc)?, words)?;
+    let name = name_in(alloc, &matches)?;
+    Ok(Command::Member { name })
+}
+
+/// The name among the arguments, if it is there.
+fn name_in(alloc: Global, matches: &ArgMatches) -> Result<Option<Name>, AllocError>
+    ensures { IfOk result (λ name. name ≡ first_of (codes "name") (rows_of (found_of matches.now))) }
+{
+    match matches.get_str("name") {
+        Some(text) => Ok(Some(Name::new(alloc, text)?)),
+        None => Ok(None),
+    }
 }
 
 fn read_make(alloc: Global, words: &[String]) -> Result<Command, WordsFault>

@@ -3,7 +3,7 @@ ghost use Rattle.std.specs.Prelude.{◌≤◌, All};
 use crate::dialogue::Dialogue;
 use crate::fault::End;
 use edge_io::{FixedClock, MemoryListener, MemorySink, MemorySource};
-use group_program::{Silent, run_program};
+use group_program::{MemberEnd, MemoryMachine, Silent, run_program};
 use std::alloc::{AllocError, Global};
 use std::sync::Wait;
 use std::thread::Threads;
@@ -90,6 +90,7 @@ fn played<R: Threads + Wait + Sync>(
         &mut source,
         &mut sink,
         &mut listener,
+        &mut MemoryMachine::new(MemberEnd::Ended),
         &Silent,
         &FixedClock::new(0),
     );

@@ -1,2 +1,3 @@
 mod Accepting
+mod Refusing
 pub mod Telling

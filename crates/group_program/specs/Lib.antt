@@ -1,4 +1,5 @@
 pub mod Frames
+pub mod Member
 pub mod Program
 pub mod Serving
 pub mod Session

@@ -1,6 +1,6 @@
 use Rattle.std.specs.Prelude.{Option, Some, ⊤}
 use Rattle.command_line.specs.declared.command.Command.{Command}
-use Rattle.command_line.specs.declared.command.Command.TheVariants.{Frames, Play, PlayGroups, PlayRegroup, Serve, Session, Verify}
+use Rattle.command_line.specs.declared.command.Command.TheVariants.{Frames, Member, Play, PlayGroups, PlayRegroup, Serve, Session, Verify}
 
 -- the words ask for no command that reads its input
 abbrev pub ReadsNothing : Option Command → Type 0
@@ -10,5 +10,11 @@ ReadsNothing (Some PlayRegroup) = ⊥
 ReadsNothing (Some Frames) = ⊥
 ReadsNothing (Some Verify) = ⊥
 ReadsNothing (Some Serve) = ⊥
+ReadsNothing (Some (Member _)) = ⊥
 ReadsNothing (Some (Session _ _ _ _)) = ⊥
 ReadsNothing _ = ⊤
+
+-- the words ask for no member
+abbrev pub RunsNoMember : Option Command → Type 0
+RunsNoMember (Some (Member _)) = ⊥
+RunsNoMember _ = ⊤

@@ -1,4 +1,4 @@
-use group_types::BadShape;
+use group_types::{BadShape, ConfigKey};
 use scenario_play::Status;
 use scenario_play::status::Count;
 use std::alloc::{AllocError, Global};
@@ -9,6 +9,7 @@ const COMMANDS: &str = "usage: cocytus_main play < SCRIPT
        cocytus_main verify < SCRIPT_AND_TRANSCRIPT
        cocytus_main session <k> <m> <blocks> <block>
        cocytus_main serve < SETTINGS
+       cocytus_main member [<name>] < SETTINGS
        cocytus_main make <n>
        cocytus_main trial <n>
        cocytus_main frames < STREAM
@@ -64,9 +65,40 @@ drain
 stop
 ";
 
+const LONGEST_SETTINGS: &str = "settings have at most 65536 bytes\n";
+
 /// What a person is told beside the last line of a command with these words: what was expected there, or what went
 /// wrong.
 pub fn help_at(alloc: Global, words: &[String], status: Status) -> Result<String, AllocError> {
+    match words.first() {
+        Some(word) if word.as_str() == "member" => help_of_member(alloc, status),
+        _ => help_of_others(alloc, words, status),
+    }
+}
+
+/// What is told where no member was run, or of the end of its run. At which key its settings are refused is told by the
+/// machine.
+fn help_of_member(alloc: Global, status: Status) -> Result<String, AllocError> {
+    match status {
+        Status::Refused(own) => format!(in alloc;
+            "a program was linked as member {own} before: one that is started anew is no member\n"
+        ),
+        Status::BadFrame(peer) => format!(in alloc;
+            "what member {peer} said is no frame, has a wrong sum, or can't be\n"
+        ),
+        Status::BadConfig(ConfigKey::Address) => {
+            "a member listens at the three addresses that its settings have for it\n".to_string(
+                alloc,
+            )
+        }
+        Status::BadConfig(_) => "".to_string(alloc),
+        Status::Cut => "the system failed at what all links need\n".to_string(alloc),
+        Status::TooLong => LONGEST_SETTINGS.to_string(alloc),
+        other => help_text(other).to_string(alloc),
+    }
+}
+
+fn help_of_others(alloc: Global, words: &[String], status: Status) -> Result<String, AllocError> {
     match status {
         Status::BadLine(n) => format!(in alloc; "line {n} of the script {}", lines(words)),
         Status::BadFrame(at) => {
@@ -94,7 +126,7 @@ fn lines(words: &[String]) -> &'static str {
 /// Which limit the input of a command has.
 fn too_long(words: &[String]) -> &'static str {
     match words.first() {
-        Some(word) if word.as_str() == "serve" => "settings have at most 65536 bytes\n",
+        Some(word) if word.as_str() == "serve" => LONGEST_SETTINGS,
         Some(word) if word.as_str() == "verify" =>
             "a script and its transcript have at most 67108864 bytes\n",
         _ => "a script has at most 16777216 bytes\n",

@@ -1,13 +1,18 @@
 //! The call that everything goes through, `run_program`: it reads the words of a command line and does what they
-//! ask for over any input, output, listener and clock. Its contract says, by cases of the command, what is written and
-//! when each status comes. Which streams are meant is left to the program that calls it.
+//! ask for over any input, output, listener, machine and clock. Its contract says, by cases of the command, what is written
+//! and when each status comes. Which streams are meant is left to the program that calls it, and what a run of a member
+//! does to its machine.
 #![tactic(auto)]
 
 mod ending;
 mod help;
 mod listing;
+mod member_line;
+mod member_run;
+mod member_stop;
 mod notice;
 mod program;
+mod running;
 mod serving;
 mod serving_group;
 mod verifying;
@@ -15,6 +20,9 @@ mod verifying;
 pub use ending::exit_of;
 pub use group_server::{Notice, Settings, Silent};
 pub use help::help_at;
+pub use member_machine::{Machine, MemberEnd, MemberKey, MemberSettings, MemoryMachine};
+pub use member_run::MemberRun;
+pub use member_stop::MemberStop;
 pub use notice::notice_of;
 pub use program::run_program;
 pub use scenario_play::Status;

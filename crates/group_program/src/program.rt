@@ -1,4 +1,4 @@
-ghost use Rattle.std.specs.Prelude.{◌≡◌, ◌≢◌, ◌⊎◌, map, Some, None};
+ghost use Rattle.std.specs.Prelude.{◌≡◌, ◌≢◌, ◌⊎◌, ℕ, List, Option, map, option_copied, Some, None};
 ghost use Rattle.std.specs.String.{string_bytes};
 ghost use Rattle.cluster_play.specs.Language.{cluster_scripts};
 ghost use Rattle.command_line.specs.Words.{command_of};
@@ -10,18 +10,21 @@ ghost use Rattle.group_types.specs.Shape.{IsShape};
 ghost use Rattle.scenario_play.specs.Language.{group_scripts};
 ghost use Rattle.scenario_play.specs.Outside.{outside};
 ghost use Rattle.scenario_play.specs.Played.{HasPlayedWhole};
+ghost use Rattle.group_program.specs.Member.{IsMember};
 ghost use Rattle.group_program.specs.Program.{HasCarriedOut, HasStopped};
 ghost use Rattle.group_program.specs.Serving.{HasServedWhole};
-ghost use Rattle.group_program.specs.Words.{ReadsNothing};
+ghost use Rattle.group_program.specs.Words.{ReadsNothing, RunsNoMember};
 
 use crate::listing::list_frames;
+use crate::running::run_member;
 use crate::serving::serve_session;
 use crate::serving_group::serve_by_settings;
 use crate::verifying::judge;
 use cluster_play::play_groups;
-use command_line::{Command, WordsFault, read_words};
+use command_line::{Command, Name, WordsFault, read_words};
 use edge_io::{Clock, Sink, Source};
 use group_server::{Notice, ReadyListener};
+use member_machine::Machine;
 use regroup_play::play_regroup;
 use scenario_play::Status;
 use scenario_play::make::make;
@@ -33,12 +36,14 @@ use std::sync::Wait;
 use std::thread::Threads;
 
 /// Runs the command that the words after the program's name ask for: `play`, `play_groups`, `play_regroup`, `verify`,
-/// `session`, `serve`, `make`, `trial` or `frames`. Before the first connection of `serve` the notice tells what is served.
+/// `session`, `serve`, `member`, `make`, `trial` or `frames`. Before the first connection of `serve` the notice tells what is
+/// served, and `member` runs on the machine.
 pub fn run_program<
     R: Threads + Wait + Sync,
     S: Source,
     K: Sink,
     L: ReadyListener,
+    M: Machine,
     N: Notice,
     T: Clock,
 >(
@@ -48,6 +53,7 @@ pub fn run_program<
     source: &mut S,
     sink: &mut K,
     listener: &mut L,
+    machine: &mut M,
     notice: &N,
     clock: &T,
 ) -> Status
@@ -69,6 +75,11 @@ where
         → HasServedWhole L.listened (λ l. tally (L.accepted l) (L.over l)) listener.old listener.new
         (outside (S.input source.old) (S.faults source.old) (K.held sink.old) (K.faults sink.old))
         (outside (S.input source.new) (S.faults source.new) (K.held sink.new) (K.faults sink.new)) }
+    ensures member { (name : Option (List ℕ)) → command_of (map string_bytes words.now) ≡ Some (Command.Member name)
+        → IsMember M.ran machine.old machine.new name
+        (outside (S.input source.old) (S.faults source.old) (K.held sink.old) (K.faults sink.old))
+        (outside (S.input source.new) (S.faults source.new) (K.held sink.new) (K.faults sink.new)) result
+        ⊎ (HasStopped (K.held sink.old) (K.held sink.new) result × (source.new ≡ source.old) × (machine.new ≡ machine.old)) }
     ensures bad_words { result ≡ Status.BadWords → command_of (map string_bytes words.now) ≡ None }
     ensures read { result ≡ Status.ReadFault → Rose (S.faults source.old) (S.faults source.new) }
     ensures write { result ≡ Status.WriteFault → Rose (K.faults sink.old) (K.faults sink.new) }
@@ -77,22 +88,34 @@ where
     ensures unshaped { (d : Dimensions) → command_of (map string_bytes words.now)
         ≡ Some (Command.Session d.k d.m d.blocks d.block) → ¬ (IsShape d) → source.new ≡ source.old }
     ensures listener { command_of (map string_bytes words.now) ≢ Some Command.Serve → listener.new ≡ listener.old }
+    ensures machine { RunsNoMember (command_of (map string_bytes words.now)) → machine.new ≡ machine.old }
 {
     match read_words(alloc, words) {
-        Ok(command) => run_command(rt, alloc, command, source, sink, listener, notice, clock),
+        Ok(command) => run_command(
+            rt, alloc, command, source, sink, listener, machine, notice, clock,
+        ),
         Err(WordsFault::BadWords) => tell(alloc, sink, Status::BadWords),
         Err(WordsFault::Want) => tell(alloc, sink, Status::Want),
     }
 }
 
 /// Runs a command.
-fn run_command<R: Threads + Wait + Sync, S: Source, K: Sink, L: ReadyListener, N: Notice, T: Clock>(
+fn run_command<
+    R: Threads + Wait + Sync,
+    S: Source,
+    K: Sink,
+    L: ReadyListener,
+    M: Machine,
+    N: Notice,
+    T: Clock,
+>(
     rt: &R,
     alloc: Global,
     command: Command,
     source: &mut S,
     sink: &mut K,
     listener: &mut L,
+    machine: &mut M,
     notice: &N,
     clock: &T,
 ) -> Status
@@ -111,6 +134,11 @@ where
     ensures unshaped { (d : Dimensions) → command ≡ Command.Session d.k d.m d.blocks d.block → ¬ (IsShape d)
         → source.new ≡ source.old }
     ensures listener { command ≢ Command.Serve → listener.new ≡ listener.old }
+    ensures member { (name : Option (List ℕ)) → command ≡ Command.Member name
+        → IsMember M.ran machine.old machine.new name
+        (outside (S.input source.old) (S.faults source.old) (K.held sink.old) (K.faults sink.old))
+        (outside (S.input source.new) (S.faults source.new) (K.held sink.new) (K.faults sink.new)) result }
+    ensures machine { RunsNoMember (Some command) → machine.new ≡ machine.old }
 {
     match command {
         Command::Play => play(alloc, source, sink),
@@ -121,11 +149,22 @@ where
         Command::Trial { number } => trial(alloc, number, sink),
         Command::Frames => list_frames(alloc, source, sink),
         Command::Serve => serve_by_settings(rt, alloc, source, sink, listener, notice, clock),
+        Command::Member { name } => run_member(alloc, text_of(&name), source, sink, machine),
         Command::Session {
             k,
             m,
             blocks,
             block,
         } => serve_session(alloc, k, m, blocks, block, source, sink, clock),
+    }
+}
+
+/// The text of a name, where there is one.
+fn text_of(name: &Option<Name>) -> Option<&str>
+    ensures { option_copied result ≡ name.now }
+{
+    match name {
+        Some(name) => Some(name.as_str()),
+        None => None,
     }
 }

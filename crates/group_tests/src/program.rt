@@ -5,6 +5,7 @@ mod cuts;
 mod door;
 mod ends;
 mod limits;
+mod members;
 mod runs;
 mod sharing;
 mod turns;

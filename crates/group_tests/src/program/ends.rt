@@ -47,6 +47,7 @@ fn a_limit_is_told_of_its_command(rt: HostRuntime) -> Result<(), Fail> {
     for (word, begin) in [
         ("play", "a script has at most 16777216 bytes\n"),
         ("serve", "settings have at most 65536 bytes\n"),
+        ("member", "settings have at most 65536 bytes\n"),
         (
             "verify",
             "a script and its transcript have at most 67108864 bytes\n",

@@ -2,7 +2,7 @@
 ghost use Rattle.std.specs.Prelude.{◌≤◌};
 
 use edge_io::{Clock, FixedClock, MemoryListener, MemorySink, MemorySource};
-use group_program::{Silent, Status, run_program};
+use group_program::{MemberEnd, MemoryMachine, Silent, Status, run_program};
 use std::alloc::{AllocError, Global};
 use std::sync::Wait;
 use std::test::Fail;
@@ -72,6 +72,7 @@ fn run_over<R: Threads + Wait + Sync, T: Clock>(
         source,
         sink,
         &mut listener,
+        &mut MemoryMachine::new(MemberEnd::Ended),
         &Silent,
         clock,
     ))

@@ -2,7 +2,7 @@
 use crate::program::door::{Door, Ear, Heard, Mouth};
 use crate::program::runs::owned;
 use edge_io::{FixedClock, MemorySink, MemorySource};
-use group_program::{Silent, Status, run_program};
+use group_program::{MemberEnd, MemoryMachine, Silent, Status, run_program};
 use std::alloc::{AllocError, Global};
 use std::sync::{Arc, Wait};
 use std::test::Fail;
@@ -54,6 +54,7 @@ fn serve<R: Threads + Wait + Sync>(
         &mut source,
         &mut sink,
         door,
+        &mut MemoryMachine::new(MemberEnd::Ended),
         &Silent,
         &clock,
     );

@@ -1,7 +1,7 @@
 // A client that says nothing more until it was answered, and what is read and written at once.
 use crate::program::runs::owned;
 use edge_io::{FixedClock, MemoryListener, ReadEdge, WriteEdge};
-use group_program::{Silent, Status, run_program};
+use group_program::{MemberEnd, MemoryMachine, Silent, Status, run_program};
 use std::alloc::{AllocError, Global};
 use std::io;
 use std::io::{ErrorKind, Read, Write};
@@ -81,6 +81,7 @@ fn serve<R: Threads + Wait + Sync>(
         &mut source,
         &mut sink,
         &mut listener,
+        &mut MemoryMachine::new(MemberEnd::Ended),
         &Silent,
         &clock,
     ))
