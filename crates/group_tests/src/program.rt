@@ -5,7 +5,6 @@ mod cuts;
 mod door;
 mod ends;
 mod limits;
-mod members;
 mod runs;
 mod sharing;
 mod turns;
