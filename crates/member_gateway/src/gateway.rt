@@ -1,4 +1,6 @@
+ghost use Rattle.std.specs.Prelude.{◌≡◌, IfOk};
 ghost use Rattle.group_types.specs.Names.{IsProcess};
+ghost use Rattle.group_member.specs.Opening.{opening_member};
 
 use crate::kind::Kind;
 use crate::links::Links;
@@ -36,6 +38,7 @@ impl MemberGateway {
     /// A gateway over a member at the start.
     pub fn new(alloc: Global, shape: Shape, name: ProcessId) -> Result<MemberGateway, AllocError>
         requires { IsProcess shape name }
+        ensures opening { IfOk result (λ g. g.member ≡ opening_member shape name) }
     {
         let each = callers_each(shape);
         Ok(MemberGateway {

@@ -1,4 +1,7 @@
 // What the program of a member sees of it.
+ghost use Rattle.std.specs.Prelude.{◌≡◌, length};
+ghost use Rattle.membership.specs.Members.{knows_dead};
+
 use crate::gateway::MemberGateway;
 use crate::sending::FLUSH;
 use crate::sets::{has, place_of};
@@ -10,17 +13,23 @@ const SHOW: u64 = 2;
 
 impl MemberGateway {
     /// The shape of the group.
-    pub fn shape(&self) -> Shape {
+    pub fn shape(&self) -> Shape
+        ensures { result ≡ self.now.member.words.shape }
+    {
         self.work.shape()
     }
 
     /// Which process it is.
-    pub fn name(&self) -> ProcessId {
-        self.work.name
+    pub fn name(&self) -> ProcessId
+        ensures { result ≡ self.now.member.words.name }
+    {
+        self.work.member.name()
     }
 
     /// Whether a process is cut.
-    pub fn has_cut(&self, x: ProcessId) -> bool {
+    pub fn has_cut(&self, x: ProcessId) -> bool
+        ensures { result ≡ knows_dead self.now.member.words.cut x }
+    {
         self.work.member.has_cut(x)
     }
 
@@ -30,7 +39,9 @@ impl MemberGateway {
     }
 
     /// How many requests are parked.
-    pub fn parked(&self) -> usize {
+    pub fn parked(&self) -> usize
+        ensures { result ≡ length self.now.member.parked }
+    {
         self.work.member.parked()
     }
 

@@ -1,5 +1,6 @@
-ghost use Rattle.std.specs.Prelude.{◌≡◌};
+ghost use Rattle.std.specs.Prelude.{◌≡◌, IfOk};
 ghost use Rattle.group_types.specs.Names.{IsProcess};
+ghost use Rattle.group_member.specs.Opening.{opening_member};
 
 use crate::calls::{Calls, Phase};
 use crate::dues::Dues;
@@ -50,6 +51,7 @@ impl MemberWork {
         name: ProcessId,
     ) -> Result<MemberWork, AllocError>
         requires { IsProcess shape name }
+        ensures opening { IfOk result (λ w. w ≡ opening_member shape name) }
     {
         let own = index_of(shape, name);
         Ok(MemberWork {

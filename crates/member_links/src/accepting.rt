@@ -1,3 +1,5 @@
+ghost use Rattle.member_links.specs.Ages.{NoneGoesBack};
+
 use crate::heard::Heard;
 use crate::link_event::LinkEvent;
 use crate::links::{MOST_MEMBERS, MemberLinks};
@@ -18,10 +20,13 @@ const MOST_NEWCOMERS: usize = 32;
 /// How long the greeting of one that came is waited for, in milliseconds.
 const GREETING_WAIT: u64 = 10_000;
 
+#[tactic(auto, using(crate::proofs::Aging::aging))]
 impl MemberLinks {
     /// Goes on with what is no link yet: accepts those of lower index, connects to those of higher index where they
     /// weren't there before, and reads greetings.
-    pub fn establish<N: Net>(&mut self, net: &N, registry: &Registry) {
+    pub fn establish<N: Net>(&mut self, net: &N, registry: &Registry)
+        ensures { NoneGoesBack self.old.links.items self.new.links.items }
+    {
         self.accept_all(registry);
         self.hear_newcomers();
         'links: for x in 0..MOST_MEMBERS {
@@ -32,7 +37,9 @@ impl MemberLinks {
     }
 
     // Accepts what came at the port.
-    fn accept_all(&mut self, registry: &Registry) {
+    fn accept_all(&mut self, registry: &Registry)
+        ensures { NoneGoesBack self.old.links.items self.new.links.items }
+    {
         'streams: for _ in 0..MOST_NEWCOMERS {
             match self.port.accept() {
                 Arrival::Stream(stream) => self.admit(registry, stream),
@@ -42,18 +49,22 @@ impl MemberLinks {
     }
 
     // Waits for the greeting of one that came, where few do.
-    fn admit(&mut self, registry: &Registry, stream: TcpStream) {
+    fn admit(&mut self, registry: &Registry, stream: TcpStream)
+        ensures { NoneGoesBack self.old.links.items self.new.links.items }
+    {
         if self.newcomers.len() >= MOST_NEWCOMERS {
             return;
         }
         if let Ok(pipe) = self.pipe_of(registry, stream) {
             let until = self.now.saturating_add(GREETING_WAIT);
-            let _ = self.newcomers.push(Newcomer { pipe, until });
+            self.keep(Newcomer { pipe, until });
         }
     }
 
     /// A stream of frames, watched under a token of its own.
-    pub(crate) fn pipe_of(&mut self, registry: &Registry, stream: TcpStream) -> io::Result<Pipe> {
+    pub(crate) fn pipe_of(&mut self, registry: &Registry, stream: TcpStream) -> io::Result<Pipe>
+        ensures { NoneGoesBack self.old.links.items self.new.links.items }
+    {
         let mut stream = stream;
         let token = self.next_token;
         self.next_token = token.saturating_add(1);
@@ -63,14 +74,19 @@ impl MemberLinks {
     }
 
     // Reads the greetings of those that came.
-    fn hear_newcomers(&mut self) {
-        'newcomers: for place in (0..self.newcomers.len()).rev() {
-            self.hear_newcomer(place);
+    fn hear_newcomers(&mut self)
+        ensures { NoneGoesBack self.old.links.items self.new.links.items }
+    {
+        let count = self.newcomers.len();
+        'newcomers: for heard in 0..count {
+            self.hear_newcomer(count - 1 - heard);
         }
     }
 
     // Reads the greeting of one that came.
-    fn hear_newcomer(&mut self, place: usize) {
+    fn hear_newcomer(&mut self, place: usize)
+        ensures { NoneGoesBack self.old.links.items self.new.links.items }
+    {
         if place >= self.newcomers.len() {
             return;
         }
@@ -83,15 +99,19 @@ impl MemberLinks {
         }
     }
 
-    // Waits on for the greeting of one that came, if it isn't late.
-    fn keep(&mut self, newcomer: Newcomer) {
-        if self.now < newcomer.until {
+    // Waits for the greeting of one that came, if it isn't late and few wait.
+    fn keep(&mut self, newcomer: Newcomer)
+        ensures { NoneGoesBack self.old.links.items self.new.links.items }
+    {
+        if self.now < newcomer.until && self.newcomers.len() < MOST_NEWCOMERS {
             let _ = self.newcomers.push(newcomer);
         }
     }
 
     // One that came greets: it is linked, where its name is a member's that wasn't accepted before.
-    fn judge(&mut self, pipe: Pipe, hello: Hello) {
+    fn judge(&mut self, pipe: Pipe, hello: Hello)
+        ensures { NoneGoesBack self.old.links.items self.new.links.items }
+    {
         match self.greeting.sender_of(&hello) {
             Some(x) if x < self.greeting.own => self.answer(x, pipe),
             _ => self.tell(LinkEvent::Stranger),
@@ -99,7 +119,9 @@ impl MemberLinks {
     }
 
     // A program greets in the name of the member at an index.
-    fn answer(&mut self, x: u32, pipe: Pipe) {
+    fn answer(&mut self, x: u32, pipe: Pipe)
+        ensures { NoneGoesBack self.old.links.items self.new.links.items }
+    {
         match self.stage(x) {
             Stage::Absent => self.accept(x, pipe),
             _ => self.refuse(x, pipe),
@@ -107,7 +129,9 @@ impl MemberLinks {
     }
 
     // Greets the member at an index, which greeted before, and is linked to it.
-    fn accept(&mut self, x: u32, pipe: Pipe) {
+    fn accept(&mut self, x: u32, pipe: Pipe)
+        ensures { NoneGoesBack self.old.links.items self.new.links.items }
+    {
         let mut pipe = pipe;
         if self.greet(x, &mut pipe).is_ok() {
             self.link_up(x, pipe);
@@ -115,14 +139,18 @@ impl MemberLinks {
     }
 
     /// The link to the member at an index is there.
-    pub(crate) fn link_up(&mut self, x: u32, pipe: Pipe) {
+    pub(crate) fn link_up(&mut self, x: u32, pipe: Pipe)
+        ensures { NoneGoesBack self.old.links.items self.new.links.items }
+    {
         if self.go_up(x, pipe) {
             self.tell(LinkEvent::Up(x));
         }
     }
 
     // Says whether the member at an index was waited for.
-    fn go_up(&mut self, x: u32, pipe: Pipe) -> bool {
+    fn go_up(&mut self, x: u32, pipe: Pipe) -> bool
+        ensures { NoneGoesBack self.old.links.items self.new.links.items }
+    {
         match self.links.get_mut(x as usize) {
             Some(link) => link.go_up(pipe),
             None => false,
@@ -130,7 +158,9 @@ impl MemberLinks {
     }
 
     /// Puts this member's greeting to the member at an index into a stream.
-    pub(crate) fn greet(&mut self, x: u32, pipe: &mut Pipe) -> Result<(), AllocError> {
+    pub(crate) fn greet(&mut self, x: u32, pipe: &mut Pipe) -> Result<(), AllocError>
+        ensures { NoneGoesBack self.old.links.items self.new.links.items }
+    {
         let Some(hello) = self.greeting.hello_to(x) else {
             return Err(AllocError);
         };

@@ -1,3 +1,5 @@
+ghost use Rattle.member_links.specs.Ages.{NoneGoesBack};
+
 use crate::heard::Heard;
 use crate::links::MemberLinks;
 use crate::pipe::Pipe;
@@ -18,10 +20,13 @@ const CONNECTING: u64 = 3_000;
 /// After how many milliseconds a program of a name that was accepted before is looked for again.
 const LOOKING: u64 = 1_000;
 
+#[tactic(auto, using(crate::proofs::Aging::aging))]
 impl MemberLinks {
     /// Goes on with the link to a member of higher index: connects to it or hears its greeting. Where its link broke, or it
     /// was cut, a program that was started anew in its name is told so.
-    pub(crate) fn approach<N: Net>(&mut self, net: &N, registry: &Registry, x: u32) {
+    pub(crate) fn approach<N: Net>(&mut self, net: &N, registry: &Registry, x: u32)
+        ensures { NoneGoesBack self.old.links.items self.new.links.items }
+    {
         match self.stage(x) {
             Stage::Absent => self.connect(net, registry, x),
             Stage::Greeting => self.hear_answer(x),
@@ -38,7 +43,9 @@ impl MemberLinks {
     }
 
     // The next step of the link to a member comes so many milliseconds from now.
-    fn put_off(&mut self, x: u32, wait: u64) {
+    fn put_off(&mut self, x: u32, wait: u64)
+        ensures { NoneGoesBack self.old.links.items self.new.links.items }
+    {
         let due = self.now.saturating_add(wait);
         if let Some(link) = self.links.get_mut(x as usize) {
             link.put_off(due);
@@ -46,7 +53,9 @@ impl MemberLinks {
     }
 
     // A stream that connects to a member.
-    fn open<N: Net>(&mut self, net: &N, registry: &Registry, x: u32) -> io::Result<Pipe> {
+    fn open<N: Net>(&mut self, net: &N, registry: &Registry, x: u32) -> io::Result<Pipe>
+        ensures { NoneGoesBack self.old.links.items self.new.links.items }
+    {
         let Some(at) = self.address_of(net, x) else {
             return Err(io::Error::from(ErrorKind::InvalidInput));
         };
@@ -64,21 +73,27 @@ impl MemberLinks {
     }
 
     // A stream that connects to a member and greets it.
-    fn open_to_greet<N: Net>(&mut self, net: &N, registry: &Registry, x: u32) -> io::Result<Pipe> {
+    fn open_to_greet<N: Net>(&mut self, net: &N, registry: &Registry, x: u32) -> io::Result<Pipe>
+        ensures { NoneGoesBack self.old.links.items self.new.links.items }
+    {
         let mut pipe = self.open(net, registry, x)?;
         self.greet(x, &mut pipe)?;
         Ok(pipe)
     }
 
     // A stream that connects to a program that was started anew in a member's name, and tells it that it is no member.
-    fn open_to_deny<N: Net>(&mut self, net: &N, registry: &Registry, x: u32) -> io::Result<Pipe> {
+    fn open_to_deny<N: Net>(&mut self, net: &N, registry: &Registry, x: u32) -> io::Result<Pipe>
+        ensures { NoneGoesBack self.old.links.items self.new.links.items }
+    {
         let mut pipe = self.open_to_greet(net, registry, x)?;
         self.deny(x, &mut pipe)?;
         Ok(pipe)
     }
 
     // Connects to a member, if that is due.
-    fn connect<N: Net>(&mut self, net: &N, registry: &Registry, x: u32) {
+    fn connect<N: Net>(&mut self, net: &N, registry: &Registry, x: u32)
+        ensures { NoneGoesBack self.old.links.items self.new.links.items }
+    {
         if !self.is_due(x) {
             return;
         }
@@ -92,14 +107,18 @@ impl MemberLinks {
     }
 
     // A stream connects to a member.
-    fn set_connecting(&mut self, x: u32, pipe: Pipe) {
+    fn set_connecting(&mut self, x: u32, pipe: Pipe)
+        ensures { NoneGoesBack self.old.links.items self.new.links.items }
+    {
         if let Some(link) = self.links.get_mut(x as usize) {
             link.connect(pipe);
         }
     }
 
     // Connects to a member once more, after so many milliseconds.
-    fn connect_again(&mut self, x: u32, wait: u64) {
+    fn connect_again(&mut self, x: u32, wait: u64)
+        ensures { NoneGoesBack self.old.links.items self.new.links.items }
+    {
         self.put_off(x, wait);
         if let Some(link) = self.links.get_mut(x as usize) {
             link.disconnect();
@@ -107,7 +126,9 @@ impl MemberLinks {
     }
 
     // Reads the greeting of a member that was connected to.
-    fn hear_answer(&mut self, x: u32) {
+    fn hear_answer(&mut self, x: u32)
+        ensures { NoneGoesBack self.old.links.items self.new.links.items }
+    {
         match self.answer_of(x) {
             Heard::Nothing => {
                 if self.is_late(x) {
@@ -120,7 +141,9 @@ impl MemberLinks {
     }
 
     // The link to a member is there where it greets, and else it is connected to once more.
-    fn settle(&mut self, x: u32, heard: Heard) {
+    fn settle(&mut self, x: u32, heard: Heard)
+        ensures { NoneGoesBack self.old.links.items self.new.links.items }
+    {
         if !self.judge_answer(x, heard) {
             self.connect_again(x, LOOKING);
         } else if let Some(pipe) = self.take_pipe(x) {
@@ -129,14 +152,18 @@ impl MemberLinks {
     }
 
     // What the first frame that came of a member says, once it was greeted.
-    fn answer_of(&mut self, x: u32) -> Heard {
+    fn answer_of(&mut self, x: u32) -> Heard
+        ensures { NoneGoesBack self.old.links.items self.new.links.items }
+    {
         match self.links.get_mut(x as usize) {
             Some(link) => link.hear(),
             None => Heard::Broken,
         }
     }
 
-    fn take_pipe(&mut self, x: u32) -> Option<Pipe> {
+    fn take_pipe(&mut self, x: u32) -> Option<Pipe>
+        ensures { NoneGoesBack self.old.links.items self.new.links.items }
+    {
         match self.links.get_mut(x as usize) {
             Some(link) => link.take_pipe(),
             None => None,
@@ -152,7 +179,9 @@ impl MemberLinks {
     }
 
     // Looks for a program that was started anew in a member's name, and tells it that it is no member.
-    fn look_for<N: Net>(&mut self, net: &N, registry: &Registry, x: u32) {
+    fn look_for<N: Net>(&mut self, net: &N, registry: &Registry, x: u32)
+        ensures { NoneGoesBack self.old.links.items self.new.links.items }
+    {
         if self.is_due(x) {
             self.put_off(x, LOOKING);
             let pipe = self.open_to_deny(net, registry, x).ok();
@@ -163,7 +192,9 @@ impl MemberLinks {
     }
 
     // A stream, if there is one, tells such a program so.
-    fn deny_by(&mut self, x: u32, pipe: Option<Pipe>) {
+    fn deny_by(&mut self, x: u32, pipe: Option<Pipe>)
+        ensures { NoneGoesBack self.old.links.items self.new.links.items }
+    {
         if let Some(link) = self.links.get_mut(x as usize) {
             link.deny_by(pipe);
         }

@@ -1,3 +1,5 @@
+ghost use Rattle.member_links.specs.Ages.{NoneGoesBack};
+
 use crate::link_end::LinkEnd;
 use crate::links::{MOST_MEMBERS, MemberLinks};
 use crate::pipe::PipeFault;
@@ -6,9 +8,12 @@ use link_frames::{Frame, NameSet, encode_into, fits_link};
 use member_gateway::Links;
 use std::alloc::AllocError;
 
+#[tactic(auto, using(crate::proofs::Aging::aging))]
 impl MemberLinks {
     // Spells a frame that goes to a member: nothing where it has no spelling, which ends the program.
-    pub(crate) fn spell(&mut self, to: u32, frame: &Frame) -> Result<(), AllocError> {
+    pub(crate) fn spell(&mut self, to: u32, frame: &Frame) -> Result<(), AllocError>
+        ensures { NoneGoesBack self.old.links.items self.new.links.items }
+    {
         self.spelled.clear();
         if fits_link(frame) {
             return encode_into(self.alloc, &mut self.spelled, frame);
@@ -18,7 +23,9 @@ impl MemberLinks {
     }
 
     // The next frame that came of a member.
-    fn next_of(&mut self, from: u32) -> Result<Option<Frame>, PipeFault> {
+    fn next_of(&mut self, from: u32) -> Result<Option<Frame>, PipeFault>
+        ensures { NoneGoesBack self.old.links.items self.new.links.items }
+    {
         match self.links.get_mut(from as usize) {
             Some(link) => link.take(),
             None => Ok(None),
@@ -26,7 +33,9 @@ impl MemberLinks {
     }
 
     // A frame of a member, unless it says that this member was cut.
-    fn unless_cut(&mut self, from: u32, frame: Frame) -> Option<Frame> {
+    fn unless_cut(&mut self, from: u32, frame: Frame) -> Option<Frame>
+        ensures { NoneGoesBack self.old.links.items self.new.links.items }
+    {
         if self.is_cut_by(&frame) {
             self.stop(LinkEnd::Refused(from));
             return None;
@@ -43,7 +52,9 @@ impl MemberLinks {
     }
 
     // No frame comes of a member, for this reason.
-    fn note_fault(&mut self, from: u32, fault: PipeFault) {
+    fn note_fault(&mut self, from: u32, fault: PipeFault)
+        ensures { NoneGoesBack self.old.links.items self.new.links.items }
+    {
         match fault {
             PipeFault::Broken => self.break_off(from),
             PipeFault::BadFrame => self.stop(LinkEnd::BadFrame(from)),
@@ -57,8 +68,11 @@ pub(crate) fn has_name(names: NameSet, x: u32) -> bool {
     x < MOST_MEMBERS && names.0 >> x & 1 == 1
 }
 
+#[tactic(auto, using(crate::proofs::Aging::aging))]
 impl Links for MemberLinks {
-    fn take(&mut self, from: u32) -> Option<Frame> {
+    fn take(&mut self, from: u32) -> Option<Frame>
+        ensures { NoneGoesBack self.old.links.items self.new.links.items }
+    {
         match self.next_of(from) {
             Ok(Some(frame)) => self.unless_cut(from, frame),
             Ok(None) => None,
@@ -69,17 +83,23 @@ impl Links for MemberLinks {
         }
     }
 
-    fn give_back(&mut self, from: u32, frame: Frame) {
+    fn give_back(&mut self, from: u32, frame: Frame)
+        ensures { NoneGoesBack self.old.links.items self.new.links.items }
+    {
         if let Some(link) = self.links.get_mut(from as usize) {
             link.give_back(frame);
         }
     }
 
-    fn misfit(&mut self, from: u32) {
+    fn misfit(&mut self, from: u32)
+        ensures { NoneGoesBack self.old.links.items self.new.links.items }
+    {
         self.stop(LinkEnd::Misfit(from));
     }
 
-    fn put(&mut self, to: u32, frame: &Frame) -> Result<(), AllocError> {
+    fn put(&mut self, to: u32, frame: &Frame) -> Result<(), AllocError>
+        ensures { NoneGoesBack self.old.links.items self.new.links.items }
+    {
         self.spell(to, frame)?;
         match self.links.get_mut(to as usize) {
             Some(link) => link.put(&self.spelled),
@@ -94,13 +114,17 @@ impl Links for MemberLinks {
         }
     }
 
-    fn cut(&mut self, x: u32) {
+    fn cut(&mut self, x: u32)
+        ensures { NoneGoesBack self.old.links.items self.new.links.items }
+    {
         if let Some(link) = self.links.get_mut(x as usize) {
             link.cut();
         }
     }
 
-    fn next_word(&mut self) -> Option<ProcessId> {
+    fn next_word(&mut self) -> Option<ProcessId>
+        ensures { NoneGoesBack self.old.links.items self.new.links.items }
+    {
         self.words.pop_front()
     }
 

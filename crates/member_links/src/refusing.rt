@@ -1,3 +1,5 @@
+ghost use Rattle.member_links.specs.Ages.{NoneGoesBack};
+
 use crate::frames::has_name;
 use crate::heard::Heard;
 use crate::link_end::LinkEnd;
@@ -7,9 +9,12 @@ use crate::pipe::Pipe;
 use link_frames::{Frame, NameSet};
 use std::alloc::AllocError;
 
+#[tactic(auto, using(crate::proofs::Aging::aging))]
 impl MemberLinks {
     /// Tells a program that its name, that of the member at an index, was accepted before.
-    pub(crate) fn refuse(&mut self, x: u32, pipe: Pipe) {
+    pub(crate) fn refuse(&mut self, x: u32, pipe: Pipe)
+        ensures { NoneGoesBack self.old.links.items self.new.links.items }
+    {
         let mut pipe = pipe;
         if self.deny(x, &mut pipe).is_ok() {
             let _ = pipe.write_greeting();
@@ -20,13 +25,17 @@ impl MemberLinks {
     }
 
     /// Puts into a stream that the member at an index is none, since its name was accepted before.
-    pub(crate) fn deny(&mut self, x: u32, pipe: &mut Pipe) -> Result<(), AllocError> {
+    pub(crate) fn deny(&mut self, x: u32, pipe: &mut Pipe) -> Result<(), AllocError>
+        ensures { NoneGoesBack self.old.links.items self.new.links.items }
+    {
         self.spell(x, &Frame::Said(name_of(x)))?;
         pipe.greet(&self.spelled)
     }
 
     // Whether none came in this name again before.
-    fn is_first_again(&mut self, x: u32) -> bool {
+    fn is_first_again(&mut self, x: u32) -> bool
+        ensures { NoneGoesBack self.old.links.items self.new.links.items }
+    {
         match self.links.get_mut(x as usize) {
             Some(link) => link.note_again(),
             None => false,
@@ -35,7 +44,9 @@ impl MemberLinks {
 
     /// Whether the member at an index greets, to which this one connected. This one has to stop where it is told that its name
     /// was accepted before.
-    pub(crate) fn judge_answer(&mut self, x: u32, heard: Heard) -> bool {
+    pub(crate) fn judge_answer(&mut self, x: u32, heard: Heard) -> bool
+        ensures { NoneGoesBack self.old.links.items self.new.links.items }
+    {
         match heard {
             Heard::Hello(hello) if self.greeting.sender_of(&hello) == Some(x) => return true,
             Heard::Said(names) if has_name(names, self.greeting.own) => {

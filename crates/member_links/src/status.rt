@@ -1,9 +1,12 @@
+ghost use Rattle.member_links.specs.Ages.{NoneGoesBack};
+
 use crate::link::Link;
 use crate::link_end::LinkEnd;
 use crate::link_event::LinkEvent;
 use crate::links::MemberLinks;
 use crate::stage::Stage;
 
+#[tactic(auto, using(crate::proofs::Aging::aging))]
 impl MemberLinks {
     /// Whether something that came may be there that wasn't taken yet.
     pub fn has_input(&self) -> bool {
@@ -37,7 +40,9 @@ impl MemberLinks {
     }
 
     /// What became of a link that wasn't told yet.
-    pub fn next_event(&mut self) -> Option<LinkEvent> {
+    pub fn next_event(&mut self) -> Option<LinkEvent>
+        ensures { NoneGoesBack self.old.links.items self.new.links.items }
+    {
         self.events.pop_front()
     }
 

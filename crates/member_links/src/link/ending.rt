@@ -1,4 +1,5 @@
-ghost use Rattle.std.specs.Prelude.{◌≡◌, ◌≢◌, ◌↔◌, [], false, true, IsTrue};
+ghost use Rattle.std.specs.Prelude.{◌≡◌, ◌≢◌, ◌↔◌, ◌≤◌, [], false, true, IsTrue};
+ghost use Rattle.member_links.specs.Stages.{age};
 
 use super::Link;
 use crate::pipe::Pipe;
@@ -49,6 +50,7 @@ impl Link {
     pub(crate) fn fail(&mut self)
         ensures broken { self.old.stage ≡ Stage.Up → self.new.stage ≡ Stage.Broken }
         ensures stays { self.old.stage ≢ Stage.Up → self.new.stage ≡ self.old.stage }
+        ensures age { age self.old.stage ≤ age self.new.stage }
     {
         if self.is_up() {
             self.close(Stage::Broken);
@@ -57,7 +59,8 @@ impl Link {
 
     /// The other was cut.
     pub(crate) fn cut(&mut self)
-        ensures { self.new.stage ≡ Stage.Cut }
+        ensures cut { self.new.stage ≡ Stage.Cut }
+        ensures age { age self.old.stage ≤ age self.new.stage }
     {
         self.close(Stage::Cut);
     }

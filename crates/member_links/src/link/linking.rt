@@ -1,4 +1,4 @@
-ghost use Rattle.std.specs.Prelude.{◌≡◌, ◌↔◌, IsTrue};
+ghost use Rattle.std.specs.Prelude.{◌≡◌, ◌↔◌, ◌≤◌, IsTrue};
 ghost use Rattle.member_links.specs.Stages.{IsAwaited, age};
 
 use super::Link;
@@ -32,6 +32,7 @@ impl Link {
         ensures awaited { IsTrue result ↔ IsAwaited self.old.stage }
         ensures up { IsTrue result → self.new.stage ≡ Stage.Up }
         ensures once { ¬ (IsAwaited self.old.stage) → self.new.stage ≡ self.old.stage }
+        ensures age { age self.old.stage ≤ age self.new.stage }
     {
         if !self.is_awaited() {
             return false;
