@@ -1,14 +1,40 @@
 #!/bin/sh
 # What each client library that Debian has for memcached does over a server: sh examples/clients/run.sh HOST PORT. It runs those that are
 # installed, each with a time limit, and prints a table: a row for each thing tried, a column for each client; then what libmemcached's tools do.
+# `run.sh member [PROGRAM]` does the same over a member of a group of six, p0, which heads no key. It starts them on this machine by the settings
+# examples/machines/member.toml; without a program it is built first, without a proof (examples/machines/unproved.sh).
 # `apt-get install python3-pymemcache python3-memcache python3-pylibmc php-cli php-memcached libcache-memcached-perl golang-go
 # golang-github-bradfitz-gomemcache-dev libspymemcached-java default-jdk-headless libmemcached-tools` installs all.
 set -u
 here=$(cd "$(dirname "$0")" && pwd)
+work=$(mktemp -d)
+members=
+trap 'for each in $members; do kill "$each"; done; rm -rf "$work"' EXIT
+trap 'exit 1' INT TERM
+
+# Starts six members, and waits until p0 serves.
+start_members() {
+    program=${1:-$work/built/cocytus_main}
+    [ $# -gt 0 ] || sh "$here/../machines/unproved.sh" "$work/built" || exit 1
+    for name in d0 d1 d2 d3 p0 p1; do
+        "$program" member "$name" < "$here/../machines/member.toml" > /dev/null 2> "$work/$name.said" &
+        members="$members $!"
+    done
+    waited=0
+    until grep -q 'serves at' "$work/p0.said"; do
+        [ "$waited" -lt 120 ] || { cat "$work/p0.said" >&2; exit 1; }
+        waited=$((waited + 1))
+        sleep 1
+    done
+}
+
+if [ "$1" = member ]; then
+    shift
+    start_members "$@"
+    set -- 127.0.0.1 21204
+fi
 host=$1
 port=$2
-work=$(mktemp -d)
-trap 'rm -rf "$work"' EXIT
 jars=/usr/share/java/spymemcached.jar:/usr/share/java/slf4j-api.jar
 go_source=/usr/share/gocode/src/github.com/bradfitz/gomemcache
 

@@ -1,15 +1,14 @@
-//! The program: it makes the real input, output, listener and clock, and ends with the number of
+//! The program: it makes the real input, output, listener, machine and clock, and ends with the number of
 //! the status that `run_program` gives. The contract of `run_program` says what is written and when
-//! each status comes. What standard input and output and the port really give and take is left to the system, and so is
-//! what a person reads on standard error.
+//! each status comes. What standard input and output, the port and the machine's sockets really give and take is left to
+//! the system, and so is what a person reads on standard error.
 #![tactic(auto)]
 
-mod no_machine;
 mod person;
 
 use edge_io::{ReadEdge, SystemClock, WriteEdge};
 use group_program::{Status, exit_of, run_program, tell};
-use no_machine::NoMachine;
+use member_serve::NetMachine;
 use person::Person;
 use ready_worker::ToldEdge;
 use std::alloc::{AllocError, Global};
@@ -29,6 +28,8 @@ fn main(rt: HostRuntime) -> ExitCode {
         return exit_of(tell(rt.alloc(), &mut WriteEdge::new(rt.stdout()), Status::Want));
     };
     let person = Person::new(rt);
+    let clock = SystemClock::new(&rt);
+    let mut machine = NetMachine::new(rt.alloc(), &rt, &person);
     let mut port = ToldEdge::new(TcpEdge::new(&rt), &person);
     let status = run_program(
         &rt,
@@ -37,9 +38,9 @@ fn main(rt: HostRuntime) -> ExitCode {
         &mut ReadEdge::new(rt.stdin()),
         &mut WriteEdge::new(rt.stdout()),
         &mut port,
-        &mut NoMachine::new(&person),
+        &mut machine,
         &person,
-        &SystemClock::new(&rt),
+        &clock,
     );
     person.explain(&words, status, port.last_error());
     exit_of(status)

@@ -1,5 +1,6 @@
 use edge_io::{WriteEdge, write_all};
 use group_program::{Notice, Settings, Status, help_at, notice_of};
+use member_serve::Report;
 use ready_worker::Watch;
 use std::io;
 use std::net::SocketAddr;
@@ -32,7 +33,7 @@ impl Person {
         }
     }
 
-    pub(crate) fn say(&self, text: &str) {
+    fn say(&self, text: &str) {
         let _ = write_all(&mut WriteEdge::new(self.rt.stderr()), text.as_bytes());
     }
 }
@@ -42,6 +43,12 @@ impl Notice for Person {
         if let Ok(text) = notice_of(self.rt.alloc(), settings) {
             self.say(&text);
         }
+    }
+}
+
+impl Report for Person {
+    fn line(&self, text: &str) {
+        self.say(text);
     }
 }
 

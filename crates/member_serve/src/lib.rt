@@ -1,0 +1,28 @@
+//! A member of a group as a program: its links, its clients and its operator, served by one thread in turns. The contract says that
+//! each call is safe and each turn ends. What the system's streams bring, and when, is left to tests.
+#![tactic(auto)]
+
+mod answers;
+mod callers;
+mod client_port;
+mod client_stream;
+mod clients;
+mod control;
+mod control_line;
+mod names;
+mod net_machine;
+mod noting;
+mod operator;
+mod patience;
+mod ports;
+mod readiness;
+mod report;
+mod serving;
+mod status;
+mod telling;
+mod turn_clock;
+mod turning;
+mod waiting;
+
+pub use net_machine::NetMachine;
+pub use report::Report;

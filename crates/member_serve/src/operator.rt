@@ -1,0 +1,93 @@
+use crate::answers::{Word, word_of};
+use crate::callers::Callers;
+use crate::names::{MOST_MEMBERS, has, with};
+use crate::report::Report;
+use crate::serving::Serving;
+use ready_worker::Watch;
+use std::net::Net;
+use std::time;
+
+/// The most lines of operators that are treated in a turn.
+const MOST_LINES: u32 = 64;
+
+impl<R: Net + time::Clock, W: Report + Watch, G: Callers> Serving<'_, R, W, G> {
+    /// Does what operators say. Says whether one ended this member.
+    pub(crate) fn hear_operators(&mut self) -> bool {
+        self.control.read(self.worker.readiness().registry());
+        let ends = self.hear_lines();
+        self.control.write_out();
+        ends
+    }
+
+    // Does what the lines say that were read. Says whether one ended this member.
+    fn hear_lines(&mut self) -> bool {
+        let mut ends = false;
+        'lines: for _ in 0..MOST_LINES {
+            let Some((at, line)) = self.control.next() else {
+                return ends;
+            };
+            ends = self.hear(at, word_of(self.settings, &line)) || ends;
+        }
+        ends
+    }
+
+    // Does what an operator says, and answers. Says whether that ended this member.
+    fn hear(&mut self, at: usize, word: Word) -> bool {
+        match word {
+            Word::Dead(set) if has(set, self.settings.own) => {
+                self.control.answer(at, "ended\n");
+                return true;
+            }
+            Word::Dead(set) => {
+                let answer = self.condemn(set);
+                self.control.answer(at, answer);
+            }
+            Word::Status => self.answer_status(at),
+            Word::Unknown => self.control.answer(at, "no member has this name\n"),
+            Word::Other => self.control.answer(at, "say dead NAME.. or status\n"),
+        }
+        false
+    }
+
+    // Members are dead, where with those that are cut that makes no more than the group can lose.
+    fn condemn(&mut self, set: u32) -> &'static str {
+        if count_of(set | self.condemned()) > self.settings.shape.m() {
+            return "not taken: more members would be dead than the group can lose\n";
+        }
+        'members: for x in 0..MOST_MEMBERS {
+            if has(set, x) && !self.say(x) {
+                return "not taken: there is not enough memory\n";
+            }
+        }
+        "taken\n"
+    }
+
+    // The member at an index is dead, which may have been said before. Says whether there was memory for it.
+    fn say(&mut self, x: u32) -> bool {
+        if has(self.condemned(), x) {
+            return true;
+        }
+        if self.links.say(x).is_err() {
+            return false;
+        }
+        self.said = with(self.said, x);
+        true
+    }
+
+    /// Who is cut, or was said to be dead here.
+    pub(crate) fn condemned(&self) -> u32 {
+        self.said | self.cut()
+    }
+
+    fn answer_status(&mut self, at: usize) {
+        match self.status() {
+            Ok(text) => self.control.answer(at, text.as_str()),
+            Err(_) => self.control.answer(at, "there is not enough memory\n"),
+        }
+    }
+}
+
+/// How many members a set has.
+fn count_of(set: u32) -> u32 {
+    set.count_ones()
+}

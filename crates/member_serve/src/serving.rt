@@ -1,0 +1,37 @@
+use crate::callers::Callers;
+use crate::client_port::ClientPort;
+use crate::control::Control;
+use crate::readiness::MemberReadiness;
+use crate::turn_clock::TurnClock;
+use group_config::MemberSettings;
+use member_links::{LINK_PORT, MemberLinks};
+use ready_worker::Worker;
+use std::alloc::Global;
+use std::io;
+
+/// A member that runs: its clients, its links and its operators.
+#[derive(Drop)]
+pub(crate) struct Serving<'s, R, W, G: Callers> {
+    pub(crate) alloc: Global,
+    pub(crate) rt: &'s R,
+    pub(crate) report: &'s W,
+    pub(crate) settings: &'s MemberSettings,
+    pub(crate) clock: &'s TurnClock,
+    pub(crate) worker: Worker<'s, MemberReadiness, G, TurnClock>,
+    pub(crate) links: MemberLinks,
+    pub(crate) control: Control,
+    pub(crate) client_port: ClientPort,
+    pub(crate) now: u64,
+    pub(crate) said: u32,
+    pub(crate) few_since: Option<u64>,
+    pub(crate) is_stuck: bool,
+}
+
+impl<R, W, G: Callers> Serving<'_, R, W, G> {
+    /// Connections of other members and of operators are told of from now on.
+    pub(crate) fn watch(&mut self) -> io::Result<()> {
+        let registry = self.worker.readiness().registry();
+        self.links.watch(registry, LINK_PORT)?;
+        self.control.watch(registry)
+    }
+}

@@ -1,0 +1,74 @@
+use crate::callers::Callers;
+use crate::names::{MOST_MEMBERS, name_at, put_names, with};
+use crate::serving::Serving;
+use member_links::process_of;
+use std::alloc::AllocError;
+
+impl<R, W, G: Callers> Serving<'_, R, W, G> {
+    /// What this member knows, as lines of a name and a value, and a last line `end`.
+    pub(crate) fn status(&self) -> Result<String, AllocError> {
+        let mut text = self.name_lines()?;
+        self.put_deaths(&mut text)?;
+        let counts = self.count_lines()?;
+        text.push_str(counts.as_str())?;
+        Ok(text)
+    }
+
+    // The member's name, and the group's shape.
+    fn name_lines(&self) -> Result<String, AllocError> {
+        let name = name_at(self.settings, self.settings.own);
+        let shape = self.settings.shape;
+        let (k, m, blocks, block) = (shape.k(), shape.m(), shape.blocks(), shape.block());
+        format!(in self.alloc; "name {name}\nshape {k} {m} {blocks} {block}\n")
+    }
+
+    // Who was said here to be dead, who is cut, and whose deaths are taken.
+    fn put_deaths(&self, text: &mut String) -> Result<(), AllocError> {
+        text.push_str("said ")?;
+        put_names(self.settings, self.said, text)?;
+        text.push_str("\ncut ")?;
+        put_names(self.settings, self.cut(), text)?;
+        text.push_str("\ntaken ")?;
+        put_names(self.settings, self.taken(), text)
+    }
+
+    // How many links, clients, calls and answers there are.
+    fn count_lines(&self) -> Result<String, AllocError> {
+        let gateway = self.worker.gateway();
+        let (up, clients) = (self.links.up(), self.worker.len());
+        let (calls, parked, unshown) = (gateway.open_calls(), gateway.parked(), gateway.unshown());
+        format!(in self.alloc;
+            "\nlinks {up}\nclients {clients}\ncalls {calls}\nparked {parked}\nanswers {unshown}\nend\n"
+        )
+    }
+
+    /// Who is cut.
+    pub(crate) fn cut(&self) -> u32 {
+        let mut set = 0;
+        'members: for x in 0..MOST_MEMBERS {
+            if self.links.has_cut(x) {
+                set = with(set, x);
+            }
+        }
+        set
+    }
+
+    // Whose deaths are taken.
+    fn taken(&self) -> u32 {
+        let mut set = 0;
+        'members: for x in 0..MOST_MEMBERS {
+            if self.has_taken(x) {
+                set = with(set, x);
+            }
+        }
+        set
+    }
+
+    // Whether the death of the member at an index is taken.
+    fn has_taken(&self, x: u32) -> bool {
+        match process_of(self.settings.shape, x) {
+            Some(name) => self.worker.gateway().has_taken(name),
+            None => false,
+        }
+    }
+}
