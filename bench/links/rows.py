@@ -1,4 +1,4 @@
-"""The rows of crates/link_rows, worked out by the model and by hand: python3 bench/links/rows.py stdin|stdout writes that file."""
+"""The streams of crates/data_rows, worked out by the model and by hand: python3 bench/links/rows.py streams|told writes them, or what is told of each."""
 import sys
 from model import ACTS, ANSWERS, REPLIES, crc32c, frame_of, u16, u32, u64, u8
 
@@ -154,4 +154,4 @@ def rows():
 
 if __name__ == "__main__":
     for row, text in rows():
-        print(row if text is None else row.hex() if sys.argv[1] == "stdin" else text)
+        print(row if text is None else row.hex() if sys.argv[1] == "streams" else text)

@@ -1,0 +1,180 @@
+"""A group of members as programs on this machine, on ports of its own."""
+import asyncio
+import os
+import random
+import socket
+import subprocess
+import time
+
+STARTING = 120.0
+
+
+class Wrong(Exception):
+    """What a run must not show."""
+
+
+def free_ports(count):
+    """So many ports of the loopback that nobody uses, below those that the system gives to clients."""
+    found = []
+    while len(found) < count:
+        port = random.randrange(10_000, 32_000)
+        with socket.socket() as probe:
+            try:
+                probe.bind(("127.0.0.1", port))
+            except OSError:
+                continue
+        if port not in found:
+            found.append(port)
+    return found
+
+
+class Member:
+    """A member, and its program once it was started."""
+
+    def __init__(self, name, index, ports):
+        self.name, self.index = name, index
+        self.link, self.client, self.control = ports
+        self.program, self.errors = None, None
+        self.may_end = self.is_condemned = self.is_stopped = False
+
+    def said(self):
+        with open(self.errors, errors="replace") as text:
+            return text.read()
+
+    def has_ended(self):
+        return self.program.poll() is not None
+
+    def signal(self, number):
+        if not self.has_ended():
+            self.program.send_signal(number)
+
+
+class Group:
+    """The members of a group of a shape, in a folder that keeps their settings and what they write."""
+
+    def __init__(self, program, folder, k, m, block, blocks, patience=5):
+        self.program, self.folder, self.k, self.m = program, folder, k, m
+        self.block, self.blocks, self.patience = block, blocks, patience
+        names = [f"d{n}" for n in range(k)] + [f"p{n}" for n in range(m)]
+        ports = free_ports(3 * len(names))
+        self.members = [Member(name, n, ports[3 * n:3 * n + 3]) for n, name in enumerate(names)]
+        self.words = []
+
+    def settings(self, links):
+        """The settings, with other ports for the links to some members."""
+        lines = [f'group = "{"6f1c7be2a05d4c1e" * 2}"', f"k = {self.k}", f"m = {self.m}", f"block = {self.block}", f"blocks = {self.blocks}",
+                 f"patience = {self.patience}", f"one_word = {'true' if self.k <= self.m else 'false'}"]
+        for each in self.members:
+            lines += ["[[members]]", f'name = "{each.name}"', f'link = "127.0.0.1:{links.get(each.index, each.link)}"',
+                      f'client = "127.0.0.1:{each.client}"', f'control = "127.0.0.1:{each.control}"']
+        return "\n".join(lines) + "\n"
+
+    def start(self, member, links=None, suffix=""):
+        """Starts a member's program. `links` has ports of relays by the indexes of the members behind them."""
+        path = os.path.join(self.folder, member.name + suffix)
+        with open(path + ".toml", "w") as text:
+            text.write(self.settings(links or {}))
+        with open(path + ".toml") as settings, open(path + ".errors", "wb") as errors, open(path + ".output", "wb") as output:
+            started = subprocess.Popen([self.program, "member", member.name], stdin=settings, stdout=output, stderr=errors)
+        return started, path + ".errors"
+
+    async def start_all(self, relays=None, absent=None):
+        """Starts all members but one that is absent, and waits until each serves. `relays` has ports by the indexes of who connects and of whom it
+        reaches."""
+        present = [each for each in self.members if each is not absent]
+        for each in present:
+            links = {b: port for (a, b), port in (relays or {}).items() if a == each.index}
+            each.program, each.errors = self.start(each, links)
+        if absent is not None:
+            absent.may_end = True
+            await self.reach(present[0])
+            await self.condemn([absent], present[0])
+        until = time.monotonic() + STARTING
+        for each in present:
+            while "serves at" not in each.said():
+                if each.has_ended():
+                    raise Wrong(f"{each.name} ended with {each.program.returncode} at the start")
+                if time.monotonic() > until:
+                    raise Wrong(f"{each.name} does not serve after {STARTING:.0f} s")
+                await asyncio.sleep(0.02)
+
+    async def reach(self, member):
+        """Waits until a member hears its operators."""
+        until = time.monotonic() + STARTING
+        while True:
+            try:
+                return await self.ask(member, "status")
+            except OSError:
+                if member.has_ended() or time.monotonic() > until:
+                    raise
+                await asyncio.sleep(0.05)
+
+    def living(self):
+        """The members that were neither killed nor condemned."""
+        return [each for each in self.members if not each.may_end and not each.is_condemned]
+
+    def answering(self):
+        """The living ones that aren't stopped just now."""
+        return [each for each in self.living() if not each.is_stopped]
+
+    def kill(self, member):
+        """Kills a member with -9. Its end is waited for, so that nothing of it goes on."""
+        member.may_end = True
+        member.program.kill()
+        member.program.wait()
+
+    async def ask(self, member, line, timeout=60.0):
+        """An operator's line at a member, and the lines of its answer."""
+        async def talk():
+            reader, writer = await asyncio.open_connection("127.0.0.1", member.control)
+            writer.write(line.encode() + b"\n")
+            lines = [(await reader.readline()).decode().rstrip("\n")]
+            while line == "status" and lines[-1] not in ("end", ""):
+                lines.append((await reader.readline()).decode().rstrip("\n"))
+            writer.close()
+            return lines
+        return await asyncio.wait_for(talk(), timeout)
+
+    async def condemn(self, members, at):
+        """Says that members are dead, at one that lives."""
+        for each in members:
+            each.is_condemned = True
+        names = " ".join(each.name for each in members)
+        self.words.append(f"{names} at {at.name}")
+        lines = await self.ask(at, f"dead {names}")
+        if lines != ["taken"]:
+            raise Wrong(f"{at.name} answers to the death of {names}: {lines}")
+
+    async def taken(self, member, within=60.0):
+        """Waits until all that live have taken the death of a member."""
+        until = time.monotonic() + within
+        for each in self.answering():
+            while not any(line.startswith("taken ") and member.name in line.split() for line in await self.ask(each, "status")):
+                if time.monotonic() > until:
+                    raise Wrong(f"{each.name} has not taken the death of {member.name} after {within:.0f} s")
+                await asyncio.sleep(0.02)
+
+    async def idle(self, within=30.0):
+        """Waits until no call is left at those that live, once all clients are gone. What is left there else."""
+        left, until = [], time.monotonic() + within
+        for each in self.living():
+            lines = await self.ask(each, "status")
+            while not {"clients 0", "calls 0", "parked 0", "answers 0"} <= set(lines):
+                if time.monotonic() > until:
+                    left.append(f"{each.name} has left, with no client: {', '.join(lines[2:-1])}")
+                    break
+                await asyncio.sleep(0.1)
+                lines = await self.ask(each, "status")
+        return left
+
+    def faults(self):
+        """The members that ended by themselves or say that they stop."""
+        found = [f"{each.name} ended with {each.program.returncode}" for each in self.members if not each.may_end and each.has_ended()]
+        return found + [f"{each.name} says: {line}" for each in self.living() for line in each.said().splitlines()
+                        if "this member stops" in line or "no member of this group" in line or "fault" in line or "panicked" in line]
+
+    def end(self):
+        for each in self.members:
+            if each.program is not None:
+                each.program.kill()
+                each.program.wait()
