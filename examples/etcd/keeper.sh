@@ -1,0 +1,76 @@
+#!/bin/sh
+# Beside a member's program: says in etcd that it lives, by a lease, and takes that back at once when the program ends: keeper.sh SETTINGS NAME.
+#
+# It holds a connection to the member's control address, whose end is the program's end. Where the machine ends or its network does, the
+# lease runs out by itself after TTL seconds (3 where it isn't set). Who stops a keeper for longer than that says that its member is dead.
+# It waits until the member is there, and ends with status 0 when the member does.
+set -eu
+settings=$1 name=$2
+. "$(dirname "$0")/group.sh"
+control=$(control_of "$name")
+[ -n "$control" ] || fail "$settings: no member is called $name"
+host=${control%:*} port=${control##*:} lease='' breath='' hold=''
+
+work=$(mktemp -d)
+mkfifo "$work/ends"
+exec 3<> "$work/ends"
+# Whatever ends the keeper, its lease stays as it is: only the end of the program takes it back.
+trap 'kill $breath $hold 2> /dev/null || true; rm -rf "$work"' EXIT
+trap 'exit 1' INT TERM
+
+is_there() { nc -z -w 2 "$host" "$port" 2> /dev/null; }
+
+# Runs a command in the background, whose end will be read as this word.
+follow() {
+    word=$1
+    shift
+    sh -c 'word=$1; shift; "$@" > /dev/null 2>&1 & trap "kill $!" TERM; wait $!; echo "$word" >&3' - "$word" "$@" &
+}
+
+hold_on() { follow ended nc -d "$host" "$port"; hold=$!; }
+
+# Takes a lease and says under it that the member lives, in one transaction with that it was seen.
+register() {
+    lease=$(etcd lease grant "${TTL:-3}" 2> /dev/null | sed -n 's/^lease \([0-9a-f]*\) granted.*/\1/p')
+    [ -n "$lease" ] || return 1
+    printf '\nput --lease=%s %s/alive/%s "%s"\nput %s/seen/%s "%s"\n\n\n' \
+        "$lease" "$root" "$name" "$control" "$root" "$name" "$control" | etcd txn > /dev/null 2>&1 || return 1
+    follow lapsed etcdctl lease keep-alive "$lease"
+    breath=$!
+    echo "$name is alive in etcd" >&2
+}
+
+# The same, tried until etcd answers or the member is gone.
+register_again() {
+    told=''
+    until register; do
+        [ -n "$told" ] || echo "$name: etcd doesn't answer, which is tried again" >&2
+        told=yes
+        is_there || return 0
+        sleep 1
+    done
+}
+
+until is_there; do sleep 1; done
+hold_on
+register_again
+
+while read -r what <&3; do
+    case $what in
+        lapsed)
+            echo "$name: the lease ran out" >&2
+            register_again
+            ;;
+        ended)
+            # A member has sixteen such connections: one that it closed isn't its end.
+            if is_there; then
+                sleep 1
+                hold_on
+            else
+                echo "$name has ended" >&2
+                etcd lease revoke "$lease" > /dev/null || true
+                exit 0
+            fi
+            ;;
+    esac
+done
