@@ -46,7 +46,7 @@ def dead(group):
     """Who is dead, as etcd says."""
     root = re.search(r'^group *= *"(\w+)"', open(group.settings).read(), re.M).group(1)
     said = subprocess.run(["etcdctl", "get", f"/cocytus/{root}/dead", "--print-value-only"], capture_output=True, text=True)
-    return said.stdout.split()
+    return sorted(said.stdout.split())
 
 
 def expect_dead(group, names, within=0):
@@ -100,9 +100,7 @@ def at_once(group, etcd):
     """Two machines end at once."""
     begin(group)
     group.time_kill("two machines end", "get", "d0", "keeper d0", "d3", "keeper d3")
-    expect_dead(group, dead(group))
-    if sorted(dead(group)) != ["d0", "d3"]:
-        raise Wrong(f"dead are {dead(group)}")
+    expect_dead(group, ["d0", "d3"])
 
 
 def one_too_many(group, etcd):

@@ -4,6 +4,7 @@ set -eu
 [ $# -ge 2 ] || { echo "condemn.sh SETTINGS NAME.." >&2; exit 1; }
 settings=$1
 shift
+# shellcheck source-path=SCRIPTDIR
 . "$(dirname "$0")/group.sh"
 
 look || fail "etcd doesn't answer"

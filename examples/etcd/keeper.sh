@@ -2,10 +2,11 @@
 # Beside a member's program: says in etcd that it lives, by a lease, and takes that back at once when the program ends: keeper.sh SETTINGS NAME.
 #
 # It holds a connection to the member's control address, whose end is the program's end. Where the machine ends or its network does, the
-# lease runs out by itself after TTL seconds (3 where it isn't set). Who stops a keeper for longer than that says that its member is dead.
+# lease runs out by itself after TTL seconds (3 where it isn't set, and no less). Who stops a keeper for longer than that says that its member is dead.
 # It waits until the member is there, and ends with status 0 when the member does.
 set -eu
 settings=$1 name=$2
+# shellcheck source-path=SCRIPTDIR
 . "$(dirname "$0")/group.sh"
 control=$(control_of "$name")
 [ -n "$control" ] || fail "$settings: no member is called $name"

@@ -3,14 +3,20 @@
 # one beside each member that tells this one alone, or one that reaches the control addresses of all.
 #
 # A member is dead where it was seen and its lease is gone, where at least k others live, and where no more than m are dead then. That is
-# written by a transaction, so that all watchers say the same. A watcher looks at its start, at each event and each second. It believes that
-# a lease is gone only where etcd has answered it steadily for SETTLE seconds (5 where it isn't set): where etcd was away all leases run out.
+# written by a transaction, so that all watchers say the same. A watcher looks at its start, at each event and twice a second. It believes that
+# a lease is gone only where etcd has answered steadily for SETTLE seconds (5 where it isn't set), by which keepers have leases again: where etcd
+# was away for longer than they had left, those of living members ran out.
 set -eu
 settings=$1 only=${2:-}
+# shellcheck source-path=SCRIPTDIR
 . "$(dirname "$0")/group.sh"
 controls=$(echo "$members" | awk -v only="$only" 'only == "" || $1 == only { print $2 }' | sort -u)
 [ -n "$controls" ] || fail "$settings: no member is called $only"
 settle=${SETTLE:-5} since='' last=0 told='' told_at=0 events=''
+
+# A lease of 3 s is asked for anew after 1.5 at the latest: so no time without etcd that is shorter than this ends one. In hundredths of a second,
+# as all times here.
+gap=130
 
 work=$(mktemp -d)
 mkfifo "$work/lines"
@@ -25,18 +31,28 @@ follow_events() {
     events=$!
 }
 
-next_tick() { (sleep 1; echo tick >&3) & }
+next_tick() { (sleep 0.5; echo tick >&3) & }
 
-# Looks, and says whether etcd has answered for long enough, without a gap.
-looks_steady() {
-    began=$(date +%s)
+# How long the system runs.
+tell_time() {
+    read -r now _ < /proc/uptime
+    now=${now%.*}${now#*.}
+}
+
+# Looks, and sees since when etcd has answered without a gap. Says whether it answered.
+look_again() {
     if ! look 2> "$work/why"; then
         [ -z "$since" ] || echo "etcd doesn't answer: $(tail -1 "$work/why")" >&2
         since=''
         return 1
     fi
-    now=$(date +%s)
-    [ -n "$since" ] && [ $((now - began)) -le 2 ] && [ $((began - last)) -le 3 ] || since=$now
+    tell_time
+    if [ -z "$since" ]; then
+        since=$now
+    elif [ $((now - last)) -gt "$gap" ]; then
+        since=$now
+        echo "etcd didn't answer for $((now - last)) hundredths of a second: nobody more is dead for $settle s" >&2
+    fi
     last=$now
 }
 
@@ -53,7 +69,7 @@ judge() {
 
 # Tells members who is dead, where they weren't told so or five seconds ago: one that didn't answer is told once more.
 tell() {
-    [ -n "$dead" ] && { [ "$dead" != "$told" ] || [ $((now - told_at)) -ge 5 ]; } || return 0
+    [ -n "$dead" ] && { [ "$dead" != "$told" ] || [ $((now - told_at)) -ge 500 ]; } || return 0
     for control in $controls; do
         if [ "$dead" = "$told" ]; then
             say "$control" "dead $dead" > /dev/null &
@@ -65,9 +81,9 @@ tell() {
 }
 
 turn() {
-    looks_steady || return 0
+    look_again || return 0
     tell
-    [ $((now - since)) -ge "$settle" ] || return 0
+    [ $((now - since)) -ge $((settle * 100)) ] || return 0
     judge
     [ "$next" != "$dead" ] || return 0
     if set_dead "$next"; then
