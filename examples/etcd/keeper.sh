@@ -65,7 +65,7 @@ while read -r what <&3; do
         ended)
             # A member has sixteen such connections: one that it closed isn't its end.
             if is_there; then
-                sleep 1
+                sleep 0.2
                 hold_on
             else
                 echo "$name has ended" >&2
