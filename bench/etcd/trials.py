@@ -171,7 +171,7 @@ def early(group, etcd):
 
 
 def keepers(group, etcd):
-    """A keeper is started again, a watcher too; and then a keeper ends for good, by which its member is dead, and told so."""
+    """Keepers are started again, a watcher too; and then a keeper alone is killed for good, by which its member is dead, and told so."""
     begin(group)
     for name, _, _ in group.members:
         group.kill(f"keeper {name}")
@@ -185,7 +185,7 @@ def keepers(group, etcd):
     began = time.time()
     expect_dead(group, ["d1"], 20)
     print(f"a watcher that was started behind the kill condemned {time.time() - began:.1f} s later", flush=True)
-    group.kill("keeper p0")
+    os.kill(group.programs["keeper p0"].pid, signal.SIGKILL)
     expect_dead(group, ["d1", "p0"], 10)
     if group.programs["p0"].wait(timeout=5) != 0:
         raise Wrong("p0 did not end")

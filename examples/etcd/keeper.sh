@@ -10,25 +10,35 @@ settings=$1 name=$2
 . "$(dirname "$0")/group.sh"
 control=$(control_of "$name")
 [ -n "$control" ] || fail "$settings: no member is called $name"
-host=${control%:*} port=${control##*:} lease='' breath='' hold=''
+host=${control%:*} port=${control##*:} lease=''
 
+# What the keeper's children say comes by `ends`, and by `quiet` nothing goes to them: however the keeper ends, both do, and then its children. Its
+# lease runs out then: only the end of the program takes it back.
 work=$(mktemp -d)
-mkfifo "$work/ends"
-exec 3<> "$work/ends"
-# Whatever ends the keeper, its lease stays as it is: only the end of the program takes it back.
-trap 'kill $breath $hold 2> /dev/null || true; rm -rf "$work"' EXIT
+mkfifo "$work/ends" "$work/quiet"
+exec 3<> "$work/ends" 4<> "$work/quiet"
+trap 'rm -rf "$work"' EXIT
 trap 'exit 1' INT TERM
 
 is_there() { nc -z -w 2 "$host" "$port" 2> /dev/null; }
 
-# Runs a command in the background, whose end will be read as this word.
-follow() {
-    word=$1
-    shift
-    sh -c 'word=$1; shift; "$@" > /dev/null 2>&1 & trap "kill $!" TERM; wait $!; echo "$word" >&3' - "$word" "$@" &
+# Holds a connection to the member, until it ends or the keeper does.
+hold() {
+    nc -d "$host" "$port" > /dev/null 2>&1 &
+    connection=$!
+    (read -r _ < "$work/quiet" || kill "$connection") &
+    wait "$connection" || true
+    kill "$!" 2> /dev/null || true
 }
 
-hold_on() { follow ended nc -d "$host" "$port"; hold=$!; }
+hold_on() {
+    (hold; echo ended) 3>&- 4>&- > "$work/ends" &
+}
+
+# Keeps the lease, of which a line comes each time, and says when it ran out.
+breathe() {
+    (etcdctl lease keep-alive "$lease" 2> /dev/null; echo lapsed) 3>&- 4>&- > "$work/ends" &
+}
 
 # Takes a lease and says under it that the member lives, in one transaction with that it was seen.
 register() {
@@ -36,8 +46,7 @@ register() {
     [ -n "$lease" ] || return 1
     printf '\nput --lease=%s %s/alive/%s "%s"\nput %s/seen/%s "%s"\n\n\n' \
         "$lease" "$root" "$name" "$control" "$root" "$name" "$control" | etcd txn > /dev/null 2>&1 || return 1
-    follow lapsed etcdctl lease keep-alive "$lease"
-    breath=$!
+    breathe
     echo "$name is alive in etcd" >&2
 }
 

@@ -27,11 +27,11 @@ trap 'exit 1' INT TERM
 # Events of etcd come as lines, of which the first says of what kind one is.
 follow_events() {
     [ -n "$events" ] && kill -0 "$events" 2> /dev/null && return
-    etcdctl watch --prefix "$root/" >&3 2> /dev/null &
+    etcdctl watch --prefix "$root/" 3>&- > "$work/lines" 2> /dev/null &
     events=$!
 }
 
-next_tick() { (sleep 0.5; echo tick >&3) & }
+next_tick() { (sleep 0.5; echo tick) 3>&- > "$work/lines" & }
 
 # How long the system runs.
 tell_time() {
