@@ -2,78 +2,19 @@
 
 Each trial starts an etcd and a group anew. It is right where those are condemned who should be, nobody else is, and every value is read back."""
 import os
-import re
 import signal
-import socket
 import subprocess
 import sys
 import tempfile
 import time
 
 HERE = os.path.dirname(os.path.abspath(__file__))
-sys.path.insert(0, os.path.join(HERE, "..", "..", "examples", "etcd"))
-from watched import KEYS, Client, Watched, Wrong, check, put  # noqa: E402
+sys.path[:0] = [HERE, os.path.join(HERE, "..", "..", "examples", "etcd")]
+from server import CLIENT, Etcd, dead, expect_dead  # noqa: E402
+from watched import KEYS, Watched, Wrong, check, put  # noqa: E402
 
-CLIENT, PEER = "http://127.0.0.1:21500", "http://127.0.0.1:21501"
-SETTLED = 6
-
-
-class Etcd:
-    """An etcd of its own."""
-
-    def __init__(self, folder):
-        self.folder, self.server = folder, None
-
-    def start(self):
-        self.server = subprocess.Popen(
-            ["etcd", "--data-dir", f"{self.folder}/etcd", "--log-level", "error", "--listen-client-urls", CLIENT, "--advertise-client-urls", CLIENT,
-             "--listen-peer-urls", PEER, "--initial-advertise-peer-urls", PEER, "--initial-cluster", f"default={PEER}"],
-            stderr=subprocess.DEVNULL)
-        while subprocess.run(["etcdctl", "endpoint", "health"], capture_output=True).returncode:
-            time.sleep(0.1)
-
-    def kill(self):
-        self.server.kill()
-        self.server.wait()
-
-    def pause(self, seconds):
-        self.server.send_signal(signal.SIGSTOP)
-        time.sleep(seconds)
-        self.server.send_signal(signal.SIGCONT)
-
-
-def dead(group):
-    """Who is dead, as etcd says."""
-    root = re.search(r'^group *= *"(\w+)"', open(group.settings).read(), re.M).group(1)
-    said = subprocess.run(["etcdctl", "get", f"/cocytus/{root}/dead", "--print-value-only"], capture_output=True, text=True)
-    return sorted(said.stdout.split())
-
-
-def expect_dead(group, names, within=0):
-    """These and no others are dead, so many seconds from now at the latest; the living have cut just them."""
-    until = time.time() + within
-    while dead(group) != names and time.time() < until:
-        time.sleep(0.1)
-    if dead(group) != names:
-        raise Wrong(f"dead are {dead(group)}, not {names}")
-    for name, _, control in group.living():
-        if name in names:
-            continue
-        while (cut := cut_at(control)) != names:
-            if time.time() > until + 3:
-                raise Wrong(f"{name} has cut {cut}, not {names}")
-            time.sleep(0.1)
-
-
-def cut_at(control):
-    host, port = control.rsplit(":", 1)
-    with socket.create_connection((host, int(port)), timeout=20) as stream:
-        stream.sendall(b"status\n")
-        lines = stream.makefile("r")
-        for line in lines:
-            if line.startswith("cut "):
-                return [name for name in line.split()[1:] if name != "-"]
-    return None
+# After so many seconds a watcher believes that a lease is gone.
+SETTLED = 11
 
 
 def begin(group):
@@ -121,7 +62,7 @@ def etcd_anew(group, etcd):
         etcd.kill()
         time.sleep(seconds)
         etcd.start()
-        time.sleep(10)
+        time.sleep(15)
         expect_dead(group, [])
     group.time_kill("behind etcd's new start", "get", "d1")
     expect_dead(group, ["d1"])
@@ -131,7 +72,7 @@ def etcd_away(group, etcd):
     """etcd hangs for a minute, in which a program ends."""
     begin(group)
     etcd.pause(30)
-    time.sleep(10)
+    time.sleep(15)
     expect_dead(group, [])
     etcd.server.send_signal(signal.SIGSTOP)
     time.sleep(20)
@@ -157,7 +98,7 @@ def early(group, etcd):
     """Watchers start before members, which come one by one."""
     for name in ("watcher 1", "watcher 2"):
         group.start_watcher(name)
-    time.sleep(8)
+    time.sleep(SETTLED)
     for name, _, _ in group.members:
         group.start_keeper(name)
     for name, _, _ in group.members:

@@ -1,5 +1,4 @@
 """Clients of a group over a proxy: each sets and gets keys of its own over one connection, and connects anew where that breaks."""
-import socket
 import sys
 import threading
 import time

@@ -9,7 +9,7 @@ export ETCDCTL_API=3
 
 fail() { echo "$*" >&2; exit 1; }
 
-etcd() { etcdctl --command-timeout=3s "$@"; }
+etcd() { etcdctl --command-timeout=2s "$@"; }
 
 # A key of the settings that stands on a line of its own, above the members.
 setting() { sed -n '/^ *\[\[/q; s/^ *'"$1"' *= *"\{0,1\}\([0-9A-Za-z]*\)"\{0,1\} *\(#.*\)\{0,1\}$/\1/p' "$settings"; }
@@ -62,8 +62,12 @@ set_dead() {
     case $answer in SUCCESS*) ;; *) return 1 ;; esac
 }
 
+# The host of an address, without brackets, and its port.
+host_of() { echo "${1%:*}" | tr -d '[]'; }
+port_of() { echo "${1##*:}"; }
+
 # Says a line to a member, and what it answers: it has two seconds.
 say() {
-    answer=$(printf '%s\n' "$2" | nc -N -w 2 "${1%:*}" "${1##*:}" 2> /dev/null) || true
+    answer=$(printf '%s\n' "$2" | nc -N -w 2 "$(host_of "$1")" "$(port_of "$1")" 2> /dev/null) || true
     echo "${answer:-no answer}"
 }

@@ -10,7 +10,7 @@ settings=$1 name=$2
 . "$(dirname "$0")/group.sh"
 control=$(control_of "$name")
 [ -n "$control" ] || fail "$settings: no member is called $name"
-host=${control%:*} port=${control##*:} lease=''
+host=$(host_of "$control") port=$(port_of "$control") lease=''
 
 # What the keeper's children say comes by `ends`, and by `quiet` nothing goes to them: however the keeper ends, both do, and then its children. Its
 # lease runs out then: only the end of the program takes it back.
@@ -57,7 +57,7 @@ register_again() {
         [ -n "$told" ] || echo "$name: etcd doesn't answer, which is tried again" >&2
         told=yes
         is_there || return 0
-        sleep 1
+        sleep 0.5
     done
 }
 

@@ -4,7 +4,7 @@
 #
 # A member is dead where it was seen and its lease is gone, where at least k others live, and where no more than m are dead then. That is
 # written by a transaction, so that all watchers say the same. A watcher looks at its start, at each event and twice a second. It believes that
-# a lease is gone only where etcd has answered steadily for SETTLE seconds (5 where it isn't set), by which keepers have leases again: where etcd
+# a lease is gone only where etcd has answered steadily for SETTLE seconds (10 where it isn't set), by which keepers have leases again: where etcd
 # was away for longer than they had left, those of living members ran out.
 set -eu
 settings=$1 only=${2:-}
@@ -12,7 +12,7 @@ settings=$1 only=${2:-}
 . "$(dirname "$0")/group.sh"
 controls=$(echo "$members" | awk -v only="$only" 'only == "" || $1 == only { print $2 }' | sort -u)
 [ -n "$controls" ] || fail "$settings: no member is called $only"
-settle=${SETTLE:-5} since='' last=0 told='' told_at=0 events=''
+settle=${SETTLE:-10} since='' last=0 told='' told_at=0 events=''
 
 # A lease of 3 s is asked for anew after 1.5 at the latest: so no time without etcd that is shorter than this ends one. In hundredths of a second,
 # as all times here.

@@ -118,7 +118,7 @@ def play(group):
     group.start_all()
     put(group.members, group.values, KEYS, group.rng)
     check(group.members, group.values, "six live")
-    time.sleep(6)  # A watcher believes nothing before etcd has answered it for five seconds.
+    time.sleep(11)  # A watcher believes nothing before etcd has answered it for ten seconds.
     group.time_kill("a program ends", "get", "d1")
     group.time_kill("a machine ends", "set", "p0", "keeper p0")
     check(group.living(), group.values, "two dead")
