@@ -62,12 +62,12 @@ set_dead() {
     case $answer in SUCCESS*) ;; *) return 1 ;; esac
 }
 
-# The host of an address, without brackets, and its port.
-host_of() { echo "${1%:*}" | tr -d '[]'; }
-port_of() { echo "${1##*:}"; }
+# `host`, without brackets, and `port` of an address.
+split() { host=${1%:*} port=${1##*:} && host=${host#\[} && host=${host%\]}; }
 
 # Says a line to a member, and what it answers: it has two seconds.
 say() {
-    answer=$(printf '%s\n' "$2" | nc -N -w 2 "$(host_of "$1")" "$(port_of "$1")" 2> /dev/null) || true
+    split "$1"
+    answer=$(printf '%s\n' "$2" | nc -N -w 2 "$host" "$port" 2> /dev/null) || true
     echo "${answer:-no answer}"
 }

@@ -10,7 +10,8 @@ settings=$1 name=$2
 . "$(dirname "$0")/group.sh"
 control=$(control_of "$name")
 [ -n "$control" ] || fail "$settings: no member is called $name"
-host=$(host_of "$control") port=$(port_of "$control") lease=''
+lease=''
+split "$control"
 
 # What the keeper's children say comes by `ends`, and by `quiet` nothing goes to them: however the keeper ends, both do, and then its children. Its
 # lease runs out then: only the end of the program takes it back.
