@@ -40,25 +40,25 @@ has() { case " $1 " in *" $2 "*) ;; *) return 1 ;; esac; }
 
 count() { echo "$#"; }
 
-# What etcd says of the group, all of one moment: `alive`, `seen` and `dead` as lists of names, and `revision`, that of `dead`.
+# What etcd says of the group, all of one moment: `alive`, `seen` and `dead` as lists of names, and `revision`, that of `dead` or 0.
 look() {
     said=$(etcd get --prefix "$root/" -w fields) || return 1
     state=$(echo "$said" | awk -v root="$root/" -F '" : ' '
         { sub(/^"/, "", $1); gsub(/"/, "", $2) }
         $1 == "Key" { key = substr($2, length(root) + 1) }
         $1 == "ModRevision" { modified = $2 }
-        $1 == "Value" { at = index(key, "/")
-            if (key == "dead") print "dead", $2 "\nrevision", modified
-            else print substr(key, 1, at - 1), substr(key, at + 1) }')
-    alive=$(words alive) seen=$(words seen) dead=$(words dead) revision=$(words revision)
+        $1 == "Value" && key == "dead" { dead = $2; revision = modified }
+        $1 == "Value" && key ~ /^alive\// { alive = alive substr(key, 7) " " }
+        $1 == "Value" && key ~ /^seen\// { seen = seen substr(key, 6) " " }
+        END { print alive; print seen; print dead; print (revision == "" ? 0 : revision) }')
+    { read -r alive; read -r seen; read -r dead; read -r revision; } << END
+$state
+END
 }
-
-# What stands behind a word in what etcd said, as one line.
-words() { echo "$state" | sed -n "s/^$1 //p" | tr '\n' ' ' | sed 's/ $//'; }
 
 # These and no others are dead, unless that has changed since `look`. Says whether it was so.
 set_dead() {
-    answer=$(printf 'mod("%s/dead") = "%s"\n\nput %s/dead "%s"\n\n\n' "$root" "${revision:-0}" "$root" "$1" | etcd txn) || return 1
+    answer=$(printf 'mod("%s/dead") = "%s"\n\nput %s/dead "%s"\n\n\n' "$root" "$revision" "$root" "$1" | etcd txn) || return 1
     case $answer in SUCCESS*) ;; *) return 1 ;; esac
 }
 

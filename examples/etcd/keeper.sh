@@ -5,6 +5,7 @@
 # lease runs out by itself after TTL seconds (3 where it isn't set, and no less). Who stops a keeper for longer than that says that its member is dead.
 # It waits until the member is there, and ends with status 0 when the member does.
 set -eu
+[ $# -eq 2 ] || { echo "keeper.sh SETTINGS NAME" >&2; exit 1; }
 settings=$1 name=$2
 # shellcheck source-path=SCRIPTDIR
 . "$(dirname "$0")/group.sh"

@@ -7,6 +7,7 @@
 # a lease is gone only where etcd has answered steadily for SETTLE seconds (10 where it isn't set), by which keepers have leases again: where etcd
 # was away for longer than they had left, those of living members ran out.
 set -eu
+[ $# -ge 1 ] || { echo "watch.sh SETTINGS [NAME]" >&2; exit 1; }
 settings=$1 only=${2:-}
 # shellcheck source-path=SCRIPTDIR
 . "$(dirname "$0")/group.sh"
