@@ -3,8 +3,9 @@
 # installed, each with a time limit, and prints a table: a row for each thing tried, a column for each client; then what libmemcached's tools do.
 # `run.sh member [PROGRAM]` does the same over a member of a group of six, p0, which heads no key. It starts them on this machine by the settings
 # examples/machines/member.toml; without a program it is built first, without a proof (examples/machines/unproved.sh).
-# `apt-get install python3-pymemcache python3-memcache python3-pylibmc php-cli php-memcached libcache-memcached-perl golang-go
-# golang-github-bradfitz-gomemcache-dev libspymemcached-java default-jdk-headless libmemcached-tools` installs all.
+# `apt-get install python3-pymemcache python3-memcache python3-pylibmc php-cli php-memcached php-memcache libcache-memcached-perl
+# libcache-memcached-fast-perl golang-go golang-github-bradfitz-gomemcache-dev libspymemcached-java default-jdk-headless libmemcached-tools`
+# installs all.
 set -u
 here=$(cd "$(dirname "$0")" && pwd)
 work=$(mktemp -d)
@@ -52,8 +53,11 @@ for library in pymemcache memcache pylibmc; do
     if [ "$library" = memcache ]; then name=python-memcached; fi
     if /usr/bin/python3 -c "import $library" 2> /dev/null; then client "$name" /usr/bin/python3 "$here/${library}_client.py"; fi
 done
-if has php && php -m | grep -qx memcached; then client php-memcached php "$here/memcached_client.php"; fi
+for library in memcached memcache; do
+    if has php && php -m | grep -qx "$library"; then client "php-$library" php "$here/${library}_client.php"; fi
+done
 if perl -MCache::Memcached -e 1 2> /dev/null; then client Cache::Memcached perl "$here/cache_memcached_client.pl"; fi
+if perl -MCache::Memcached::Fast -e 1 2> /dev/null; then client Cache::Memcached::Fast perl "$here/memcached_fast_client.pl"; fi
 if has go && [ -d "$go_source" ]; then
     (cd "$work" && GO111MODULE=off GOPATH=/usr/share/gocode GOCACHE="$work/go" go build -o gomemcache_client "$here/gomemcache_client.go") \
         && client gomemcache "$work/gomemcache_client"
