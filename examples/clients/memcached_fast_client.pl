@@ -5,9 +5,9 @@ use warnings;
 use Cache::Memcached::Fast;
 
 $| = 1;
-my %settings = (servers => ["$ARGV[0]:$ARGV[1]"], io_timeout => 5, connect_timeout => 5);
-my $client = Cache::Memcached::Fast->new({ %settings });
-my $quiet = Cache::Memcached::Fast->new({ %settings, nowait => 1 });
+my $address = "$ARGV[0]:$ARGV[1]";
+my $client = Cache::Memcached::Fast->new({ servers => [$address], io_timeout => 5 });
+my $quiet = Cache::Memcached::Fast->new({ servers => [{ address => $address, noreply => 1 }], io_timeout => 5 });
 my $large = '0123456789' x 100_000;
 my %many = map { ("pf:many:$_" => "$_") } 0 .. 99;
 
@@ -29,10 +29,9 @@ sub expiry {
     return !defined $client->get('pf:short') && $client->get('pf:kept') eq 'x';
 }
 
-# A call whose result nobody takes is sent with `noreply`.
+# A call is sent with `noreply` where nobody takes its result.
 sub noreply {
     $quiet->set('pf:b', 'quiet');
-    $quiet->nowait_push;
     return $quiet->get('pf:b') eq 'quiet';
 }
 
@@ -59,5 +58,5 @@ tried('expiry', \&expiry);
 tried('noreply', \&noreply);
 tried('large', sub { $client->set('pf:large', $large) && $client->get('pf:large') eq $large });
 tried('many', \&many);
-tried('version', sub { $client->server_versions->{"$ARGV[0]:$ARGV[1]"} });
-tried('flush_all', sub { my $told = $client->flush_all; $told->{"$ARGV[0]:$ARGV[1]"} });
+tried('version', sub { $client->server_versions->{$address} });
+tried('flush_all', sub { $client->flush_all->{$address} });
