@@ -44,8 +44,9 @@ pub fn connect(address: &str) -> Result<TcpStream> {
 
 impl Connection {
     pub fn new(shared: &Shared, rest: usize) -> Connection {
-        let stream = connect(&shared.options.address).unwrap_or_else(|error| {
-            eprintln!("{}: {error}", shared.options.address);
+        let address = shared.options.address(rest);
+        let stream = connect(address).unwrap_or_else(|error| {
+            eprintln!("{address}: {error}");
             std::process::exit(2)
         });
         Connection { stream, input: Vec::new(), output: Vec::new(), pending: VecDeque::new(), rest, next: rest, retired: HashSet::new() }

@@ -49,7 +49,7 @@ fn watch(shared: &Shared) {
         std::thread::sleep(Duration::from_millis(20));
         let at = begun.elapsed().as_secs_f64();
         while let Some((_, failure)) = fails.next_if(|(due, _)| *due <= at) {
-            eprintln!("{at:.1} s: cocytus_fail {failure}: {:?}", order(&options.address, failure));
+            eprintln!("{at:.1} s: cocytus_fail {failure}: {:?}", order(options.address(0), failure));
         }
         if options.tell > 0.0 && at - told >= options.tell {
             let now = shared.answered.load(Ordering::Relaxed);

@@ -1,13 +1,14 @@
 // What is asked for on the command line.
 
-pub const USAGE: &str = "load ADDRESS [--threads 4] [--connections 4] [--depth 1] [--gets 90] [--size 100] [--keys 10000] [--seconds 2]
+pub const USAGE: &str = "load ADDRESS[,ADDRESS..] [--threads 4] [--connections 4] [--depth 1] [--gets 90] [--size 100] [--keys 10000] [--seconds 2]
      [--tell SECONDS] [--fail PROCESS[:KEEP]@SECONDS].. [--redis REPLICAS]
-Each connection sends --depth requests in one piece and the next ones when all are answered; --gets of 100 are a get, the others a set of --size
+Connections go to the addresses in turn. Each sends --depth requests in one piece and the next ones when all are answered; --gets of 100 are a get, the others a set of --size
 bytes. Times are from sending to the answer. --fail lets a process fail by `cocytus_fail`, on a further connection; its links keep KEEP messages,
 or all. --redis speaks redis's protocol: behind each set stands WAIT REPLICAS, where it isn't 0.";
 
 pub struct Options {
-    pub address: String,
+    // At least one.
+    pub addresses: Vec<String>,
     pub threads: usize,
     pub connections: usize,
     pub depth: usize,
@@ -33,10 +34,15 @@ fn failure(text: Option<String>) -> Result<(f64, String), String> {
 }
 
 impl Options {
+    // Where the connection of this number goes.
+    pub fn address(&self, connection: usize) -> &str {
+        &self.addresses[connection % self.addresses.len()]
+    }
+
     pub fn read(mut words: impl Iterator<Item = String>) -> Result<Options, String> {
-        let address = words.next().ok_or("no address")?;
+        let addresses = words.next().ok_or("no address")?.split(',').map(str::to_string).collect();
         let mut options = Options {
-            address,
+            addresses,
             threads: 4,
             connections: 4,
             depth: 1,

@@ -121,7 +121,7 @@ impl Worker<'_> {
         connection.retired.extend(unanswered.map(|pending| pending.key));
         connection.input.clear();
         std::thread::sleep(Duration::from_millis(100));
-        if let Ok(stream) = connect(&self.shared.options.address) {
+        if let Ok(stream) = connect(self.shared.options.address(connection.rest)) {
             self.poll.watch(&stream, connection.rest);
             connection.stream = stream;
         }

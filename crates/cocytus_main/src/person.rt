@@ -1,20 +1,25 @@
 use edge_io::{WriteEdge, write_all};
 use group_program::{Notice, Settings, Status, help_at, notice_of};
-use member_serve::Report;
+use member_serve::{Level, Report};
 use ready_worker::Watch;
-use std::io;
 use std::net::SocketAddr;
+use std::{env, io};
 
 /// The one who reads standard error. What is told there is no part of the output, and whether it could be written changes
 /// nothing.
 #[derive(Drop)]
 pub(crate) struct Person {
     rt: HostRuntime,
+    // Whether the system's journal reads it, which takes a level in front of a line.
+    has_journal: bool,
 }
 
 impl Person {
     pub(crate) fn new(rt: HostRuntime) -> Person {
-        Person { rt }
+        Person {
+            rt,
+            has_journal: env::var(&rt, "JOURNAL_STREAM").is_ok(),
+        }
     }
 
     /// Tells how a command with these words ended, and why no connection could be accepted.
@@ -33,6 +38,13 @@ impl Person {
         }
     }
 
+    fn say_at(&self, level: Level, text: &str) {
+        let prefix = if self.has_journal { level.prefix() } else { "" };
+        if let Ok(line) = format!(in self.rt.alloc(); "{prefix}{text}\n") {
+            self.say(&line);
+        }
+    }
+
     fn say(&self, text: &str) {
         let _ = write_all(&mut WriteEdge::new(self.rt.stderr()), text.as_bytes());
     }
@@ -47,8 +59,8 @@ impl Notice for Person {
 }
 
 impl Report for Person {
-    fn line(&self, text: &str) {
-        self.say(text);
+    fn line(&self, level: Level, text: &str) {
+        self.say_at(level, text);
     }
 }
 
@@ -60,15 +72,21 @@ impl Watch for Person {
     }
 
     fn fails(&self, error: Option<&io::Error>) {
-        self.say("connections can't be accepted, which is tried again\n");
+        self.say_at(
+            Level::Warning,
+            "connections can't be accepted, which is tried again",
+        );
         self.say_error(error);
     }
 
     fn is_full(&self) {
-        self.say("no descriptor is left: further connections are told so and closed\n");
+        self.say_at(
+            Level::Warning,
+            "no descriptor is left: further connections are told so and closed",
+        );
     }
 
     fn recovers(&self) {
-        self.say("connections are accepted again\n");
+        self.say_at(Level::Notice, "connections are accepted again");
     }
 }

@@ -24,6 +24,11 @@ impl MemberLinks {
         up
     }
 
+    /// Whether the link to the member at an index is up.
+    pub fn is_up(&self, x: u32) -> bool {
+        matches!(self.stage(x), Stage::Up)
+    }
+
     /// Whether no other member is waited for: each was linked once, or was cut.
     pub fn is_complete(&self) -> bool {
         !self.links.iter().any(|link| link.is_awaited())

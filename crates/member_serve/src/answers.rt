@@ -34,14 +34,19 @@ fn word_in(settings: &MemberSettings, text: &str) -> Word {
     }
 }
 
-/// The members that are named by a text, one space apart.
+/// The members that are named by a text, spaces apart.
 fn names_in(settings: &MemberSettings, names: &str) -> Word {
     let mut set = 0;
     'names: for name in names.split(' ') {
         match index_named(settings, name) {
             Some(x) => set = with(set, x),
+            None if name.is_empty() => {}
             None => return Word::Unknown,
         }
     }
-    Word::Dead(set)
+    if set == 0 {
+        Word::Other
+    } else {
+        Word::Dead(set)
+    }
 }

@@ -25,7 +25,7 @@ impl<R: Net, W: Report + Watch, G: Callers> Serving<'_, R, W, G> {
         'clients: for _ in 0..MOST_ACCEPTED {
             match self.client_port.next(self.rt, self.report, self.now) {
                 NextClient::Client(stream) => self.admit(stream),
-                NextClient::Last(stream) => refuse(stream, TOO_MANY),
+                NextClient::Last(stream) => self.turn_away(stream, TOO_MANY),
                 NextClient::None => return,
             }
         }
@@ -44,13 +44,19 @@ impl<R: Net, W: Report + Watch, G: Callers> Serving<'_, R, W, G> {
     // Serves a client, or tells it why it isn't served.
     fn admit(&mut self, stream: TcpStream) {
         if self.is_stuck {
-            return refuse(stream, TOO_FEW);
+            return self.turn_away(stream, TOO_FEW);
         }
         if self.worker.len() as u64 >= MOST_OPEN {
-            return refuse(stream, TOO_MANY);
+            return self.turn_away(stream, TOO_MANY);
         }
         if let Ok(stream) = ClientStream::new(self.alloc, stream) {
             let _ = self.worker.admit(stream);
+            self.tally.accept();
         }
+    }
+
+    fn turn_away(&mut self, stream: TcpStream, line: &[u8]) {
+        refuse(stream, line);
+        self.tally.refuse();
     }
 }

@@ -1,6 +1,7 @@
-ghost use Rattle.std.specs.Prelude.{◌≤◌, vec_len};
+ghost use Rattle.std.specs.Prelude.{◌<◌, ◌≤◌, vec_len};
 
 use crate::control_line::ControlLine;
+use crate::said::Said;
 use member_links::{Arrival, Port};
 use mio::net::TcpStream;
 use mio::{Interest, Registry, Token};
@@ -23,6 +24,7 @@ pub(crate) struct Control {
     port: Port,
     lines: Vec<ControlLine>,
     next_token: usize,
+    turn: usize,
     ghost few: { vec_len lines ≤ 16 },
 }
 
@@ -34,6 +36,7 @@ impl Control {
             port,
             lines: Vec::new(alloc),
             next_token: FIRST_CONTROL,
+            turn: 0,
         }
     }
 
@@ -77,25 +80,39 @@ impl Control {
         let watched = registry
             .register(&mut stream, Token(token), interest)
             .is_ok();
-        if watched && self.lines.len() < MOST_LINES {
-            self.next_token = token.saturating_add(1);
-            let line = ControlLine::new(self.alloc, token, stream);
-            let _ = self.lines.push(line);
+        if !watched {
+            return;
+        }
+        self.make_room();
+        self.next_token = token.saturating_add(1);
+        let line = ControlLine::new(self.alloc, token, stream);
+        let _ = self.lines.push(line);
+    }
+
+    // Lets the youngest connection go where there are as many as there may be: the oldest are those of who watches the program.
+    fn make_room(&mut self)
+        ensures { vec_len self.new.lines < 16 }
+    {
+        if self.lines.len() >= MOST_LINES {
+            self.lines.pop();
         }
     }
 
-    /// The next line that was said, and by which connection.
-    pub(crate) fn next(&mut self) -> Option<(usize, Vec<u8>)> {
-        'lines: for at in 0..self.lines.len() {
-            if let Some(text) = self.next_of(at) {
-                return Some((at, text));
+    /// What came next, and on which connection: each has its turn.
+    pub(crate) fn next(&mut self) -> Option<(usize, Said)> {
+        let (first, count) = (self.turn, self.lines.len());
+        'lines: for step in 0..count {
+            let at = first.wrapping_add(step) % count;
+            if let Some(said) = self.next_of(at) {
+                self.turn = at.wrapping_add(1);
+                return Some((at, said));
             }
         }
         None
     }
 
-    // The next line that a connection said.
-    fn next_of(&mut self, at: usize) -> Option<Vec<u8>> {
+    // What came next on a connection.
+    fn next_of(&mut self, at: usize) -> Option<Said> {
         match self.lines.get_mut(at) {
             Some(line) => line.next(self.alloc).unwrap_or(None),
             None => None,
@@ -106,6 +123,13 @@ impl Control {
     pub(crate) fn answer(&mut self, at: usize, text: &str) {
         if let Some(line) = self.lines.get_mut(at) {
             line.answer(text);
+        }
+    }
+
+    /// Answers a connection, which ends behind that.
+    pub(crate) fn answer_last(&mut self, at: usize, text: &str) {
+        if let Some(line) = self.lines.get_mut(at) {
+            line.answer_last(text);
         }
     }
 

@@ -1,9 +1,11 @@
 ghost use Rattle.std.specs.Prelude.{◌≡◌, ◌<◌, ◌≤◌, length, drop, vec_len, IfSome};
 
+use crate::page::{is_request, page_of};
+use crate::place::place_of;
+use crate::said::Said;
 use edge_io::{Failed, Sink};
-use memchr::memchr;
 use mio::net::TcpStream;
-use outbox::{Outbox, Reading, TryEdge, TryStream};
+use outbox::{Outbox, Reading, Sending, TryEdge, TryStream};
 use std::alloc::{AllocError, Global};
 
 /// The most bytes that one read takes.
@@ -23,6 +25,7 @@ pub(crate) struct ControlLine {
     text: Vec<u8>,
     outbox: Outbox,
     is_ready: bool,
+    has_ended: bool,
     is_over: bool,
     ghost short: { vec_len text ≤ 8192 },
 }
@@ -36,6 +39,7 @@ impl ControlLine {
             text: Vec::new(alloc),
             outbox: Outbox::new(alloc),
             is_ready: false,
+            has_ended: false,
             is_over: false,
         }
     }
@@ -86,15 +90,40 @@ impl ControlLine {
         }
     }
 
-    /// The next whole line, without its end: one that is too long ends the connection.
-    pub(crate) fn next(&mut self, alloc: Global) -> Result<Option<Vec<u8>>, AllocError> {
-        let Some(at) = end_of_line(&self.text) else {
-            self.is_over = self.is_over || self.text.len() > LONGEST;
+    /// What came next that is whole: what is too long ends the connection.
+    pub(crate) fn next(&mut self, alloc: Global) -> Result<Option<Said>, AllocError> {
+        if self.has_ended {
+            return Ok(None);
+        }
+        if is_request(&self.text) {
+            return Ok(self.next_request());
+        }
+        self.next_line(alloc)
+    }
+
+    // The page that is asked for, once the whole head of its request came.
+    fn next_request(&mut self) -> Option<Said> {
+        match page_of(&self.text) {
+            Some(page) => Some(Said::Request(page)),
+            None => {
+                self.end_where_long();
+                None
+            }
+        }
+    }
+
+    fn next_line(&mut self, alloc: Global) -> Result<Option<Said>, AllocError> {
+        let Some(at) = place_of(b'\n', &self.text) else {
+            self.end_where_long();
             return Ok(None);
         };
         let line = Vec::from_slice(alloc, &self.text[..at])?;
         cut_front(&mut self.text, at + 1);
-        Ok(Some(line))
+        Ok(Some(Said::Line(line)))
+    }
+
+    fn end_where_long(&mut self) {
+        self.is_over = self.is_over || self.text.len() > LONGEST;
     }
 
     /// Puts an answer behind all others.
@@ -104,19 +133,20 @@ impl ControlLine {
         }
     }
 
+    /// Puts the last answer behind all others: once it is written the connection is over.
+    pub(crate) fn answer_last(&mut self, text: &str) {
+        self.answer(text);
+        self.has_ended = true;
+    }
+
     /// Writes what waits, as far as the stream takes it.
     pub(crate) fn write_out(&mut self) {
-        if self.outbox.write_out(&mut self.stream, usize::MAX).is_err() {
-            self.is_over = true;
+        match self.outbox.write_out(&mut self.stream, usize::MAX) {
+            Ok(Sending::All) => self.is_over = self.is_over || self.has_ended,
+            Ok(_) => {}
+            Err(Failed) => self.is_over = true,
         }
     }
-}
-
-/// Where the first line of a text ends.
-fn end_of_line(text: &[u8]) -> Option<usize>
-    ensures { IfSome result (λ at. at < length text.now) }
-{
-    memchr(b'\n', text)
 }
 
 /// Takes the first so many bytes away.

@@ -2,6 +2,7 @@
 //! each call is safe and each turn ends. What the system's streams bring, and when, is left to tests.
 #![tactic(auto)]
 
+mod answering;
 mod answers;
 mod callers;
 mod client_port;
@@ -9,20 +10,26 @@ mod client_stream;
 mod clients;
 mod control;
 mod control_line;
+mod deaths;
+mod metrics;
 mod names;
 mod net_machine;
 mod noting;
 mod operator;
+mod page;
 mod patience;
+mod place;
 mod ports;
 mod readiness;
 mod report;
+mod said;
 mod serving;
 mod status;
+mod tally;
 mod telling;
 mod turn_clock;
 mod turning;
 mod waiting;
 
 pub use net_machine::NetMachine;
-pub use report::Report;
+pub use report::{Level, Report};

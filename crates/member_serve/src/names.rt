@@ -34,6 +34,11 @@ pub(crate) fn has(set: u32, x: u32) -> bool {
     x < MOST_MEMBERS && set >> x & 1 == 1
 }
 
+/// How many members a set has.
+pub(crate) fn count_of(set: u32) -> u32 {
+    set.count_ones()
+}
+
 /// Writes the names of a set of members behind a text, one space apart: `-` where it is empty.
 pub(crate) fn put_names(
     settings: &MemberSettings,

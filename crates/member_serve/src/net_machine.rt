@@ -3,10 +3,12 @@ ghost use Rattle.group_config.specs.MemberReading.{HasMembers};
 use crate::callers::Callers;
 use crate::client_port::ClientPort;
 use crate::control::Control;
+use crate::deaths::ToldDeaths;
 use crate::ports::Ports;
 use crate::readiness::MemberReadiness;
-use crate::report::Report;
+use crate::report::{Level, Report};
 use crate::serving::Serving;
+use crate::tally::Tally;
 use crate::turn_clock::TurnClock;
 use group_config::{MemberKey, MemberSettings};
 use link_frames::GroupId;
@@ -112,6 +114,8 @@ impl<R: Net + RandomSource, W: Report> NetMachine<'_, R, W> {
             client_port: ClientPort::new(client),
             now: 0,
             said: 0,
+            tally: Tally::new(),
+            told: ToldDeaths::new(),
             few_since: None,
             is_stuck: false,
         })
@@ -175,7 +179,6 @@ impl<R: Net + time::Clock + RandomSource + Wait, W: Report + Watch> Machine
     }
 
     fn refuse(&self, key: MemberKey) {
-        self.report.line(key.allowed());
-        self.report.line("\n");
+        self.report.line(Level::Warning, key.allowed());
     }
 }

@@ -1,7 +1,8 @@
 use crate::answers::{Word, word_of};
 use crate::callers::Callers;
-use crate::names::{MOST_MEMBERS, has, with};
+use crate::names::{MOST_MEMBERS, count_of, has, with};
 use crate::report::Report;
+use crate::said::Said;
 use crate::serving::Serving;
 use ready_worker::Watch;
 use std::net::Net;
@@ -23,12 +24,23 @@ impl<R: Net + time::Clock, W: Report + Watch, G: Callers> Serving<'_, R, W, G> {
     fn hear_lines(&mut self) -> bool {
         let mut ends = false;
         'lines: for _ in 0..MOST_LINES {
-            let Some((at, line)) = self.control.next() else {
+            let Some((at, said)) = self.control.next() else {
                 return ends;
             };
-            ends = self.hear(at, word_of(self.settings, &line)) || ends;
+            ends = self.answer(at, said) || ends;
         }
         ends
+    }
+
+    // Answers what came on a connection. Says whether that ended this member.
+    fn answer(&mut self, at: usize, said: Said) -> bool {
+        match said {
+            Said::Line(line) => self.hear(at, word_of(self.settings, &line)),
+            Said::Request(page) => {
+                self.answer_page(at, page);
+                false
+            }
+        }
     }
 
     // Does what an operator says, and answers. Says whether that ended this member.
@@ -74,20 +86,10 @@ impl<R: Net + time::Clock, W: Report + Watch, G: Callers> Serving<'_, R, W, G> {
         true
     }
 
-    /// Who is cut, or was said to be dead here.
-    pub(crate) fn condemned(&self) -> u32 {
-        self.said | self.cut()
-    }
-
     fn answer_status(&mut self, at: usize) {
         match self.status() {
             Ok(text) => self.control.answer(at, text.as_str()),
             Err(_) => self.control.answer(at, "there is not enough memory\n"),
         }
     }
-}
-
-/// How many members a set has.
-fn count_of(set: u32) -> u32 {
-    set.count_ones()
 }

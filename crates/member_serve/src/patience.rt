@@ -1,7 +1,7 @@
 use crate::callers::Callers;
 use crate::report::Report;
 use crate::serving::Serving;
-use crate::telling::tell_patience;
+use crate::telling::{tell_patience, tell_recovery};
 
 impl<R, W: Report, G: Callers> Serving<'_, R, W, G> {
     /// Lets all clients go once the others' answers, by which theirs are shown, are waited for too long, or fewer than k members
@@ -14,6 +14,8 @@ impl<R, W: Report, G: Callers> Serving<'_, R, W, G> {
         if self.is_stuck && !was_stuck {
             tell_patience(self.alloc, self.report, self.settings.patience);
             self.worker.readiness().shut_all();
+        } else if was_stuck && !self.is_stuck {
+            tell_recovery(self.report);
         }
     }
 

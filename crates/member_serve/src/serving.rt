@@ -1,7 +1,9 @@
 use crate::callers::Callers;
 use crate::client_port::ClientPort;
 use crate::control::Control;
+use crate::deaths::ToldDeaths;
 use crate::readiness::MemberReadiness;
+use crate::tally::Tally;
 use crate::turn_clock::TurnClock;
 use group_config::MemberSettings;
 use member_links::{LINK_PORT, MemberLinks};
@@ -23,6 +25,8 @@ pub(crate) struct Serving<'s, R, W, G: Callers> {
     pub(crate) client_port: ClientPort,
     pub(crate) now: u64,
     pub(crate) said: u32,
+    pub(crate) tally: Tally,
+    pub(crate) told: ToldDeaths,
     pub(crate) few_since: Option<u64>,
     pub(crate) is_stuck: bool,
 }

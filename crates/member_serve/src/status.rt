@@ -22,24 +22,32 @@ impl<R, W, G: Callers> Serving<'_, R, W, G> {
         format!(in self.alloc; "name {name}\nshape {k} {m} {blocks} {block}\n")
     }
 
-    // Who was said here to be dead, who is cut, and whose deaths are taken.
+    // Who was said here to be dead, who is cut, whose deaths are taken, and who isn't cut and has no link.
     fn put_deaths(&self, text: &mut String) -> Result<(), AllocError> {
         text.push_str("said ")?;
         put_names(self.settings, self.said, text)?;
         text.push_str("\ncut ")?;
         put_names(self.settings, self.cut(), text)?;
         text.push_str("\ntaken ")?;
-        put_names(self.settings, self.taken(), text)
+        put_names(self.settings, self.taken(), text)?;
+        text.push_str("\nunlinked ")?;
+        put_names(self.settings, self.unlinked(), text)
     }
 
     // How many links, clients, calls and answers there are.
     fn count_lines(&self) -> Result<String, AllocError> {
         let gateway = self.worker.gateway();
         let (up, clients) = (self.links.up(), self.worker.len());
+        let serves = if self.is_serving() { "yes" } else { "no" };
         let (calls, parked, unshown) = (gateway.open_calls(), gateway.parked(), gateway.unshown());
         format!(in self.alloc;
-            "\nlinks {up}\nclients {clients}\ncalls {calls}\nparked {parked}\nanswers {unshown}\nend\n"
+            "\nlinks {up}\nserves {serves}\nclients {clients}\ncalls {calls}\nparked {parked}\nanswers {unshown}\nend\n"
         )
+    }
+
+    /// Who is cut, or was said to be dead here.
+    pub(crate) fn condemned(&self) -> u32 {
+        self.said | self.cut()
     }
 
     /// Who is cut.
@@ -53,8 +61,8 @@ impl<R, W, G: Callers> Serving<'_, R, W, G> {
         set
     }
 
-    // Whose deaths are taken.
-    fn taken(&self) -> u32 {
+    /// Whose deaths are taken.
+    pub(crate) fn taken(&self) -> u32 {
         let mut set = 0;
         'members: for x in 0..MOST_MEMBERS {
             if self.has_taken(x) {
@@ -64,8 +72,24 @@ impl<R, W, G: Callers> Serving<'_, R, W, G> {
         set
     }
 
-    // Whether the death of the member at an index is taken.
-    fn has_taken(&self, x: u32) -> bool {
+    // Who isn't cut and has no link to this member.
+    fn unlinked(&self) -> u32 {
+        let mut set = 0;
+        'members: for x in 0..MOST_MEMBERS {
+            if self.is_peer(x) && !self.links.is_up(x) && !self.links.has_cut(x) {
+                set = with(set, x);
+            }
+        }
+        set
+    }
+
+    /// Whether a member has this index, another than this one.
+    pub(crate) fn is_peer(&self, x: u32) -> bool {
+        x != self.settings.own && process_of(self.settings.shape, x).is_some()
+    }
+
+    /// Whether the death of the member at an index is taken.
+    pub(crate) fn has_taken(&self, x: u32) -> bool {
         match process_of(self.settings.shape, x) {
             Some(name) => self.worker.gateway().has_taken(name),
             None => false,

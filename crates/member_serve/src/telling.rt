@@ -1,6 +1,6 @@
 //! What a person is told of a member.
 use crate::names::name_at;
-use crate::report::Report;
+use crate::report::{Level, Report};
 use group_config::MemberSettings;
 use member_links::{LinkEnd, LinkEvent};
 use std::alloc::{AllocError, Global};
@@ -13,7 +13,8 @@ pub(crate) fn tell_event<W: Report>(
     settings: &MemberSettings,
     event: LinkEvent,
 ) {
-    tell(report, text_of_event(alloc, settings, event));
+    let text = text_of_event(alloc, settings, event);
+    tell(report, level_of_event(event), text);
 }
 
 /// Tells why a member has to stop.
@@ -23,33 +24,66 @@ pub(crate) fn tell_end<W: Report>(
     settings: &MemberSettings,
     end: LinkEnd,
 ) {
-    tell(report, text_of_end(alloc, settings, end));
+    tell(report, Level::Warning, text_of_end(alloc, settings, end));
 }
 
 /// Tells that nothing can be had at an address.
 pub(crate) fn tell_address<W: Report>(alloc: Global, report: &W, address: &str, error: &io::Error) {
-    tell(
-        report,
-        format!(in alloc; "nothing can be accepted at {address}: {error}\n"),
-    );
+    let text = format!(in alloc; "nothing can be accepted at {address}: {error}");
+    tell(report, Level::Warning, text);
 }
 
 /// Tells that a member serves its clients.
 pub(crate) fn tell_serving<W: Report>(alloc: Global, report: &W, name: &str, address: &str) {
-    tell(report, format!(in alloc; "{name} serves at {address}\n"));
+    let text = format!(in alloc; "{name} serves at {address}");
+    tell(report, Level::Info, text);
 }
 
 /// Tells that a member can't show what it was told, and lets its clients go.
 pub(crate) fn tell_patience<W: Report>(alloc: Global, report: &W, seconds: u32) {
-    tell(
-        report,
-        format!(in alloc; "too few members answer, for {seconds} seconds: clients are let go\n"),
+    let text = format!(in alloc;
+        "too few members answer, for {seconds} seconds: clients are let go"
+    );
+    tell(report, Level::Warning, text);
+}
+
+/// Tells that enough members answer again.
+pub(crate) fn tell_recovery<W: Report>(report: &W) {
+    report.line(
+        Level::Notice,
+        "enough members answer again: clients are served",
     );
 }
 
-fn tell<W: Report>(report: &W, line: Result<String, AllocError>) {
+/// Tells that the member at an index was said to be dead.
+pub(crate) fn tell_condemned<W: Report>(
+    alloc: Global,
+    report: &W,
+    settings: &MemberSettings,
+    x: u32,
+) {
+    let name = name_at(settings, x);
+    let text = format!(in alloc; "{name} is dead, by an operator's word");
+    tell(report, Level::Notice, text);
+}
+
+/// Tells that the death of the member at an index is taken.
+pub(crate) fn tell_taken<W: Report>(alloc: Global, report: &W, settings: &MemberSettings, x: u32) {
+    let name = name_at(settings, x);
+    let text = format!(in alloc; "the group goes on without {name}");
+    tell(report, Level::Notice, text);
+}
+
+fn tell<W: Report>(report: &W, level: Level, line: Result<String, AllocError>) {
     if let Ok(line) = line {
-        report.line(line.as_str());
+        report.line(level, line.as_str());
+    }
+}
+
+fn level_of_event(event: LinkEvent) -> Level {
+    match event {
+        LinkEvent::Up(_) => Level::Info,
+        _ => Level::Warning,
     }
 }
 
@@ -61,21 +95,19 @@ fn text_of_event(
     match event {
         LinkEvent::Up(x) => {
             let name = name_at(settings, x);
-            format!(in alloc; "linked to {name}\n")
+            format!(in alloc; "linked to {name}")
         }
         LinkEvent::Broken(x) => {
             let name = name_at(settings, x);
-            format!(in alloc; "the link to {name} broke\n")
+            format!(in alloc; "the link to {name} broke")
         }
         LinkEvent::Again(x) => {
             let name = name_at(settings, x);
             format!(in alloc;
-                "a program came as {name}, which was linked before: it is no member\n"
+                "a program came as {name}, which was linked before: it is no member any more, or this one isn't"
             )
         }
-        LinkEvent::Stranger => {
-            "a program came that is no member of this group\n".to_string(alloc)
-        }
+        LinkEvent::Stranger => "a program came that is no member of this group".to_string(alloc),
     }
 }
 
@@ -87,20 +119,20 @@ fn text_of_end(
     match end {
         LinkEnd::Misfit(x) => {
             let name = name_at(settings, x);
-            format!(in alloc; "{name} said what can't be: this member stops\n")
+            format!(in alloc; "{name} said what can't be: this member stops")
         }
         LinkEnd::BadFrame(x) => {
             let name = name_at(settings, x);
-            format!(in alloc; "what came of {name} is no frame with its sum: this member stops\n")
+            format!(in alloc; "what came of {name} is no frame with its sum: this member stops")
         }
         LinkEnd::NoSpelling(x) => {
             let name = name_at(settings, x);
-            format!(in alloc; "a frame for {name} can't be written: this member stops\n")
+            format!(in alloc; "a frame for {name} can't be written: this member stops")
         }
         LinkEnd::Refused(x) => {
             let name = name_at(settings, x);
             format!(in alloc;
-                "{name} was linked to this member's name before: a program that is started anew is no member\n"
+                "{name} was linked to this member's name before: a program that is started anew is no member"
             )
         }
     }

@@ -5,7 +5,7 @@ use crate::noting::Noted;
 use crate::report::Report;
 use crate::serving::Serving;
 use crate::telling::{tell_end, tell_event};
-use member_links::LinkEnd;
+use member_links::{LinkEnd, LinkEvent};
 use member_machine::MemberEnd;
 use ready_worker::Watch;
 use std::net::Net;
@@ -44,6 +44,7 @@ impl<R: Net + time::Clock, W: Report + Watch, G: Callers> Serving<'_, R, W, G> {
         self.exchange(ready);
         self.lose_patience();
         self.tell_events();
+        self.tell_deaths();
         self.end()
     }
 
@@ -106,10 +107,17 @@ impl<R: Net + time::Clock, W: Report + Watch, G: Callers> Serving<'_, R, W, G> {
     fn tell_events(&mut self) {
         'events: for _ in 0..MOST_EVENTS {
             match self.links.next_event() {
-                Some(event) => tell_event(self.alloc, self.report, self.settings, event),
+                Some(event) => self.tell(event),
                 None => return,
             }
         }
+    }
+
+    fn tell(&mut self, event: LinkEvent) {
+        if let LinkEvent::Broken(_) = event {
+            self.tally.lose_link();
+        }
+        tell_event(self.alloc, self.report, self.settings, event);
     }
 
     // Why the member has to stop, if it has to: a person is told.

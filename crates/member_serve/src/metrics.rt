@@ -1,0 +1,185 @@
+use crate::callers::Callers;
+use crate::names::{MOST_MEMBERS, count_of, has, name_at};
+use crate::serving::Serving;
+use crate::tally::Tally;
+use std::alloc::AllocError;
+
+const SERVING: &str = "Whether clients are served.";
+
+const LOSSES: &str = "How many more members may be said to be dead.";
+
+const CLIENTS: &str = "Connections of clients.";
+
+const CALLS: &str = "Calls of clients that have not ended.";
+
+const PARKED: &str = "Requests that came early, and wait at the process of this member.";
+
+const UNSHOWN: &str = "Answers that the others have yet to confirm.";
+
+const ACCEPTED: &str = "Clients that were accepted.";
+
+const REFUSED: &str = "Clients that were refused.";
+
+const BROKEN: &str = "Links that broke.";
+
+/// A number of a member, by the conventions of Prometheus.
+#[derive(Clone, Copy)]
+struct Metric {
+    name: &'static str,
+    kind: &'static str,
+    help: &'static str,
+    value: u64,
+}
+
+impl Metric {
+    fn gauge(name: &'static str, help: &'static str, value: u64) -> Metric {
+        Metric {
+            name,
+            kind: "gauge",
+            help,
+            value,
+        }
+    }
+
+    fn counter(name: &'static str, help: &'static str, value: u64) -> Metric {
+        Metric {
+            name,
+            kind: "counter",
+            help,
+            value,
+        }
+    }
+}
+
+/// What is told of each other member: 1 where it is so, 0 where it isn't.
+#[derive(Clone, Copy)]
+enum PeerMetric {
+    LinkUp,
+    Condemned,
+    DeathTaken,
+}
+
+impl PeerMetric {
+    fn name(self) -> &'static str {
+        match self {
+            PeerMetric::LinkUp => "cocytus_link_up",
+            PeerMetric::Condemned => "cocytus_member_condemned",
+            PeerMetric::DeathTaken => "cocytus_death_taken",
+        }
+    }
+
+    fn help(self) -> &'static str {
+        match self {
+            PeerMetric::LinkUp => "Whether this member is linked to the other.",
+            PeerMetric::Condemned => "Whether the other was said to be dead.",
+            PeerMetric::DeathTaken => "Whether the group goes on without the other.",
+        }
+    }
+}
+
+impl<R, W, G: Callers> Serving<'_, R, W, G> {
+    /// What this member counts, in the text format of Prometheus.
+    pub(crate) fn metrics(&self) -> Result<String, AllocError> {
+        let mut text = self.info()?;
+        self.put_all(&self.gauges(), &mut text)?;
+        self.put_all(&self.counters(), &mut text)?;
+        'metrics: for metric in [
+            PeerMetric::LinkUp,
+            PeerMetric::Condemned,
+            PeerMetric::DeathTaken,
+        ] {
+            self.put_peers(metric, &mut text)?;
+        }
+        Ok(text)
+    }
+
+    // The member's name, and the group's shape.
+    fn info(&self) -> Result<String, AllocError> {
+        let name = name_at(self.settings, self.settings.own);
+        let (k, m) = (self.settings.shape.k(), self.settings.shape.m());
+        format!(in self.alloc;
+            "# HELP cocytus_member_info What this member is.\n# TYPE cocytus_member_info gauge\ncocytus_member_info{{member=\"{name}\",k=\"{k}\",m=\"{m}\"}} 1\n"
+        )
+    }
+
+    // What goes up and down.
+    fn gauges(&self) -> [Metric; 6] {
+        let gateway = self.worker.gateway();
+        let dead = count_of(self.condemned());
+        let left = self.settings.shape.m().saturating_sub(dead);
+        [
+            Metric::gauge("cocytus_serving", SERVING, u64::from(self.is_serving())),
+            Metric::gauge("cocytus_losses_left", LOSSES, u64::from(left)),
+            Metric::gauge("cocytus_clients", CLIENTS, self.worker.len() as u64),
+            Metric::gauge("cocytus_calls_open", CALLS, gateway.open_calls() as u64),
+            Metric::gauge("cocytus_requests_parked", PARKED, gateway.parked() as u64),
+            Metric::gauge("cocytus_answers_waiting", UNSHOWN, gateway.unshown() as u64),
+        ]
+    }
+
+    // What only goes up.
+    fn counters(&self) -> [Metric; 3] {
+        let Tally {
+            accepted,
+            refused,
+            broken,
+        } = self.tally;
+        [
+            Metric::counter("cocytus_clients_accepted_total", ACCEPTED, accepted),
+            Metric::counter("cocytus_clients_refused_total", REFUSED, refused),
+            Metric::counter("cocytus_links_broken_total", BROKEN, broken),
+        ]
+    }
+
+    fn put_all(&self, metrics: &[Metric], text: &mut String) -> Result<(), AllocError> {
+        'metrics: for metric in metrics {
+            self.put(*metric, text)?;
+        }
+        Ok(())
+    }
+
+    fn put(&self, metric: Metric, text: &mut String) -> Result<(), AllocError> {
+        let Metric {
+            name,
+            kind,
+            help,
+            value,
+        } = metric;
+        let lines = format!(in self.alloc;
+            "# HELP {name} {help}\n# TYPE {name} {kind}\n{name} {value}\n"
+        )?;
+        text.push_str(lines.as_str())
+    }
+
+    fn put_peers(&self, metric: PeerMetric, text: &mut String) -> Result<(), AllocError> {
+        let (name, help) = (metric.name(), metric.help());
+        let head = format!(in self.alloc; "# HELP {name} {help}\n# TYPE {name} gauge\n")?;
+        text.push_str(head.as_str())?;
+        'members: for x in 0..MOST_MEMBERS {
+            if self.is_peer(x) {
+                self.put_peer(metric, x, text)?;
+            }
+        }
+        Ok(())
+    }
+
+    fn put_peer(&self, metric: PeerMetric, x: u32, text: &mut String) -> Result<(), AllocError> {
+        let (name, peer) = (metric.name(), name_at(self.settings, x));
+        let value = u32::from(self.is_so(metric, x));
+        let line = format!(in self.alloc; "{name}{{peer=\"{peer}\"}} {value}\n")?;
+        text.push_str(line.as_str())
+    }
+
+    fn is_so(&self, metric: PeerMetric, x: u32) -> bool {
+        match metric {
+            PeerMetric::LinkUp => self.links.is_up(x),
+            PeerMetric::Condemned => has(self.condemned(), x),
+            PeerMetric::DeathTaken => self.has_taken(x),
+        }
+    }
+
+    /// Whether clients are served.
+    pub(crate) fn is_serving(&self) -> bool {
+        self.client_port.is_open() && !self.is_stuck
+    }
+}
