@@ -85,6 +85,11 @@ HasRead before line now None = (e : Entry) → ¬ (TellsEntry before line e)
 abbrev pub entry_on : Account → Name → Asked → Entry
 entry_on a name op = record { caller = name.caller; call = name.call; op = op; reply = reply_of a.table op }
 
+-- an entry is told by a line that is its text
+abbrev pub IsEntryTold : Entry → List ℕ → Option Entry → Type 0
+IsEntryTold e line (Some told) = (told ≡ e) × (line ≡ entry_text e)
+IsEntryTold e line None = line ≢ entry_text e
+
 -- an op was applied to the table, and its entry is the line's, within its limits; or the line isn't that entry's
 abbrev pub HasApplied : Account → Name → Asked → List ℕ → Account → Option Entry → Type 0
 HasApplied before name op line now (Some e) = (e ≡ entry_on before name op) × FitsReply e.reply × (line ≡ entry_text e) × (now ≡ with_table before (table_after before.table op))

@@ -1,7 +1,8 @@
-ghost use Rattle.std.specs.Prelude.{◌≡◌, ◌<◌, ◌^◌, All, slice_get, option_and_then, IfOk};
+ghost use Rattle.std.specs.Prelude.{◌≡◌, ◌↔◌, ◌<◌, ◌^◌, All, slice_get, option_and_then, IfOk, IsTrue};
+ghost use Rattle.scenario_text.specs.Texts.{entry_text};
 ghost use Rattle.transcript_text.specs.Texts.{FitsName, text_of_name};
 ghost use Rattle.run_verify.specs.Accounts.{account_of};
-ghost use Rattle.run_verify.specs.Judging.{HasApplied, HasRead, open_op};
+ghost use Rattle.run_verify.specs.Judging.{HasApplied, HasRead, IsEntryTold, open_op};
 ghost use Rattle.run_verify.specs.Passing.{Begins};
 
 use crate::account::Account;
@@ -10,7 +11,7 @@ use crate::calls::{calls_of, fits};
 use group_calls::Entry;
 use memc_table::Op;
 use scenario_text::write_entry::write_entry;
-use std::alloc::AllocError;
+use std::alloc::{AllocError, Global};
 use transcript_text::name::{Name, named};
 
 impl Account {
@@ -43,19 +44,47 @@ impl Account {
         requires low { All (λ count. count < 2 ^ 62) (account_of self.old).table.counts }
         ensures { IfOk result (HasApplied (account_of self.old) name op line.now (account_of self.new)) }
     {
-        let reply = self.table.apply(&op)?;
-        fits(&reply);
-        let entry = Entry {
-            caller: name.caller,
-            call: name.call,
-            op,
-            reply,
-        };
-        if write_entry(self.alloc, &entry)?.as_slice() != line {
-            return Ok(None);
+        match self.table.apply(&op) {
+            Ok(reply) => {
+                fits(&reply);
+                let entry = Entry {
+                    caller: name.caller,
+                    call: name.call,
+                    op,
+                    reply,
+                };
+                entry_told(self.alloc, entry, line)
+            }
+            Err(want) => {
+                drop(op);
+                Err(want)
+            }
         }
-        Ok(Some(entry))
     }
+}
+
+/// The entry, if a line is its text.
+fn entry_told(alloc: Global, entry: Entry, line: &[u8]) -> Result<Option<Entry>, AllocError>
+    ensures { IfOk result (IsEntryTold entry line.now) }
+{
+    match is_entry_text(alloc, &entry, line) {
+        Ok(true) => Ok(Some(entry)),
+        Ok(false) => {
+            drop(entry);
+            Ok(None)
+        }
+        Err(want) => {
+            drop(entry);
+            Err(want)
+        }
+    }
+}
+
+/// Whether a line is the text of an entry.
+fn is_entry_text(alloc: Global, entry: &Entry, line: &[u8]) -> Result<bool, AllocError>
+    ensures { IfOk result (λ yes. IsTrue yes ↔ (line.now ≡ entry_text entry.now)) }
+{
+    Ok(write_entry(alloc, entry)?.as_slice() == line)
 }
 
 /// The op of a call that may take effect and isn't logged yet.

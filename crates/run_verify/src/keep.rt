@@ -30,10 +30,25 @@ impl Account {
         ensures kept { OnOk result (IsKept shape places.now (account_of self.old) entry (account_of self.new)) }
         ensures partitions { length self.new.changes.items ≡ length self.old.changes.items }
     {
-        self.keep_change(shape, places, &entry)?;
-        set_reply(&mut self.calls, entry.caller, entry.call, entry.reply);
-        self.entries += 1;
-        Ok(())
+        let kept = self.keep_change(shape, places, &entry);
+        let Entry {
+            caller,
+            call,
+            op,
+            reply,
+        } = entry;
+        drop(op);
+        match kept {
+            Ok(()) => {
+                set_reply(&mut self.calls, caller, call, reply);
+                self.entries += 1;
+                Ok(())
+            }
+            Err(want) => {
+                drop(reply);
+                Err(want)
+            }
+        }
     }
 
     /// Keeps the change that an entry makes, if it is accepted.
