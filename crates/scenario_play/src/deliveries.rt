@@ -10,6 +10,7 @@ ghost use Rattle.scenario_text.specs.Texts.{entries_text};
 ghost use Rattle.scenario_run.specs.Playing.{draining};
 
 use crate::entries::write_last;
+use crate::making::make_event;
 use group_calls::Event;
 use group_core::World;
 use group_types::ProcessId;
@@ -61,6 +62,6 @@ fn deliver(
     ensures text { OnOk result (text.new.items
         ≡ text.old.items ++ entries_text (step world.old (Deliver from to)).turn.logged) }
 {
-    let out = world.step(&Event::Deliver { from, to })?;
+    let out = make_event(world, Event::Deliver { from, to })?;
     write_last(alloc, b"= ", world.log(), out.logged, text)
 }

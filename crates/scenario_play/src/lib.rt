@@ -9,6 +9,7 @@ pub mod entries;
 mod group_player;
 pub mod laws;
 pub mod make;
+mod making;
 mod next;
 mod page;
 mod placing;

@@ -54,14 +54,14 @@ fn follow(alloc: Global, play: &mut Play, line: Line) -> Result<Option<Vec<u8>>,
         Line::Group { .. } => return Err(LineFault::BadLine),
         Line::Ask { caller, at, act } => {
             let op = play.op(act);
-            play.make(alloc, &Event::Ask { caller, op, at })?
+            play.make(alloc, Event::Ask { caller, op, at })?
         }
         Line::Collect { caller, call, at } => {
-            play.make(alloc, &Event::Collect { caller, call, at })?
+            play.make(alloc, Event::Collect { caller, call, at })?
         }
-        Line::Deliver { from, to } => play.make(alloc, &Event::Deliver { from, to })?,
-        Line::Fail { at, keep } => play.make(alloc, &Event::Fail { at, keep })?,
-        Line::Flush { at } => play.make(alloc, &Event::Flush { at })?,
+        Line::Deliver { from, to } => play.make(alloc, Event::Deliver { from, to })?,
+        Line::Fail { at, keep } => play.make(alloc, Event::Fail { at, keep })?,
+        Line::Flush { at } => play.make(alloc, Event::Flush { at })?,
         Line::Trace {
             caller,
             call,
@@ -73,7 +73,7 @@ fn follow(alloc: Global, play: &mut Play, line: Line) -> Result<Option<Vec<u8>>,
             }
             play.make(
                 alloc,
-                &Event::Trace {
+                Event::Trace {
                     caller,
                     call,
                     partition,

@@ -10,13 +10,13 @@ ghost use Rattle.scenario_play.specs.Ends.{IsLight};
 
 use crate::deliveries::drain;
 use crate::entries::write_last;
+use crate::making::{answer_line, make_event};
 use crate::placing::write_placed;
 use crate::showing::write_look;
 use group_calls::Event;
 use group_core::World;
 use group_types::{ProcessId, Run, Shape};
 use memc_table::{Act, Op};
-use scenario_text::write_answer::write_answer;
 use std::alloc::{AllocError, Global};
 use std::marker::Model;
 
@@ -72,20 +72,20 @@ impl Play {
     }
 
     /// An event is made: its answer on a line, and what it logged.
-    pub(crate) fn make(&mut self, alloc: Global, event: &Event) -> Result<Vec<u8>, AllocError>
-        requires may { MayCome self.old.world event.now }
+    pub(crate) fn make(&mut self, alloc: Global, event: Event) -> Result<Vec<u8>, AllocError>
+        requires may { MayCome self.old.world event }
         requires light { IsLight (2 ^ 61) self.old }
         ensures play { OnOk result (self.new ≡ record {
           world =
-              (step self.old.world event.now).world;
+              (step self.old.world event).world;
           moment = self.old.moment;
         }) }
-        ensures text { IfOk result (λ text. text.items ≡ turn_text (step self.old.world event.now).turn) }
+        ensures text { IfOk result (λ text. text.items ≡ turn_text (step self.old.world event).turn) }
     {
-        let out = self.world.step(event)?;
-        let mut text = write_answer(alloc, &out.answer)?;
-        text.push(b'\n')?;
-        write_last(alloc, b"= ", self.world.log(), out.logged, &mut text)?;
+        let out = make_event(&mut self.world, event)?;
+        let logged = out.logged;
+        let mut text = answer_line(alloc, out)?;
+        write_last(alloc, b"= ", self.world.log(), logged, &mut text)?;
         Ok(text)
     }
 
