@@ -8,6 +8,7 @@ ghost use Rattle.cluster_run.specs.Texts.{cluster_entries_text, group_mark};
 ghost use Rattle.group_cluster.specs.History.{HasFewEvents};
 ghost use Rattle.cluster_play.specs.Doing.{IsReadyFor};
 
+use crate::making::make_event;
 use crate::writing::{logged_by, write_mark};
 use group_calls::Event;
 use group_cluster::Cluster;
@@ -97,7 +98,7 @@ fn deliver(
         ++ cluster_entries_text (logged_in (cluster_step cluster.old (InGroup group (Deliver from to))).turns)) }
 {
     let event = Event::Deliver { from, to };
-    let out = cluster.step(&ClusterEvent::InGroup { group, event })?;
+    let out = make_event(cluster, ClusterEvent::InGroup { group, event })?;
     let logged = logged_by(out);
     write_last(alloc, mark, cluster.world(group).log(), logged, text)
 }

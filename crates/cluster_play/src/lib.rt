@@ -5,6 +5,7 @@
 
 mod deliveries;
 pub mod laws;
+mod making;
 mod next;
 pub mod play;
 mod player;

@@ -9,6 +9,7 @@ ghost use Rattle.cluster_run.specs.Playing.{all_deliveries, drained_text, group_
 ghost use Rattle.cluster_play.specs.Doing.{IsReadyFor};
 
 use crate::deliveries::drain;
+use crate::making::make_event;
 use crate::writing::{answer_line, write_drained, write_mark};
 use group_calls::Event;
 use group_cluster::{Cluster, Layout};
@@ -88,7 +89,7 @@ impl ClusterPlay {
         }) }
         ensures text { IfOk result (λ text. text.items ≡ turn_text (turn_of self.old.cluster (InGroup group event))) }
     {
-        let out = self.cluster.step(&ClusterEvent::InGroup { group, event })?;
+        let out = make_event(&mut self.cluster, ClusterEvent::InGroup { group, event })?;
         let logged = out.logged;
         let mut text = answer_line(alloc, out)?;
         let mark = write_mark(alloc, group)?;
@@ -113,7 +114,7 @@ impl ClusterPlay {
         }) }
         ensures text { IfOk result (λ text. text.items ≡ turn_text (turn_of self.old.cluster (FailNode node keep))) }
     {
-        let out = self.cluster.step(&ClusterEvent::FailNode { node, keep })?;
+        let out = make_event(&mut self.cluster, ClusterEvent::FailNode { node, keep })?;
         answer_line(alloc, out)
     }
 

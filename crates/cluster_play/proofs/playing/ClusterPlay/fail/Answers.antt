@@ -8,8 +8,8 @@ use Rattle.cluster_play.proofs.Logged.{fail-silent, line-is, turn-written}
 use Rattle.cluster_play.proofs.Ready.{few-all}
 use Rattle.cluster_play.proofs.playing.ClusterPlay.fail.Goals as goal
 
-pub step-requires-clause-few : goal.step-requires-clause-few
-step-requires-clause-few c = few-all c.self.inside.cluster (subst (λ (p : ClusterPlay). IsReadyFor (2 ^ 59) p.cluster) (sym c.self.view_is) c.requires.ready)
+pub make_event-requires-clause-few : goal.make_event-requires-clause-few
+make_event-requires-clause-few c = few-all c.self.inside.cluster (subst (λ (p : ClusterPlay). IsReadyFor (2 ^ 59) p.cluster) (sym c.self.view_is) c.requires.ready)
 
 pub returns-clause-text : goal.returns-clause-text
 returns-clause-text c =
