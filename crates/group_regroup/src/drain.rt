@@ -12,8 +12,20 @@ use std::alloc::AllocError;
 // So many events a group counts.
 const MOST_EVENTS: u64 = 1 << 62;
 
+/// Makes an event.
+pub(crate) fn make(world: &mut World, event: Event) -> Result<(), AllocError>
+    requires may { MayCome world.old event }
+    ensures world { OnOk result (world.new ≡ (step world.old event).world) }
+    ensures err { OnErr result (world.new ≡ world.old) }
+{
+    let answer = answer_to(world, &event);
+    drop(event);
+    drop(answer?);
+    Ok(())
+}
+
 /// Makes an event, and gives its answer. That no further event can be counted is told as want of memory.
-pub(crate) fn make(world: &mut World, event: &Event) -> Result<Answer, AllocError>
+pub(crate) fn answer_to(world: &mut World, event: &Event) -> Result<Answer, AllocError>
     requires may { MayCome world.old event.now }
     ensures world { OnOk result (world.new ≡ (step world.old event.now).world) }
     ensures answer { IfOk result (λ answer. answer ≡ (step world.old event.now).turn.answer) }
@@ -35,7 +47,7 @@ pub(crate) fn drain(world: &mut World) -> Result<(), AllocError>
 {
     world.run();
     'deliveries: while let Some((from, to)) = world.next_link() {
-        make(world, &Event::Deliver { from, to })?;
+        make(world, Event::Deliver { from, to })?;
     }
     Ok(())
 }

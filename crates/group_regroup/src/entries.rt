@@ -23,9 +23,9 @@ pub(crate) fn told_at(
     requires { 1 ≤ k }
     ensures { IfOk result (λ told. told ≡ told_at bases.now k lowered.now place entry.now) }
 {
-    let op = told_op(bases, k, lowered, place, entry)?;
     let base = base_of(bases, home(entry.op.act().key(), k).0);
     let reply = told_reply(base, &entry.reply)?;
+    let op = told_op(bases, k, lowered, place, entry)?;
     Ok(Entry {
         caller: entry.caller,
         call: entry.call,

@@ -8,7 +8,7 @@ ghost use Rattle.group_eras.specs.Items.{head_of};
 ghost use Rattle.group_regroup.specs.Parts.{MayAsk, IsPart};
 ghost use Rattle.group_regroup.specs.Reading.{IsFound, get_at, got_on, tried};
 
-use crate::drain::{drain, make};
+use crate::drain::{answer_to, drain};
 use group_calls::{Answer, Cause, Event};
 use group_core::World;
 use group_types::{Key, Partition, Payload, ProcessId};
@@ -58,7 +58,9 @@ fn ask_event(world: &mut World, event: Event) -> Result<Payload, AllocError>
     ensures value { IfOk result (λ value. value ≡ bytes_of (tried world.old event).answer) }
     ensures err { OnErr result (IsPart world.old (tried world.old event).events world.new) }
 {
-    ask(world, &event)
+    let value = ask(world, &event);
+    drop(event);
+    value
 }
 
 /// Asks, and where a block has to be rebuilt first drains and asks again.
@@ -94,7 +96,7 @@ fn ask_once(world: &mut World, event: &Event) -> Result<Option<Payload>, AllocEr
     ensures value { IfOk result (IsFound (step world.old event.now).turn.answer) }
     ensures err { OnErr result (IsPart world.old (event.now ∷ []) world.new) }
 {
-    match make(world, event)? {
+    match answer_to(world, event)? {
         Answer::Reply(Reply::Value(item)) => Ok(Some(item.value)),
         Answer::Retry(_) => Ok(None),
         _ => Err(AllocError),

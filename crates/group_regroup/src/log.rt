@@ -52,8 +52,8 @@ fn told_in(
 pub(crate) fn copy(entry: &Entry) -> Result<Entry, AllocError>
     ensures { IfOk result (λ copy. copy ≡ entry.now) }
 {
-    let op = entry.op.clone()?;
     let reply = entry.reply.clone()?;
+    let op = entry.op.clone()?;
     Ok(Entry {
         caller: entry.caller,
         call: entry.call,

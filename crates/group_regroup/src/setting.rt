@@ -44,7 +44,7 @@ fn set_event(world: &mut World, event: Event) -> Result<(), AllocError>
     ensures up { OnOk result (¬ (IsDown world.new)) }
     ensures world { OnOk result (world.new ≡ drained (step world.old event).world) }
 {
-    make(world, &event)?;
+    make(world, event)?;
     drain(world)
 }
 

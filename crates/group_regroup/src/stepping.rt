@@ -142,7 +142,9 @@ fn happen(world: &mut World, event: Event) -> Result<Out, AllocError>
     ensures logged { IfOk result (λ out. out.logged ≡ length (step world.old event).turn.logged) }
     ensures err { OnErr result (world.new ≡ world.old) }
 {
-    world.step(&event)
+    let out = world.step(&event);
+    drop(event);
+    out
 }
 
 // No number of an answer has more than 64 bits, told with a base that is low.
