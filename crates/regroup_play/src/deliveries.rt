@@ -13,8 +13,20 @@ use std::alloc::AllocError;
 // So many events a group counts.
 const MOST_EVENTS: u64 = 1 << 62;
 
-/// Makes an event. That no further event can be counted is told as want of memory.
-pub(crate) fn make(regroup: &mut Regroup, event: &Event) -> Result<Out, AllocError>
+/// Makes an event.
+pub(crate) fn make(regroup: &mut Regroup, event: Event) -> Result<Out, AllocError>
+    requires may { MayMake regroup.old event }
+    ensures eras { OnOk result (regroup.new ≡ (era_step regroup.old event).eras) }
+    ensures answer { IfOk result (λ out. out.answer ≡ (era_step regroup.old event).answer) }
+    ensures few { OnOk result (regroup.old.world.events < 2 ^ 62) }
+{
+    let out = make_counted(regroup, &event);
+    drop(event);
+    out
+}
+
+/// The same. That no further event can be counted is told as want of memory.
+fn make_counted(regroup: &mut Regroup, event: &Event) -> Result<Out, AllocError>
     requires may { MayMake regroup.old event.now }
     ensures eras { OnOk result (regroup.new ≡ (era_step regroup.old event.now).eras) }
     ensures answer { IfOk result (λ out. out.answer ≡ (era_step regroup.old event.now).answer) }
@@ -59,6 +71,6 @@ fn deliver(regroup: &mut Regroup, from: ProcessId, to: ProcessId) -> Result<(), 
     ensures eras { OnOk result (regroup.new ≡ (era_step regroup.old (Deliver from to)).eras) }
     ensures few { OnOk result (regroup.old.world.events < 2 ^ 62) }
 {
-    make(regroup, &Event::Deliver { from, to })?;
+    make(regroup, Event::Deliver { from, to })?;
     Ok(())
 }

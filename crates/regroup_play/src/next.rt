@@ -20,7 +20,7 @@ use crate::placing::write_placed;
 use crate::playing::EraPlay;
 use crate::reading::{is_regroup, is_skipped, read_regroup, words_of};
 use crate::showing::write_look_line;
-use crate::writing::{write_answer_line, write_since};
+use crate::writing::{answer_line, write_since};
 use group_calls::Event;
 use group_types::{Partition, ProcessId, Run};
 use memc_table::Act;
@@ -70,7 +70,9 @@ fn follow(alloc: Global, play: &mut EraPlay, line: &[u8]) -> Result<Option<Vec<u
         follow_words(alloc, play, line)
     } else {
         let line = read_line(alloc, Some(play.shape()), line)?;
-        follow_line(alloc, play, &line)
+        let done = follow_line(alloc, play, &line);
+        drop(line);
+        done
     }
 }
 
@@ -140,7 +142,7 @@ fn follow_ask(
     ensures { HasDone (Some play.old) (then_by play.old (line.Ask caller at act.now)) (Some play.new) (text_in result) }
 {
     let op = play.op(act.clone()?);
-    follow_call(alloc, play, caller, &Event::Ask { caller, op, at })
+    follow_call(alloc, play, caller, Event::Ask { caller, op, at })
 }
 
 fn follow_collect(
@@ -155,7 +157,7 @@ fn follow_collect(
     ensures { HasDone (Some play.old) (then_by play.old (line.Collect caller call at)) (Some play.new)
         (text_in result) }
 {
-    follow_call(alloc, play, caller, &Event::Collect { caller, call, at })
+    follow_call(alloc, play, caller, Event::Collect { caller, call, at })
 }
 
 fn follow_deliver(
@@ -168,7 +170,7 @@ fn follow_deliver(
     requires led { IsLed play.old.eras }
     ensures { HasDone (Some play.old) (then_by play.old (line.Deliver from to)) (Some play.new) (text_in result) }
 {
-    follow_event(alloc, play, &Event::Deliver { from, to })
+    follow_event(alloc, play, Event::Deliver { from, to })
 }
 
 fn follow_fail(
@@ -181,7 +183,7 @@ fn follow_fail(
     requires led { IsLed play.old.eras }
     ensures { HasDone (Some play.old) (then_by play.old (line.Fail at keep)) (Some play.new) (text_in result) }
 {
-    follow_event(alloc, play, &Event::Fail { at, keep })
+    follow_event(alloc, play, Event::Fail { at, keep })
 }
 
 fn follow_flush(
@@ -193,7 +195,7 @@ fn follow_flush(
     requires led { IsLed play.old.eras }
     ensures { HasDone (Some play.old) (then_by play.old (line.Flush at)) (Some play.new) (text_in result) }
 {
-    follow_event(alloc, play, &Event::Flush { at })
+    follow_event(alloc, play, Event::Flush { at })
 }
 
 fn follow_trace(
@@ -218,7 +220,7 @@ fn follow_trace(
         partition,
         at,
     };
-    follow_call(alloc, play, caller, &event)
+    follow_call(alloc, play, caller, event)
 }
 
 fn follow_time(alloc: Global, play: &mut EraPlay, moment: u64) -> Result<Option<Vec<u8>>, LineFault>
@@ -234,13 +236,14 @@ fn follow_call(
     alloc: Global,
     play: &mut EraPlay,
     caller: u32,
-    event: &Event,
+    event: Event,
 ) -> Result<Option<Vec<u8>>, LineFault>
     requires led { IsLed play.old.eras }
-    requires may { caller < carrier → MayMake play.old.eras event.now }
-    ensures { HasDone (Some play.old) (by_call play.old caller event.now) (Some play.new) (text_in result) }
+    requires may { caller < carrier → MayMake play.old.eras event }
+    ensures { HasDone (Some play.old) (by_call play.old caller event) (Some play.new) (text_in result) }
 {
     if CARRIER <= caller {
+        drop(event);
         return Err(LineFault::BadLine);
     }
     follow_event(alloc, play, event)
@@ -250,15 +253,15 @@ fn follow_call(
 fn follow_event(
     alloc: Global,
     play: &mut EraPlay,
-    event: &Event,
+    event: Event,
 ) -> Result<Option<Vec<u8>>, LineFault>
     requires led { IsLed play.old.eras }
-    requires may { MayMake play.old.eras event.now }
-    ensures { HasDone (Some play.old) (by_event play.old event.now) (Some play.new) (text_in result) }
+    requires may { MayMake play.old.eras event }
+    ensures { HasDone (Some play.old) (by_event play.old event) (Some play.new) (text_in result) }
 {
     let from = play.regroup.world().log().len();
     let out = make(&mut play.regroup, event)?;
-    let mut text = write_answer_line(alloc, &out.answer)?;
+    let mut text = answer_line(alloc, out)?;
     write_since(alloc, &play.regroup, play.regroup.era(), from, &mut text)?;
     Ok(Some(text))
 }
