@@ -15,7 +15,9 @@ pub(crate) fn stores(
     let Some(op) = set(alloc, key, value) else {
         return false;
     };
-    is_stored(&caller.call(&op))
+    let end = caller.call(&op);
+    drop(op);
+    is_stored(&end)
 }
 
 /// Whether a call ended as stored.
@@ -28,7 +30,9 @@ pub(crate) fn reads(alloc: Global, caller: &mut StageCaller<'_>, key: &[u8], val
     let Some(op) = get(alloc, key) else {
         return false;
     };
-    is_found(&caller.call(&op), value)
+    let end = caller.call(&op);
+    drop(op);
+    is_found(&end, value)
 }
 
 fn is_found(end: &Result<CallEnd, AllocError>, value: &[u8]) -> bool {

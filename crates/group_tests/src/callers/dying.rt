@@ -35,13 +35,15 @@ fn a_settled_update_is_told(rt: HostRuntime) -> Result<(), Fail> {
 // Whether a set ends as stored and is read, asked again or not, whose head dies after so many steps of the update and
 // whose links keep so many messages each.
 fn ends_truly(alloc: Global, loss: (u32, u32), again: bool) -> bool {
-    match (
-        set(alloc, b"a".as_slice(), b"b".as_slice()),
-        Shape::new(2, 2, 4, 16),
-    ) {
-        (Some(op), Ok(shape)) => is_told(alloc, shape, &op, loss, again),
-        _ => false,
-    }
+    let Ok(shape) = Shape::new(2, 2, 4, 16) else {
+        return false;
+    };
+    let Some(op) = set(alloc, b"a".as_slice(), b"b".as_slice()) else {
+        return false;
+    };
+    let told = is_told(alloc, shape, &op, loss, again);
+    drop(op);
+    told
 }
 
 fn is_told(alloc: Global, shape: Shape, op: &Op, loss: (u32, u32), again: bool) -> bool {

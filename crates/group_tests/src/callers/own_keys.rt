@@ -88,7 +88,11 @@ pub(crate) fn call<'a>(
     i: u32,
 ) -> (Place<'a>, bool, u64) {
     match op_of(alloc, letter, i) {
-        Some(op) => call_with(place, table, &op),
+        Some(op) => {
+            let called = call_with(place, table, &op);
+            drop(op);
+            called
+        }
         None => (place, false, 0),
     }
 }
@@ -129,7 +133,11 @@ fn replayed(alloc: Global, table: &mut Table, letter: u8) -> bool {
 
 fn replays(alloc: Global, table: &mut Table, letter: u8, i: u32) -> bool {
     match op_of(alloc, letter, i) {
-        Some(op) => applied(table, &op).is_some(),
+        Some(op) => {
+            let good = applied(table, &op).is_some();
+            drop(op);
+            good
+        }
         None => false,
     }
 }
@@ -142,7 +150,11 @@ fn reads(
     number: u32,
 ) -> bool {
     match get_of(alloc, letter, number) {
-        Some(get) => reads_with(reader, table, &get),
+        Some(get) => {
+            let good = reads_with(reader, table, &get);
+            drop(get);
+            good
+        }
         None => false,
     }
 }

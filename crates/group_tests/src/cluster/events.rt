@@ -72,7 +72,7 @@ fn asked(
         op: Op::new(0, Act::Get { key }),
         at: D0,
     };
-    other_group(&made(rt, cluster, &ClusterEvent::InGroup { group, event }))
+    other_group(&made(rt, cluster, ClusterEvent::InGroup { group, event }))
 }
 
 fn other_group(answer: &ClusterAnswer) -> Option<u32> {
@@ -84,17 +84,19 @@ fn other_group(answer: &ClusterAnswer) -> Option<u32> {
 
 // Whether the failure of a node is its first.
 fn fails(rt: &impl Abort, cluster: &mut Cluster, node: u32) -> bool {
-    is_done(&made(rt, cluster, &ClusterEvent::FailNode { node, keep: 0 }))
+    is_done(&made(rt, cluster, ClusterEvent::FailNode { node, keep: 0 }))
 }
 
 fn is_done(answer: &ClusterAnswer) -> bool {
     matches!(answer, ClusterAnswer::Done)
 }
 
-fn made(rt: &impl Abort, cluster: &mut Cluster, event: &ClusterEvent) -> ClusterAnswer {
-    assert!(rt; cluster.may_happen(event));
-    assert!(rt; cluster.has_few_events(event));
-    cluster.step(event).expect(rt, "there is memory").answer
+fn made(rt: &impl Abort, cluster: &mut Cluster, event: ClusterEvent) -> ClusterAnswer {
+    assert!(rt; cluster.may_happen(&event));
+    assert!(rt; cluster.has_few_events(&event));
+    let out = cluster.step(&event).expect(rt, "there is memory");
+    drop(event);
+    out.answer
 }
 
 // Whether this entry of the log is of the group, and of the call of this number there.

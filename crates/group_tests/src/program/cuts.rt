@@ -3,7 +3,9 @@ use crate::program::runs::play;
 use group_program::Status;
 use group_types::Field;
 use std::alloc::{AllocError, Global};
-use std::test::Fail;
+use std::process::Abort;
+use std::sync::Wait;
+use std::thread::Threads;
 
 // The script's lines by their numbers, and what is written for each.
 const LINES: [(u64, &[u8], &[u8]); 10] = [
@@ -20,28 +22,50 @@ const LINES: [(u64, &[u8], &[u8]); 10] = [
 ];
 
 #[test]
-fn a_cut_script_is_played_up_to_its_cut_line(rt: HostRuntime) -> Result<(), Fail> {
+fn a_cut_script_is_played_up_to_its_cut_line(rt: HostRuntime) {
     let mut script = Vec::new(rt.alloc());
     let mut written = Vec::new(rt.alloc());
     for (number, line, told) in LINES {
         for cut in 0..line.len() {
-            let front = &line[..cut];
-            let status = end_of_cut(number, front);
-            let text = joined(rt.alloc(), &script, front)?;
-            let ended = play(&rt, rt.alloc(), &text, 7)?;
-            assert_eq!(rt; ended.0, status, "cut {cut} of line {number}");
-            let last = last_line(rt.alloc(), status)?;
-            let wanted = joined(rt.alloc(), &written, last.as_bytes())?;
-            assert_eq!(rt; ended.1, wanted, "cut {cut} of line {number}");
+            plays_cut(&rt, rt.alloc(), (&script, &written), number, &line[..cut]);
         }
-        script.extend_from_slice(line)?;
-        written.extend_from_slice(told)?;
-        let ended = play(&rt, rt.alloc(), &script, 7)?;
-        assert_eq!(rt; ended.0, Status::Done, "line {number}");
-        assert_eq!(rt; ended.1, written, "line {number}");
-        script.push(b'\n')?;
+        script
+            .extend_from_slice(line)
+            .expect(&rt, "there is memory");
+        written
+            .extend_from_slice(told)
+            .expect(&rt, "there is memory");
+        plays(&rt, rt.alloc(), &script, Status::Done, &written);
+        script.push(b'\n').expect(&rt, "there is memory");
     }
-    Ok(())
+}
+
+// What is played and written before a line of this number, and a front of that line.
+fn plays_cut<R: Threads + Wait + Abort + Sync>(
+    rt: &R,
+    alloc: Global,
+    before: (&[u8], &[u8]),
+    number: u64,
+    front: &[u8],
+) {
+    let status = end_of_cut(number, front);
+    let text = joined(alloc, before.0, front).expect(rt, "there is memory");
+    let last = last_line(alloc, status).expect(rt, "there is memory");
+    let wanted = joined(alloc, before.1, last.as_bytes()).expect(rt, "there is memory");
+    plays(rt, alloc, &text, status, &wanted);
+}
+
+// A script ends so, and this is written.
+fn plays<R: Threads + Wait + Abort + Sync>(
+    rt: &R,
+    alloc: Global,
+    script: &[u8],
+    status: Status,
+    written: &[u8],
+) {
+    let ended = play(rt, alloc, script, 7).expect(rt, "there is memory");
+    assert_eq!(rt; ended.0, status, "a script of {script:?}");
+    assert_eq!(rt; ended.1.as_slice(), written, "a script of {script:?}");
 }
 
 // How a script ends whose line of this number is cut to a front.

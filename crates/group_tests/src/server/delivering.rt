@@ -10,6 +10,7 @@ use group_types::{Key, Payload, ProcessId, Shape, home};
 use memc_table::{Act, Op};
 use node_worker::Gate;
 use std::alloc::{AllocError, Global};
+use std::process::Abort;
 use std::sync::atomic::{AtomicBool, Ordering};
 use std::sync::{Mutex, Wait};
 use std::test::Fail;
@@ -100,27 +101,28 @@ impl Gate for Settled<'_> {
     fn after(&self, _connection: u64) {}
 }
 
-fn set(alloc: Global) -> Result<Op, Fail> {
+fn set(rt: &impl Abort, alloc: Global) -> Op {
     let act = Act::Set {
-        key: Key::read(alloc, b"b".as_slice())?,
+        key: Key::read(alloc, b"b".as_slice()).expect(rt, "it is a key"),
         flags: 0,
         expiry: 0,
-        value: Payload::of(alloc, b"B".as_slice())?,
+        value: Payload::of(alloc, b"B".as_slice()).expect(rt, "there is memory"),
     };
-    Ok(Op::new(0, act))
+    Op::new(0, act)
 }
 
 /// Serves no client before the call of a spare seat is settled, and says whether it was.
-fn settles<R: Threads + Wait + Sync>(rt: &R, alloc: Global) -> Result<bool, Fail> {
-    let (stage, mut seats) = Stage::new(alloc, Shape::new(4, 2, 1024, 1024)?, 4)?;
+fn settles<R: Threads + Wait + Abort + Sync>(rt: &R, alloc: Global) -> bool {
+    let shape = Shape::new(4, 2, 1024, 1024).expect(rt, "it is a shape");
+    let (stage, mut seats) = Stage::new(alloc, shape, 4).expect(rt, "there is memory");
     let Some(seat) = seats.take() else {
         unreachable!()
     };
     let gate = Settled {
-        spare: Mutex::new(Spare::new(&stage, seat, set(alloc)?)),
+        spare: Mutex::new(Spare::new(&stage, seat, set(rt, alloc))),
         settled: AtomicBool::new(false),
     };
-    let mut clients = listener(alloc, &[b"quit\r\n".as_slice()], &[])?;
+    let mut clients = listener(alloc, &[b"quit\r\n".as_slice()], &[]).expect(rt, "there is memory");
     let served = serve_group(
         rt,
         alloc,
@@ -132,11 +134,13 @@ fn settles<R: Threads + Wait + Sync>(rt: &R, alloc: Global) -> Result<bool, Fail
         1,
         &FixedClock::new(0),
     );
-    Ok(served == Ok(1) && gate.settled.load(Ordering::SeqCst))
+    let settled = gate.settled.load(Ordering::SeqCst);
+    drop(gate);
+    served == Ok(1) && settled
 }
 
 #[test]
 fn a_call_is_settled_that_nobody_else_delivers(rt: HostRuntime) -> Result<(), Fail> {
-    assert!(rt; settles(&rt, rt.alloc())?);
+    assert!(rt; settles(&rt, rt.alloc()));
     Ok(())
 }

@@ -64,7 +64,10 @@ fn serve_and_read<R: Threads + Wait + Abort + Sync>(
         1,
         &FixedClock::new(0),
     );
-    (served, read(&get(rt, alloc), &stage, spare))
+    let get = get(rt, alloc);
+    let found = read(&get, &stage, spare);
+    drop(get);
+    (served, found)
 }
 
 /// Whether a spare caller reads what a connection stored.

@@ -93,7 +93,9 @@ fn counts_agree<R: Threads + Abort + Sync>(rt: &R, alloc: Global, shape: Shape) 
 {
     let set = set(rt, alloc, b'b');
     let get = get(rt, alloc);
-    made_and_asked(rt, alloc, shape, (&set, &get))
+    let agree = made_and_asked(rt, alloc, shape, (&set, &get));
+    drop((set, get));
+    agree
 }
 
 fn made_and_asked<R: Threads + Sync>(rt: &R, alloc: Global, shape: Shape, ops: (&Op, &Op)) -> bool

@@ -174,6 +174,8 @@ fn one_thread_plays_a_row(rt: HostRuntime) -> Result<(), Fail> {
         second: set(&rt, alloc, 2),
         get: get(&rt, alloc),
     };
-    assert!(rt; row(alloc, shape, &ops));
+    let good = row(alloc, shape, &ops);
+    drop(ops);
+    assert!(rt; good);
     Ok(())
 }
