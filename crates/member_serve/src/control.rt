@@ -55,16 +55,15 @@ impl Control {
         }
     }
 
-    /// Accepts who came, and reads what was said.
-    pub(crate) fn read(&mut self, registry: &Registry) {
-        self.accept_all(registry);
+    /// Reads what was said.
+    pub(crate) fn read(&mut self) {
         'lines: for line in self.lines.iter_mut() {
             line.read();
         }
     }
 
-    // Accepts who came.
-    fn accept_all(&mut self, registry: &Registry) {
+    /// Accepts who came.
+    pub(crate) fn accept_all(&mut self, registry: &Registry) {
         'streams: for _ in 0..MOST_LINES {
             match self.port.accept() {
                 Arrival::Stream(stream) => self.admit(registry, stream),

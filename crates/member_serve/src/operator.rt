@@ -12,11 +12,12 @@ use std::time;
 const MOST_LINES: u32 = 64;
 
 impl<R: Net + time::Clock, W: Report + Watch, G: Callers> Serving<'_, R, W, G> {
-    /// Does what operators say. Says whether one ended this member.
+    /// Does what operators say, and then accepts who came: those that went made room. Says whether one ended this member.
     pub(crate) fn hear_operators(&mut self) -> bool {
-        self.control.read(self.worker.readiness().registry());
+        self.control.read();
         let ends = self.hear_lines();
         self.control.write_out();
+        self.control.accept_all(self.worker.readiness().registry());
         ends
     }
 

@@ -1,4 +1,4 @@
-use Rattle.std.proofs.Common.{ℕ, ◌≡◌, ◌-◌, ◌++◌, List, length, drop, ap, subst, ◌∙◌}
+use Rattle.std.proofs.Common.{ℕ, ◌≡◌, ◌-◌, ◌++◌, List, length, drop, ap, refl, subst, ◌∙◌}
 use Rattle.group_run.specs.World.{World, step}
 use Rattle.scenario_text.specs.Texts.{answer_text}
 use Rattle.scenario_run.specs.Playing.{Play, turn_text}
