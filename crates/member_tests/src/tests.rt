@@ -1,0 +1,50 @@
+// The courses that are played.
+use crate::course::{Course, play};
+use group_types::Shape;
+use member_gateway::MemberGateway;
+use std::alloc::Global;
+use std::process::Abort;
+
+const SHAPES: [(u32, u32); 6] = [(1, 0), (2, 1), (3, 2), (1, 1), (4, 2), (2, 2)];
+
+/// Plays a course in a group of k and m, which ends as it is to.
+fn plays(rt: &impl Abort, alloc: Global, shape: (u32, u32), number: u64, course: Course) {
+    let shape = Shape::new(shape.0, shape.1, 64, 256).expect(rt, "a shape");
+    let fault = play::<MemberGateway>(alloc, shape, number, course).expect(rt, "memory");
+    assert_eq!(rt; (number, course, fault), (number, course, None));
+}
+
+#[test]
+fn end_as_one_table_allows(rt: HostRuntime) {
+    for number in 0..24u64 {
+        let shape = SHAPES[(number % 6) as usize];
+        plays(&rt, rt.alloc(), shape, number, Course::Turns(400));
+    }
+}
+
+#[test]
+fn count_each_once_while_the_head_dies(rt: HostRuntime) {
+    plays(&rt, rt.alloc(), (4, 2), 1, Course::Count);
+}
+
+#[test]
+fn keep_what_was_acknowledged_wherever_a_member_ends(rt: HostRuntime) {
+    for lost in 0..4usize {
+        plays(&rt, rt.alloc(), (2, 2), lost as u64, Course::Lose(lost));
+    }
+}
+
+#[test]
+fn hear_nothing_of_ghosts(rt: HostRuntime) {
+    plays(&rt, rt.alloc(), (3, 2), 3, Course::Haunt);
+}
+
+#[test]
+fn leave_their_callers_to_others(rt: HostRuntime) {
+    plays(&rt, rt.alloc(), (16, 4), 1, Course::Leave);
+}
+
+#[test]
+fn get_while_changes_wait_for_one_that_hangs(rt: HostRuntime) {
+    plays(&rt, rt.alloc(), (16, 4), 2, Course::Hang);
+}
