@@ -3,7 +3,7 @@ use std::alloc::Global;
 use std::collections::VecDeque;
 
 /// What a client does.
-#[derive(Clone, Copy, Debug, PartialEq, Eq)]
+#[derive(Clone, Copy, PartialEq, Eq)]
 pub(crate) enum Kind {
     /// It does the rows with a key that nobody else changes.
     Rows,
@@ -16,7 +16,7 @@ pub(crate) enum Kind {
 }
 
 /// What a client waits to hear, and what was heard by anybody before it asked.
-#[derive(Clone, Copy, Debug, PartialEq, Eq)]
+#[derive(Clone, Copy)]
 pub(crate) enum Wanted {
     /// That it was stored.
     Stored,

@@ -6,7 +6,7 @@ use group_types::Shape;
 use std::alloc::{AllocError, Global};
 
 /// What happens to a group.
-#[derive(Clone, Copy, Debug, PartialEq, Eq)]
+#[derive(Clone, Copy)]
 pub(crate) enum Course {
     /// So many turns, as chance has it.
     Turns(u32),

@@ -6,7 +6,7 @@ use scenario_make::draws::Draws;
 use std::alloc::{AllocError, Global};
 
 /// What isn't as it is to be.
-#[derive(Clone, Copy, Debug, PartialEq, Eq)]
+#[derive(Clone, Copy, Debug)]
 pub(crate) enum Fault {
     /// A client heard what can't be.
     Heard { client: usize, seen: usize },
@@ -86,7 +86,8 @@ impl<'t> Crowd<'t> {
 
     /// Some client.
     pub(crate) fn pick_client(&mut self) -> usize {
-        self.pick_of(self.clients.len())
+        let count = self.clients.len();
+        self.pick_of(count)
     }
 
     pub(crate) fn fail(&mut self, fault: Fault) {

@@ -129,24 +129,6 @@ impl<'t, G: TestGateway> Group<'t, G> {
         true
     }
 
-    // All frames that go to a member come.
-    fn carry_to(&mut self, to: usize) {
-        'others: for from in 0..self.many() {
-            self.carry(from, to, u32::MAX);
-        }
-    }
-
-    /// All members make so many turns, and nothing is late.
-    pub(crate) fn rounds(&mut self, count: u32) {
-        'rounds: for _ in 0..count {
-            self.now = self.now.saturating_add(1);
-            'seats: for seat in 0..self.many() {
-                self.carry_to(seat);
-                self.turn(seat);
-            }
-        }
-    }
-
     /// A member's program ends: of what goes to others some comes.
     pub(crate) fn end(&mut self, seat: usize) {
         self.put_life(seat, Life::Ended);
@@ -164,34 +146,6 @@ impl<'t, G: TestGateway> Group<'t, G> {
             let had = seat.links.say_dead(x).is_ok();
             self.crowd.note(had);
         }
-    }
-
-    /// Members and clients go on until nothing is to be heard, and each member that lives is at rest.
-    pub(crate) fn settle(&mut self) {
-        'rounds: for _ in 0..600u32 {
-            self.rounds(1);
-            if self.unsettled().is_none() {
-                return;
-            }
-        }
-        if let Some(fault) = self.unsettled() {
-            self.crowd.fail(fault);
-        }
-    }
-
-    // A client at a member that lives which waits to hear something, or such a member that isn't at rest.
-    fn unsettled(&self) -> Option<Fault> {
-        for (number, client) in self.crowd.clients.iter().enumerate() {
-            if client.waits() && self.life(client.seat) == Life::Lives {
-                return Some(Fault::Waits { client: number });
-            }
-        }
-        for (number, seat) in self.seats.iter().enumerate() {
-            if seat.is_busy() {
-                return Some(Fault::Busy { seat: number });
-            }
-        }
-        None
     }
 }
 

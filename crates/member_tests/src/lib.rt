@@ -38,6 +38,8 @@ mod schedules;
 #[cfg(test)]
 mod seat;
 #[cfg(test)]
+mod settling;
+#[cfg(test)]
 mod speaking;
 #[cfg(test)]
 mod tally;

@@ -5,7 +5,7 @@ use std::io;
 use std::io::ErrorKind;
 
 /// Whether a client is still there.
-#[derive(Clone, Copy, Debug, PartialEq, Eq)]
+#[derive(Clone, Copy, PartialEq, Eq)]
 pub(crate) enum Presence {
     Stays,
     /// It says nothing more, and hears.

@@ -6,7 +6,7 @@ use crate::line::Presence;
 use crate::seat::Life;
 
 /// A member that dies: when, whether it ends or lives on, and how much later that is said.
-#[derive(Clone, Copy, Debug, PartialEq, Eq)]
+#[derive(Clone, Copy)]
 struct Death {
     seat: usize,
     turn: u32,

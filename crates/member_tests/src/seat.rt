@@ -9,7 +9,7 @@ use ready_worker::{Station, Worker};
 use std::alloc::{AllocError, Global};
 
 /// How a member is.
-#[derive(Clone, Copy, Debug, PartialEq, Eq)]
+#[derive(Clone, Copy, PartialEq, Eq)]
 pub(crate) enum Life {
     Lives,
     /// It is said to be dead, and lives.

@@ -11,7 +11,7 @@ const SHAPES: [(u32, u32); 6] = [(1, 0), (2, 1), (3, 2), (1, 1), (4, 2), (2, 2)]
 fn plays(rt: &impl Abort, alloc: Global, shape: (u32, u32), number: u64, course: Course) {
     let shape = Shape::new(shape.0, shape.1, 64, 256).expect(rt, "a shape");
     let fault = play::<MemberGateway>(alloc, shape, number, course).expect(rt, "memory");
-    assert_eq!(rt; (number, course, fault), (number, course, None));
+    assert!(rt; fault.is_none(), "by number {number}: {fault:?}");
 }
 
 #[test]
