@@ -1,6 +1,7 @@
-ghost use Rattle.std.specs.Prelude.{◌≡◌, ◌↔◌, IsTrue, IfOk};
+ghost use Rattle.std.specs.Prelude.{◌≡◌, ◌<◌, ◌↔◌, IsTrue, IfOk};
 ghost use Rattle.group_types.specs.Names.{IsProcess};
 ghost use Rattle.membership.specs.Members.{knows_dead};
+ghost use Rattle.group_run.specs.Applying.{replica_of};
 ghost use Rattle.group_wire.specs.State.{opening_group};
 ghost use Rattle.group_member.specs.Acting.{nothing_out};
 ghost use Rattle.group_member.specs.Opening.{opening_member};
@@ -11,8 +12,9 @@ use crate::own_callers::OwnCallers;
 use crate::signs::OwnSigns;
 use crate::words::OwnWords;
 use group_node::Node;
-use group_types::{ProcessId, Shape};
+use group_types::{Partition, ProcessId, Shape};
 use link_frames::Request;
+use partition_replica::Replica;
 use std::alloc::{AllocError, Global};
 use std::marker::Model;
 
@@ -73,6 +75,14 @@ impl Member {
         ensures { result ≡ self.now.words.name }
     {
         self.words.name()
+    }
+
+    /// Its process's replica of a partition.
+    pub fn replica(&self, partition: Partition) -> &Replica
+        requires { partition.0 < self.now.words.shape.k }
+        ensures { result.now.replica ≡ replica_of self.now.node.process partition.0 }
+    {
+        self.node.replica(partition)
     }
 
     /// Whether the member has cut a process.

@@ -1,14 +1,16 @@
 -- The entries of an index, in a list.
-use Rattle.std.proofs.Common.{◌≡◌, Bool, true, false, cond, List, [], ◌∷◌, Some, None, refl}
+use Rattle.std.proofs.Common.{◌≡◌, ◌+◌, Bool, true, false, cond, List, [], ◌∷◌, length, Option, Some, None, is_some, refl, sym, ap, ◌∙◌, arith}
 use Rattle.std.specs.Cmp.{IsEquivalence}
 use Rattle.std.specs.List.{IsDistinct, AllByRecursion}
 use Rattle.std.specs.Map.{lookup, keys_of}
 use Rattle.std.specs.Option.{option_and_then}
+use Rattle.std.proofs.lemmas.List.Recursion.{is_count_by}
 use Rattle.std.proofs.lemmas.Map.{NonePasses, lookup-none}
-use Rattle.std.proofs.lemmas.Map.Entries.{none_past_head}
+use Rattle.std.proofs.lemmas.Map.Entries.{length-keys_of, none_past_head}
 use Rattle.std.proofs.lemmas.Map.Keys.{IsDistinct-head, IsDistinct-tail, IsDistinct-cons}
+use Rattle.std.proofs.lemmas.Map.Made.{is_some-lookup, length-from_same_keys}
 use Rattle.item_index.specs.declared.slot.Slot.{Slot}
-use Rattle.item_index.specs.Keys.{Keys, slot_of, IsListing}
+use Rattle.item_index.specs.Keys.{Keys, slot_of, count_of, IsListing}
 
 -- each key that has an entry, with its slot
 abbrev pub listed : {K : Type 0} → Keys K → List (K × Slot)
@@ -26,6 +28,13 @@ none_listed : {K : Type 0} (test : K → Bool) (index : Keys K) → NonePasses t
 none_listed test [] none = none
 none_listed test ((key, None) ∷ rest) none = none_listed test rest none.1
 none_listed test ((key, Some slot) ∷ rest) none = (none.0, none_listed test rest none.1)
+
+-- as many are listed as have an entry
+length-listed : {K : Type 0} (index : Keys K) → length (listed index) ≡ count_of index
+length-listed {K} = is_count_by (λ index. length (listed index)) (λ entry. is_some entry.1) refl (λ entry rest. more entry.0 entry.1 rest) where
+  more : (key : K) (slot : Option Slot) (rest : Keys K) → length (listed ((key, slot) ∷ rest)) ≡ cond (is_some slot) (1 + length (listed rest)) (length (listed rest))
+  more key None rest = refl
+  more key (Some slot) rest = omega arith
 
 module _ {K : Type 0} (eq : K → K → Bool) (laws : IsEquivalence eq) where
   once : (index : Keys K) → IsDistinct eq (keys_of index) → IsDistinct eq (keys_of (listed index))
@@ -49,3 +58,11 @@ module _ {K : Type 0} (eq : K → K → Bool) (laws : IsEquivalence eq) where
 
   pub listing : (index : Keys K) → IsDistinct eq (keys_of index) → IsListing eq index (listed index)
   listing index distinct = record { once = once index distinct; slots = slots index distinct }
+
+  -- each listing is as long
+  pub length-listing : (index : Keys K) → IsDistinct eq (keys_of index) → (list : List (K × Slot)) → IsListing eq index list → length list ≡ count_of index
+  length-listing index distinct list is =
+      let own = listing index distinct in
+      let long = length-from_same_keys laws (keys_of list) (keys_of (listed index)) is.once own.once
+      (λ q. sym (is_some-lookup (eq q) list) ∙ ap is_some (is.slots q ∙ sym (own.slots q)) ∙ is_some-lookup (eq q) (listed index)) in
+      sym (length-keys_of list) ∙ long ∙ length-keys_of (listed index) ∙ length-listed index

@@ -1,5 +1,5 @@
 -- An index as contracts see it: its ready keys, each with its slot where it has an entry.
-use Rattle.std.specs.Prelude.{◌≡◌, ℕ, Bool, List, map, count_by, Option, is_some}
+use Rattle.std.specs.Prelude.{◌≡◌, ℕ, Bool, List, count_by, Option, is_some}
 use Rattle.std.specs.Option.{option_and_then}
 use Rattle.std.specs.Map.{lookup, keys_of}
 use Rattle.std.specs.List.{IsDistinct}
@@ -25,7 +25,7 @@ module _ {K : Type 0} (eq : K → K → Bool) where
 
 -- how many keys have an entry
 abbrev pub count_of : {K : Type 0} → Keys K → ℕ
-count_of index = count_by is_some (map (λ entry. entry.1) index)
+count_of index = count_by (λ entry. is_some entry.1) index
 
 -- a copy of a key is the key
 abbrev pub CopiesEqual : {K : Type 0} → (K → K → Type 0) → Type 0

@@ -4,6 +4,8 @@
 #![tactic(auto)]
 
 ghost use Rattle.std.specs.Prelude.{true, ◌≡◌, [], IsTrue, IsSome, IfOk, IsOk, OnOk, OnErr, option_copied, ◌||◌, ◌&&◌, not, is_some, Some, None, if◌then◌else◌};
+ghost use Rattle.std.specs.List.{IsDistinct};
+ghost use Rattle.std.specs.Map.{keys_of};
 ghost use Rattle.item_index.specs.Keys.{slot_of, is_ready, count_of, IsListing, CopiesEqual};
 
 use indexmap::IndexMap;
@@ -99,9 +101,10 @@ impl<K: Eq + Hash + Clone> Index<K> {
 
     /// How many keys have an entry, counted one by one.
     pub fn count(&self) -> usize
-        ensures { result ≡ count_of self.now }
+        ensures count { result ≡ count_of self.now }
+        ensures once { IsDistinct K.eq (keys_of self.now) }
     {
-        self.slots.values().filter(|slot| slot.is_some()).count()
+        self.slots.iter().filter(|(_, slot)| slot.is_some()).count()
     }
 
     /// A copy of all entries.

@@ -6,6 +6,7 @@ pub mod Fits
 pub mod Indices
 pub mod Keys
 pub mod Listing
+pub mod Longest
 pub mod Meeting
 pub mod Moving
 pub mod Owners

@@ -19,7 +19,8 @@ use Rattle.std.proofs.lemmas.Map.Keys.{IsDistinct-IsPermutation, IsDistinct-head
 use Rattle.std.proofs.lemmas.Map.Views.{Contains-from_lookup, lookup-from_Contains}
 use Rattle.item_index.specs.declared.slot.Slot.{Slot}
 use Rattle.item_index.specs.AsMap.{as_map}
-use Rattle.item_index.specs.Keys.{Keys, IsListing}
+use Rattle.item_index.specs.Keys.{Keys, count_of, IsListing}
+use Rattle.item_index.proofs.Listing.{length-listing}
 use Rattle.partition_replica.specs.Inside.{items_in}
 use Rattle.partition_replica.proofs.Keys.{equal, equal_is, slot_in-items_in, tied}
 
@@ -34,6 +35,28 @@ equal_same x y is = tied x y ((Equal-is (order x y)).0 (sym (equal_is x y) ∙ i
 
 equal_laws : IsEquivalence equal
 equal_laws = subst IsEquivalence (λ i x y. sym (equal_is x y) i) (eq_by_cmp_equiv nat_list_cmp_total)
+
+-- sorted keys are distinct
+once_sorted : (es : List (List ℕ × Slot)) → T (is_sorted order es) → IsDistinct equal (keys_of es)
+unfolding IsDistinct
+once_sorted [] up = tt
+once_sorted (e ∷ es) up = (apart es (first _ _ up), once_sorted es (second _ _ up)) where
+  first : (a b : Bool) → T (a && b) → T a
+  first true b both = tt
+  first false b both = elim both [ ]
+
+  second : (a b : Bool) → T (a && b) → T b
+  second true b both = both
+  second false b both = elim both [ ]
+
+  differs : (r : Ordering) → T (is_lt r) → is_eq r ≡ false
+  differs Less below = refl
+  differs Equal below = elim below [ ]
+  differs Greater below = elim below [ ]
+
+  apart : (fs : List (List ℕ × Slot)) → T (below_all order e.0 fs) → AllByRecursion (λ y. equal e.0 y ≡ false) (keys_of fs)
+  apart [] low = tt
+  apart (f ∷ fs) low = (equal_is e.0 f.0 ∙ differs (order e.0 f.0) (first _ _ low), apart fs (second _ _ low))
 
 find_lookup : (q : List ℕ) (es : List (List ℕ × Slot)) → find order q es ≡ lookup (equal q) es
 find_lookup q [] = refl
@@ -81,3 +104,10 @@ items_sorted index xs ys listing moved up =
     let again : IsDistinct equal (keys_of ys) = IsDistinct-IsPermutation equal equal_laws.symm (keys_of xs) (keys_of ys) (IsPermutation-map (λ (e : List ℕ × Slot). e.0) xs ys moved) listing.once in
     same_entries order nat_list_cmp_total tied ys (items_in index) (rises ys again up) (map.entries_sorted (as_map order index))
     (λ q. find_lookup q ys ∙ same_lookup xs ys q listing.once again moved ∙ listing.slots q ∙ sym (slot_in-items_in index q))
+
+-- as many keys have an entry as there are items
+pub count-items_in : (index : Keys (List ℕ)) → IsDistinct equal (keys_of index) → count_of index ≡ length (items_in index)
+count-items_in index distinct = sym (length-listing equal equal_laws index distinct (items_in index) (record {
+  once = once_sorted (items_in index) (map.entries_sorted (as_map order index));
+  slots = λ q. sym (find_lookup q (items_in index)) ∙ slot_in-items_in index q;
+}))

@@ -22,6 +22,7 @@ mod coming;
 mod listing;
 mod moves;
 mod room;
+mod usage;
 
 /// The replica of a partition at one process.
 #[derive(Drop)]
