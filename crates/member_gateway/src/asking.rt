@@ -69,14 +69,17 @@ impl MemberWork {
         ensures goes { GoesQuietly self.old self.new }
     {
         match self.ask_own(caller) {
-            Err(_) => return self.calls.to_ask(caller),
-            Ok(None) => self.trace_own(caller),
+            Err(_) => self.calls.to_ask(caller),
+            Ok(None) => {
+                self.trace_own(caller);
+                self.see_traced(caller);
+            }
             Ok(Some(settled)) => {
                 self.settle(settled);
                 self.collect(links);
+                self.see_asked(caller);
             }
         }
-        self.see_own(caller);
     }
 
     fn ask_at<L: Links>(&mut self, links: &mut L, caller: u32, head: ProcessId)

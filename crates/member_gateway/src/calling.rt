@@ -6,7 +6,7 @@ ghost use Rattle.member_gateway.specs.Rules.{IsShown, end_of};
 ghost use Rattle.member_gateway.specs.Rules as rules;
 
 use crate::calls::Phase;
-use crate::kind::Kind;
+use crate::command::Command;
 use crate::work::MemberWork;
 use group_calls::Answer;
 use group_member::{CallStage, Member};
@@ -34,13 +34,13 @@ impl MemberWork {
         self.calls.begin(caller, key, hash);
     }
 
-    /// What the open call of a caller is.
-    pub(crate) fn kind_of(&self, caller: u32) -> Option<Kind> {
+    /// What the open call of a caller asks.
+    pub(crate) fn command_of(&self, caller: u32) -> Option<Command> {
         if !self.member.has_caller(caller) {
             return None;
         }
         let call = self.member.caller(caller).call()?;
-        Some(Kind::of(call.op().act()))
+        Some(Command::of(call.op().act()))
     }
 
     /// The end of a caller's call, if it can be shown: the call is over then.

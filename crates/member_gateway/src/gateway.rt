@@ -2,8 +2,11 @@ ghost use Rattle.std.specs.Prelude.{◌≡◌, IfOk};
 ghost use Rattle.group_types.specs.Names.{IsProcess};
 ghost use Rattle.group_member.specs.Opening.{opening_member};
 
+use crate::command::Command;
+use crate::ended::EndedCalls;
 use crate::kind::Kind;
 use crate::links::Links;
+use crate::outcome::Outcome;
 use crate::slots::{OwnCall, Slots};
 use crate::waiting::Waiting;
 use crate::work::MemberWork;
@@ -23,6 +26,7 @@ use std::marker::Model;
 pub struct MemberGateway {
     pub(crate) work: MemberWork,
     pub(crate) waiting: Waiting,
+    pub(crate) ended: EndedCalls,
     slots: Slots,
 }
 
@@ -44,6 +48,7 @@ impl MemberGateway {
         Ok(MemberGateway {
             work: MemberWork::new(alloc, shape, name)?,
             waiting: Waiting::new(alloc, index_of(shape, name).wrapping_mul(each), each)?,
+            ended: EndedCalls::new(),
             slots: Slots::new(alloc)?,
         })
     }
@@ -66,10 +71,12 @@ impl Gateway for MemberGateway {
 
     #[tactic(auto, using(crate::proofs::Opening::begins_open, crate::proofs::Opening::begins_fresh, crate::proofs::Opening::begins_keeps, crate::proofs::Opening::begins_lends, crate::proofs::Opening::begins_later, crate::proofs::Opening::same_keeps, crate::proofs::Opening::same_lends, crate::proofs::Opening::same_later))]
     fn begin(&mut self, op: Op) -> Result<Option<OwnCall>, AllocError> {
-        let Some(caller) = self.waiting.take(Kind::of(op.act()))? else {
+        let Some(caller) = self.waiting.take(Kind::of(Command::of(op.act())))? else {
+            drop(op);
             return Ok(None);
         };
         if !self.slots.is_closed(caller) || !self.work.may_begin(caller) {
+            drop(op);
             return Ok(None);
         }
         let turn = self.waiting.turn();
@@ -83,10 +90,11 @@ impl Gateway for MemberGateway {
         if !self.slots.is_lent(*call) {
             return None;
         }
-        let kind = self.work.kind_of(caller)?;
+        let command = self.work.command_of(caller)?;
         let end = self.work.take_end(caller)?;
         self.slots.close(caller);
-        self.waiting.give_back(caller, kind);
+        self.waiting.give_back(caller, Kind::of(command));
+        self.ended.note(command, Outcome::of(&end));
         Some(end)
     }
 

@@ -1,4 +1,4 @@
-use memc_table::Act;
+use crate::command::Command;
 
 /// What a call is, as far as the share of the callers goes that it may take.
 #[derive(Clone, Copy, PartialEq, Eq)]
@@ -8,9 +8,9 @@ pub(crate) enum Kind {
 }
 
 impl Kind {
-    pub(crate) fn of(act: &Act) -> Kind {
-        match act {
-            Act::Get { .. } => Kind::Get,
+    pub(crate) fn of(command: Command) -> Kind {
+        match command {
+            Command::Get => Kind::Get,
             _ => Kind::Change,
         }
     }

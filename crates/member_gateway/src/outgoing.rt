@@ -30,7 +30,9 @@ impl Outgoing {
     /// A frame goes to each of a set, or is kept for those that there is no memory for.
     pub(crate) fn post<L: Links>(&mut self, links: &mut L, to: u32, frame: Frame) {
         let to = put_to(links, self.shape, to, &frame);
-        if to != 0 {
+        if to == 0 {
+            drop(frame);
+        } else {
             self.held = Some(Held { frame, to });
         }
     }

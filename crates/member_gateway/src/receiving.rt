@@ -76,7 +76,9 @@ impl MemberWork {
         ensures goes { GoesQuietly self.old self.new }
     {
         let takes = self.takes_message(links, x, from, &message);
-        if !takes {
+        if takes {
+            drop(message);
+        } else {
             links.give_back(x, Frame::Message(message));
         }
         takes
@@ -138,6 +140,7 @@ impl MemberWork {
         ensures goes { GoesQuietly self.old self.new }
     {
         if !self.member.may_read(from) || !self.member.may_be_from(from, &request) {
+            drop(request);
             links.misfit(x);
             return true;
         }
@@ -162,6 +165,7 @@ impl MemberWork {
         ensures goes { GoesQuietly self.old self.new }
     {
         if !self.member.may_learn(&told) {
+            drop(told);
             links.misfit(x);
             return;
         }

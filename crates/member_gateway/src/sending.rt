@@ -119,7 +119,9 @@ impl MemberWork {
         let Some(message) = self.hand_out_one(x) else {
             return false;
         };
-        if !is_cut {
+        if is_cut {
+            drop(message);
+        } else {
             self.outgoing
                 .post(links, with(0, x), Frame::Message(message));
         }

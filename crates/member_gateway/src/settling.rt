@@ -57,7 +57,7 @@ impl MemberWork {
         let Some(to) = gateway_of(self.shape(), told.caller()) else {
             return;
         };
-        if let Answer::Retry(Cause::Block { .. }) = told.answer() {
+        if self.awaits_blocks() && matches!(told.answer(), Answer::Retry(Cause::Block { .. })) {
             self.parking.block(told.caller());
         }
         let to = with(0, index_of(self.shape(), to));

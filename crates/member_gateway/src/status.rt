@@ -2,7 +2,9 @@
 ghost use Rattle.std.specs.Prelude.{◌≡◌, length};
 ghost use Rattle.membership.specs.Members.{knows_dead};
 
+use crate::command::Command;
 use crate::gateway::MemberGateway;
+use crate::outcome::Outcome;
 use crate::sending::FLUSH;
 use crate::sets::{has, place_of};
 use crate::work::MemberWork;
@@ -55,6 +57,16 @@ impl MemberGateway {
         self.work.fence.unshown()
     }
 
+    /// How many calls of a command have ended so.
+    pub fn ended(&self, command: Command, outcome: Outcome) -> u64 {
+        self.ended.count(command, outcome)
+    }
+
+    /// How many pings were sent.
+    pub fn pings(&self) -> u64 {
+        self.work.fence.pinged()
+    }
+
     /// Since when the oldest answer waits to be shown, by the clock of its links.
     pub fn waits_since(&self) -> Option<u64> {
         self.work.fence.oldest().map(|answered| answered.since)
@@ -85,7 +97,7 @@ impl MemberWork {
     fn open_calls(&self) -> usize {
         let mut open: usize = 0;
         'callers: for caller in 0..group_types::CALLERS {
-            if self.kind_of(caller).is_some() {
+            if self.command_of(caller).is_some() {
                 open = open.saturating_add(1);
             }
         }

@@ -193,9 +193,11 @@ impl MemberWork {
         ensures goes { GoesQuietly self.old self.new }
     {
         if !self.member.may_read(from) {
+            drop(request);
             return Ok(());
         }
         if !self.member.may_be_from(from, &request) {
+            drop(request);
             return Ok(());
         }
         self.member.read(from, request)
@@ -216,9 +218,11 @@ impl MemberWork {
         ensures goes { GoesQuietly self.old self.new }
     {
         if !self.member.may_read(from) {
+            drop(told);
             return;
         }
         if !self.member.may_learn(&told) {
+            drop(told);
             return;
         }
         self.member.learn(from, told);

@@ -10,7 +10,7 @@ use crate::parking::Parking;
 use crate::sets::{many, with};
 use group_member::{CallStage, Member};
 use group_node::{index_of, process_at};
-use group_types::{CALLERS, ProcessId, Shape};
+use group_types::{CALLERS, Partition, ProcessId, Shape};
 use std::alloc::{AllocError, Global};
 use std::collections::VecDeque;
 use std::marker::Model;
@@ -99,20 +99,45 @@ impl MemberWork {
         ensures same { self.new ≡ self.old }
     {
         match stand_of(&self.member, caller) {
-            Stand::ToAsk => self.calls.to_ask(caller),
+            Stand::ToAsk | Stand::ToTrace => self.calls.to_ask(caller),
             Stand::Answered(pinged) => self.note_answer(caller, pinged),
             Stand::Waits => {}
         }
     }
 
-    /// The same of a call that was asked of the member's own process: where it came to nothing it rests.
-    pub(crate) fn see_own(&mut self, caller: u32)
+    /// The same of a call that the member's own process was asked: where nothing came of that yet it rests, as long as
+    /// something is to come.
+    pub(crate) fn see_asked(&mut self, caller: u32)
         ensures same { self.new ≡ self.old }
     {
         match stand_of(&self.member, caller) {
-            Stand::ToAsk => self.calls.rest(caller),
-            Stand::Answered(pinged) => self.note_answer(caller, pinged),
-            Stand::Waits => {}
+            Stand::ToAsk if self.awaits_more() => self.calls.rest(caller),
+            _ => self.see(caller),
+        }
+    }
+
+    /// Whether a call that was asked here waits for a message, or for an update to settle. Where k is 1 a block is rebuilt
+    /// at once, from what the process has alone.
+    fn awaits_more(&self) -> bool {
+        match self.shape().k() {
+            1 => self.member.replica(Partition(0)).waiting_count() > 0,
+            _ => true,
+        }
+    }
+
+    /// Whether a block is rebuilt from what other members have too.
+    pub(crate) fn awaits_blocks(&self) -> bool {
+        self.member.shape().k() > 1
+    }
+
+    /// The same of a call that was traced at the member's own process: where its fate isn't known yet it rests, and where
+    /// it is known to be gone it is asked again.
+    pub(crate) fn see_traced(&mut self, caller: u32)
+        ensures same { self.new ≡ self.old }
+    {
+        match stand_of(&self.member, caller) {
+            Stand::ToTrace => self.calls.rest(caller),
+            _ => self.see(caller),
         }
     }
 
@@ -160,8 +185,10 @@ impl MemberWork {
 }
 
 /// What is to be done for a call.
+#[derive(Clone, Copy)]
 enum Stand {
     ToAsk,
+    ToTrace,
     Answered(u64),
     Waits,
 }
@@ -171,7 +198,8 @@ fn stand_of(member: &Member, caller: u32) -> Stand {
         return Stand::Waits;
     }
     match member.caller(caller).call().map(|call| call.stage()) {
-        Some(CallStage::Unasked) | Some(CallStage::Unknown) => Stand::ToAsk,
+        Some(CallStage::Unasked) => Stand::ToAsk,
+        Some(CallStage::Unknown) => Stand::ToTrace,
         Some(CallStage::Answered { pinged, .. }) => Stand::Answered(*pinged),
         _ => Stand::Waits,
     }

@@ -19,6 +19,7 @@ mod refusing;
 mod stage;
 mod status;
 mod tokens;
+mod traffic;
 
 pub use greeting::{Greeting, process_of};
 pub use link_end::LinkEnd;
@@ -26,3 +27,4 @@ pub use link_event::LinkEvent;
 pub use links::MemberLinks;
 pub use port::{Arrival, Port};
 pub use tokens::{FIRST_LINK, LINK_PORT};
+pub use traffic::Traffic;

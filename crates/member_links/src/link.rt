@@ -6,6 +6,7 @@ mod linking;
 
 use crate::pipe::{Pipe, PipeFault};
 use crate::stage::Stage;
+use crate::traffic::Traffic;
 use edge_io::Sink;
 use link_frames::Frame;
 use outbox::Outbox;
@@ -108,6 +109,14 @@ impl Link {
         ensures up { IsTrue result → ¬ (IsAwaited self.now.stage) }
     {
         !self.is_awaited() && self.outbox.len() < MOST_WAITING
+    }
+
+    /// How much went over its stream: none where that is gone.
+    pub(crate) fn traffic(&self) -> Traffic {
+        match &self.pipe {
+            Some(pipe) => pipe.traffic(),
+            None => Traffic::none(),
+        }
     }
 
     /// The next frame.

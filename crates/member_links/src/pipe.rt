@@ -1,6 +1,7 @@
 ghost use Rattle.std.specs.Prelude.{◌≤◌, ◌≡◌, vec_len};
 
 use crate::heard::Heard;
+use crate::traffic::Traffic;
 use edge_io::{Failed, Sink};
 use group_types::Shape;
 use link_frames::{Frame, LinkFault, LinkReader, Next};
@@ -38,6 +39,7 @@ pub(crate) struct Pipe {
     ends: bool,
     writable: bool,
     greeting: Outbox,
+    traffic: Traffic,
     ghost full: { vec_len piece ≡ 65536 },
     ghost within: { start ≤ end },
     ghost inside: { end ≤ 65536 },
@@ -62,6 +64,7 @@ impl Pipe {
             ends: false,
             writable: false,
             greeting: Outbox::new(alloc),
+            traffic: Traffic::none(),
         })
     }
 
@@ -120,6 +123,7 @@ impl Pipe {
         }
         match self.stream.try_read(&mut self.piece) {
             Ok(Reading::Came(n)) => {
+                self.traffic.receive(n);
                 self.start = 0;
                 self.end = n;
                 self.readable = self.ends || n == PIECE;
@@ -163,9 +167,16 @@ impl Pipe {
     /// Writes what waits as far as the stream takes it: first what greets, then this.
     pub(crate) fn write_out(&mut self, outbox: &mut Outbox) -> Result<(), PipeFault> {
         if self.write_greeting()? && !outbox.is_empty() && self.writable {
+            let before = outbox.len();
             self.writable = write_to(&mut self.stream, outbox)?;
+            self.traffic.send(before.saturating_sub(outbox.len()));
         }
         Ok(())
+    }
+
+    /// How much went over it, what greets left out of what was sent.
+    pub(crate) fn traffic(&self) -> Traffic {
+        self.traffic
     }
 }
 

@@ -5,6 +5,7 @@ use crate::link_end::LinkEnd;
 use crate::link_event::LinkEvent;
 use crate::links::MemberLinks;
 use crate::stage::Stage;
+use crate::traffic::Traffic;
 
 #[tactic(auto, using(crate::proofs::Aging::aging))]
 impl MemberLinks {
@@ -27,6 +28,14 @@ impl MemberLinks {
     /// Whether the link to the member at an index is up.
     pub fn is_up(&self, x: u32) -> bool {
         matches!(self.stage(x), Stage::Up)
+    }
+
+    /// How much went over the link to the member at an index: none where it isn't up any more.
+    pub fn traffic(&self, x: u32) -> Traffic {
+        match self.link(x) {
+            Some(link) => link.traffic(),
+            None => Traffic::none(),
+        }
     }
 
     /// Whether no other member is waited for: each was linked once, or was cut.

@@ -1,5 +1,5 @@
-use group_types::ProcessId;
-use member_gateway::MemberGateway;
+use group_types::{Partition, ProcessId};
+use member_gateway::{Command, MemberGateway, Outcome, Usage};
 use member_links::MemberLinks;
 use ready_worker::Exchange;
 
@@ -22,6 +22,15 @@ pub(crate) trait Callers: Exchange<MemberLinks> {
 
     /// Whether the death of a process is taken.
     fn has_taken(&self, x: ProcessId) -> bool;
+
+    /// How many calls of a command have ended so.
+    fn ended(&self, command: Command, outcome: Outcome) -> u64;
+
+    /// How many pings were sent.
+    fn pings(&self) -> u64;
+
+    /// What the member's process keeps of a partition, if that is one of the group.
+    fn usage(&self, partition: Partition) -> Option<Usage>;
 }
 
 impl Callers for MemberGateway {
@@ -47,5 +56,17 @@ impl Callers for MemberGateway {
 
     fn has_taken(&self, x: ProcessId) -> bool {
         MemberGateway::has_taken(self, x)
+    }
+
+    fn ended(&self, command: Command, outcome: Outcome) -> u64 {
+        MemberGateway::ended(self, command, outcome)
+    }
+
+    fn pings(&self) -> u64 {
+        MemberGateway::pings(self)
+    }
+
+    fn usage(&self, partition: Partition) -> Option<Usage> {
+        MemberGateway::usage(self, partition)
     }
 }

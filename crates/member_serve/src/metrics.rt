@@ -1,5 +1,5 @@
 use crate::callers::Callers;
-use crate::names::{MOST_MEMBERS, count_of, has, name_at};
+use crate::names::{count_of, name_at};
 use crate::serving::Serving;
 use crate::tally::Tally;
 use std::alloc::AllocError;
@@ -21,6 +21,8 @@ const ACCEPTED: &str = "Clients that were accepted.";
 const REFUSED: &str = "Clients that were refused.";
 
 const BROKEN: &str = "Links that broke.";
+
+const PINGS: &str = "Rounds of pings by which answers were confirmed.";
 
 /// A number of a member, by the conventions of Prometheus.
 #[derive(Clone, Copy)]
@@ -51,45 +53,15 @@ impl Metric {
     }
 }
 
-/// What is told of each other member: 1 where it is so, 0 where it isn't.
-#[derive(Clone, Copy)]
-enum PeerMetric {
-    LinkUp,
-    Condemned,
-    DeathTaken,
-}
-
-impl PeerMetric {
-    fn name(self) -> &'static str {
-        match self {
-            PeerMetric::LinkUp => "cocytus_link_up",
-            PeerMetric::Condemned => "cocytus_member_condemned",
-            PeerMetric::DeathTaken => "cocytus_death_taken",
-        }
-    }
-
-    fn help(self) -> &'static str {
-        match self {
-            PeerMetric::LinkUp => "Whether this member is linked to the other.",
-            PeerMetric::Condemned => "Whether the other was said to be dead.",
-            PeerMetric::DeathTaken => "Whether the group goes on without the other.",
-        }
-    }
-}
-
 impl<R, W, G: Callers> Serving<'_, R, W, G> {
     /// What this member counts, in the text format of Prometheus.
     pub(crate) fn metrics(&self) -> Result<String, AllocError> {
         let mut text = self.info()?;
         self.put_all(&self.gauges(), &mut text)?;
         self.put_all(&self.counters(), &mut text)?;
-        'metrics: for metric in [
-            PeerMetric::LinkUp,
-            PeerMetric::Condemned,
-            PeerMetric::DeathTaken,
-        ] {
-            self.put_peers(metric, &mut text)?;
-        }
+        self.put_ended(&mut text)?;
+        self.put_partitions(&mut text)?;
+        self.put_all_peers(&mut text)?;
         Ok(text)
     }
 
@@ -118,16 +90,18 @@ impl<R, W, G: Callers> Serving<'_, R, W, G> {
     }
 
     // What only goes up.
-    fn counters(&self) -> [Metric; 3] {
+    fn counters(&self) -> [Metric; 4] {
         let Tally {
             accepted,
             refused,
             broken,
         } = self.tally;
+        let pings = self.worker.gateway().pings();
         [
             Metric::counter("cocytus_clients_accepted_total", ACCEPTED, accepted),
             Metric::counter("cocytus_clients_refused_total", REFUSED, refused),
             Metric::counter("cocytus_links_broken_total", BROKEN, broken),
+            Metric::counter("cocytus_pings_total", PINGS, pings),
         ]
     }
 
@@ -149,33 +123,6 @@ impl<R, W, G: Callers> Serving<'_, R, W, G> {
             "# HELP {name} {help}\n# TYPE {name} {kind}\n{name} {value}\n"
         )?;
         text.push_str(lines.as_str())
-    }
-
-    fn put_peers(&self, metric: PeerMetric, text: &mut String) -> Result<(), AllocError> {
-        let (name, help) = (metric.name(), metric.help());
-        let head = format!(in self.alloc; "# HELP {name} {help}\n# TYPE {name} gauge\n")?;
-        text.push_str(head.as_str())?;
-        'members: for x in 0..MOST_MEMBERS {
-            if self.is_peer(x) {
-                self.put_peer(metric, x, text)?;
-            }
-        }
-        Ok(())
-    }
-
-    fn put_peer(&self, metric: PeerMetric, x: u32, text: &mut String) -> Result<(), AllocError> {
-        let (name, peer) = (metric.name(), name_at(self.settings, x));
-        let value = u32::from(self.is_so(metric, x));
-        let line = format!(in self.alloc; "{name}{{peer=\"{peer}\"}} {value}\n")?;
-        text.push_str(line.as_str())
-    }
-
-    fn is_so(&self, metric: PeerMetric, x: u32) -> bool {
-        match metric {
-            PeerMetric::LinkUp => self.links.is_up(x),
-            PeerMetric::Condemned => has(self.condemned(), x),
-            PeerMetric::DeathTaken => self.has_taken(x),
-        }
     }
 
     /// Whether clients are served.

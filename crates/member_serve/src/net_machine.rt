@@ -8,6 +8,7 @@ use crate::ports::Ports;
 use crate::readiness::MemberReadiness;
 use crate::report::{Level, Report};
 use crate::serving::Serving;
+use crate::space::ToldSpace;
 use crate::tally::Tally;
 use crate::turn_clock::TurnClock;
 use group_config::{MemberKey, MemberSettings};
@@ -116,6 +117,7 @@ impl<R: Net + RandomSource, W: Report> NetMachine<'_, R, W> {
             said: 0,
             tally: Tally::new(),
             told: ToldDeaths::new(),
+            told_space: ToldSpace::new(),
             few_since: None,
             is_stuck: false,
         })

@@ -3,6 +3,7 @@ use crate::client_port::ClientPort;
 use crate::control::Control;
 use crate::deaths::ToldDeaths;
 use crate::readiness::MemberReadiness;
+use crate::space::ToldSpace;
 use crate::tally::Tally;
 use crate::turn_clock::TurnClock;
 use group_config::MemberSettings;
@@ -27,6 +28,7 @@ pub(crate) struct Serving<'s, R, W, G: Callers> {
     pub(crate) said: u32,
     pub(crate) tally: Tally,
     pub(crate) told: ToldDeaths,
+    pub(crate) told_space: ToldSpace,
     pub(crate) few_since: Option<u64>,
     pub(crate) is_stuck: bool,
 }

@@ -74,6 +74,12 @@ pub(crate) fn tell_taken<W: Report>(alloc: Global, report: &W, settings: &Member
     tell(report, Level::Notice, text);
 }
 
+/// Tells that there was no space for the values of so many more calls.
+pub(crate) fn tell_no_space<W: Report>(alloc: Global, report: &W, more: u64) {
+    let text = format!(in alloc; "no space: {more} more calls were refused for want of a free run");
+    tell(report, Level::Warning, text);
+}
+
 fn tell<W: Report>(report: &W, level: Level, line: Result<String, AllocError>) {
     if let Ok(line) = line {
         report.line(level, line.as_str());

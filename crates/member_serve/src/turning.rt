@@ -45,6 +45,7 @@ impl<R: Net + time::Clock, W: Report + Watch, G: Callers> Serving<'_, R, W, G> {
         self.lose_patience();
         self.tell_events();
         self.tell_deaths();
+        self.tell_space();
         self.end()
     }
 

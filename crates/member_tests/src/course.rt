@@ -14,6 +14,8 @@ pub(crate) enum Course {
     Count,
     /// A member ends while its clients wait.
     Lose(usize),
+    /// A head ends before it hears what the client of a member asked of it.
+    Succeed(usize),
     /// Members live on that are said to be dead.
     Haunt,
     /// Clients leave while their calls are open.
@@ -45,6 +47,7 @@ impl<G: TestGateway> Group<'_, G> {
             Course::Turns(turns) => self.play_turns(turns),
             Course::Count => self.count(),
             Course::Lose(lost) => self.lose(lost),
+            Course::Succeed(seat) => self.succeed(seat),
             Course::Haunt => self.haunt(),
             Course::Leave => self.leave(),
             Course::Hang => self.hang(),

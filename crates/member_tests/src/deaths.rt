@@ -46,6 +46,22 @@ impl<G: TestGateway> Group<'_, G> {
         self.read_back(6);
     }
 
+    /// The only client, at a member, asks for a change that the head never hears of, since it ends: the change is asked again
+    /// of the successor, though nothing else happens.
+    pub(crate) fn succeed(&mut self, seat: usize) {
+        let head = self.head();
+        let client = self.join(seat, 0, Kind::Counts);
+        self.crowd.set_counters(client);
+        self.settle();
+        self.crowd.say_raise(client);
+        self.turn(seat);
+        self.end(head);
+        self.say_dead(seat, head);
+        self.settle();
+        self.read_back(1);
+        self.crowd.expect_raised(1);
+    }
+
     /// Two that live are said to be dead, one of them the head, and don't hear of it: their clients hear nothing from then
     /// on.
     pub(crate) fn haunt(&mut self) {

@@ -35,6 +35,19 @@ fn keep_what_was_acknowledged_wherever_a_member_ends(rt: HostRuntime) {
 }
 
 #[test]
+fn ask_again_what_a_head_never_heard(rt: HostRuntime) {
+    for (shape, seat) in [
+        ((2, 2), 2),
+        ((2, 2), 3),
+        ((1, 1), 1),
+        ((1, 2), 1),
+        ((1, 2), 2),
+    ] {
+        plays(&rt, rt.alloc(), shape, 4, Course::Succeed(seat));
+    }
+}
+
+#[test]
 fn hear_nothing_of_ghosts(rt: HostRuntime) {
     plays(&rt, rt.alloc(), (3, 2), 3, Course::Haunt);
 }
