@@ -1,0 +1,91 @@
+-- Lines of a log and others, in texts that are put together.
+use Rattle.std.proofs.Common.{ℕ, ◌≡◌, Bool, true, false, cond, not, List, [], ◌∷◌, ◌++◌, map, refl, sym, ap, ap₂, ◌∙◌, append_assoc}
+use Rattle.std.specs.Prelude.{filter}
+use Rattle.group_calls.specs.declared.event.Answer.{Answer}
+use Rattle.group_calls.specs.declared.event.Answer.TheVariants as says
+use Rattle.group_calls.specs.declared.event.Cause.TheVariants.{Block, Pending}
+use Rattle.scenario_text.specs.Texts.{answer_text}
+use Rattle.law_told.specs.Lines.{Tells, is_log_line, text_of}
+
+abbrev pub is_other : List ℕ → Bool
+is_other line = not (is_log_line line)
+
+pub text-append : (xs ys : List (List ℕ)) → text_of (xs ++ ys) ≡ text_of xs ++ text_of ys
+text-append [] ys = refl
+text-append (x ∷ xs) ys = ap (λ (t : List ℕ). x ++ 10 ∷ t) (text-append xs ys) ∙ sym (append_assoc x (10 ∷ text_of xs) (text_of ys))
+
+filter-append : {X : Type 0} (p : X → Bool) (xs ys : List X) → filter p (xs ++ ys) ≡ filter p xs ++ filter p ys
+filter-append p [] ys = refl
+filter-append p (x ∷ xs) ys = by (p x) (filter-append p xs ys) where
+  by : (b : Bool) → filter p (xs ++ ys) ≡ filter p xs ++ filter p ys → cond b (x ∷ filter p (xs ++ ys)) (filter p (xs ++ ys)) ≡ cond b (x ∷ filter p xs) (filter p xs) ++ filter p ys
+  by true rest = ap (λ (zs : List _). x ∷ zs) rest
+  by false rest = rest
+
+map-append : {X Y : Type 0} (f : X → Y) (xs ys : List X) → map f (xs ++ ys) ≡ map f xs ++ map f ys
+map-append f [] ys = refl
+map-append f (x ∷ xs) ys = ap (λ (zs : List _). f x ∷ zs) (map-append f xs ys)
+
+-- lines none of which is of a log
+abbrev pub AreOthers : List (List ℕ) → Type 0
+AreOthers [] = Unit {0}
+AreOthers (line ∷ lines) = (is_log_line line ≡ false) × AreOthers lines
+
+pub others-append : (xs ys : List (List ℕ)) → AreOthers xs → AreOthers ys → AreOthers (xs ++ ys)
+others-append [] ys first more = more
+others-append (x ∷ xs) ys first more = (first.0, others-append xs ys first.1 more)
+
+others-log : (lines : List (List ℕ)) → AreOthers lines → filter is_log_line lines ≡ []
+others-log [] all = refl
+others-log (line ∷ lines) all = ap (λ (b : Bool). cond b (line ∷ filter is_log_line lines) (filter is_log_line lines)) all.0 ∙ others-log lines all.1
+
+others-kept : (lines : List (List ℕ)) → AreOthers lines → filter is_other lines ≡ lines
+others-kept [] all = refl
+others-kept (line ∷ lines) all =
+    ap (λ (b : Bool). cond (not b) (line ∷ filter is_other lines) (filter is_other lines)) all.0 ∙ ap (λ (ls : List (List ℕ)). line ∷ ls) (others-kept lines all.1)
+
+-- an answer is on no line of a log
+pub answer-other : (a : Answer) → is_log_line (answer_text a) ≡ false
+answer-other (says.Reply r) = refl
+answer-other (says.Ticket n) = refl
+answer-other (says.Retry (Pending d n)) = refl
+answer-other (says.Retry (Block b)) = refl
+answer-other (says.Stale call) = refl
+answer-other says.NotYet = refl
+answer-other says.NoSpace = refl
+answer-other says.Moved = refl
+answer-other says.Lost = refl
+answer-other says.Down = refl
+answer-other says.Idle = refl
+answer-other says.Stranger = refl
+answer-other says.Done = refl
+answer-other says.AlreadyDead = refl
+answer-other says.Gone = refl
+
+module _ {E : Type 0} (entry_text : E → List ℕ) where
+  -- nothing
+  pub tells-none : Tells entry_text [] [] []
+  tells-none = record { lines = []; written = refl; log = refl; others = refl }
+
+  -- one text behind another
+  pub tells-append : (t u : List ℕ) (es fs : List E) (said more : List (List ℕ)) → Tells entry_text t es said → Tells entry_text u fs more → Tells entry_text (t ++ u) (es ++ fs) (said ++ more)
+  tells-append t u es fs said more first then = record {
+    lines = first.lines ++ then.lines;
+    written = ap₂ (λ (a b : List ℕ). a ++ b) first.written then.written ∙ sym (text-append first.lines then.lines);
+    log = filter-append is_log_line first.lines then.lines ∙ ap₂ (λ (a b : List (List ℕ)). a ++ b) first.log then.log ∙ sym (map-append entry_text es fs);
+    others = filter-append is_other first.lines then.lines ∙ ap₂ (λ (a b : List (List ℕ)). a ++ b) first.others then.others;
+  }
+
+  -- lines that say something
+  pub tells-said : (said : List (List ℕ)) → AreOthers said → Tells entry_text (text_of said) [] said
+  tells-said said all = record { lines = said; written = refl; log = others-log said all; others = others-kept said all }
+
+  -- entries, whose texts are lines of a log
+  module _ (marked : (e : E) → is_log_line (entry_text e) ≡ true) where
+    pub tells-entries : (es : List E) → Tells entry_text (text_of (map entry_text es)) es []
+    tells-entries [] = tells-none
+    tells-entries (e ∷ es) = let rest = tells-entries es in record {
+      lines = entry_text e ∷ rest.lines;
+      written = ap (λ (t : List ℕ). entry_text e ++ 10 ∷ t) rest.written;
+      log = ap (λ (b : Bool). cond b (entry_text e ∷ filter is_log_line rest.lines) (filter is_log_line rest.lines)) (marked e) ∙ ap (λ (ls : List (List ℕ)). entry_text e ∷ ls) rest.log;
+      others = ap (λ (b : Bool). cond (not b) (entry_text e ∷ filter is_other rest.lines) (filter is_other rest.lines)) (marked e) ∙ rest.others;
+    }

@@ -1,0 +1,4 @@
+pub mod Clusters
+pub mod EraTexts
+pub mod Eras
+pub mod Lines

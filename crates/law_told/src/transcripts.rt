@@ -1,0 +1,14 @@
+ghost use Rattle.law_told.specs.EraTexts.{EraLinesTell, EraTranscriptsTell};
+
+/// A line of a script over eras writes the answer of its event, or how many deliveries it made or items it carried, and what
+/// was logged.
+#[tactic(auto, using(crate::proofs::EraTexts::era_lines_tell))]
+pub fn era_lines_tell()
+    ensures { EraLinesTell }
+{}
+
+/// The lines of its transcript that begin with `=` are the log over all eras in order.
+#[tactic(auto, using(crate::proofs::EraTexts::era_transcripts_tell))]
+pub fn era_transcripts_tell()
+    ensures { EraTranscriptsTell }
+{}
