@@ -5,6 +5,7 @@
 #![tactic(auto)]
 
 mod person;
+mod system;
 
 use edge_io::{ReadEdge, SystemClock, WriteEdge};
 use group_program::{Status, exit_of, run_program, tell};
@@ -15,7 +16,9 @@ use std::alloc::{AllocError, Global};
 use std::env::Args;
 use std::process::ExitCode;
 use std::{env, io};
+use system::System;
 use tcp_edge::TcpEdge;
+use watch_serve::NetWatcher;
 
 fn main(rt: HostRuntime) -> ExitCode {
     // Arguments that are no text name no command: they count as no words.
@@ -29,7 +32,10 @@ fn main(rt: HostRuntime) -> ExitCode {
     };
     let person = Person::new(rt);
     let clock = SystemClock::new(&rt);
-    let mut machine = NetMachine::new(rt.alloc(), &rt, &person);
+    let mut machine = System {
+        member: NetMachine::new(rt.alloc(), &rt, &person),
+        watcher: NetWatcher::new(rt.alloc(), &rt, &person),
+    };
     let mut port = ToldEdge::new(TcpEdge::new(&rt), &person);
     let status = run_program(
         &rt,

@@ -4,6 +4,7 @@ use member_serve::{Level, Report};
 use ready_worker::Watch;
 use std::net::SocketAddr;
 use std::{env, io};
+use watch_serve::WatchReport;
 
 /// The one who reads standard error. What is told there is no part of the output, and whether it could be written changes
 /// nothing.
@@ -61,6 +62,16 @@ impl Notice for Person {
 impl Report for Person {
     fn line(&self, level: Level, text: &str) {
         self.say_at(level, text);
+    }
+}
+
+impl WatchReport for Person {
+    fn warn(&self, text: &str) {
+        self.say_at(Level::Warning, text);
+    }
+
+    fn note(&self, text: &str) {
+        self.say_at(Level::Notice, text);
     }
 }
 

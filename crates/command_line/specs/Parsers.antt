@@ -34,5 +34,5 @@ abbrev pub name_rule : Rule
 name_rule = record (new_rule (codes "name")) { action = Some Set }
 
 -- a command that may have a name
-abbrev pub member_app : App
-member_app = with_rule (bare (codes "member")) name_rule
+abbrev pub named_app : Text → App
+named_app name = with_rule (bare name) name_rule

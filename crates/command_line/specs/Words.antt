@@ -5,9 +5,9 @@ use Rattle.std.specs.Str.Parse.{digits_value, without_leading_plus}
 use Rattle.clap.specs.ValueTests.{is_unsigned_in}
 use Rattle.clap.specs.Walk.{is_empty}
 use Rattle.clap.specs.Words.{App, Row, Text, fault_of, first_of, matches_of, one_of}
-use Rattle.command_line.specs.Parsers.{bare, member_app, most_32, most_64, number_app, session_app}
+use Rattle.command_line.specs.Parsers.{bare, most_32, most_64, named_app, number_app, session_app}
 use Rattle.command_line.specs.declared.command.Command.{Command}
-use Rattle.command_line.specs.declared.command.Command.TheVariants.{Frames, Make, Member, Play, PlayGroups, PlayRegroup, Serve, Session, Trial, Verify}
+use Rattle.command_line.specs.declared.command.Command.TheVariants.{Frames, Make, Member, Play, PlayGroups, PlayRegroup, Serve, Session, Trial, Verify, Watch}
 
 -- the number that a text writes in decimal digits, behind a plus or not
 abbrev pub number_up_to : ℕ → Text → Option ℕ
@@ -41,8 +41,8 @@ abbrev pub number_of : Text → List Text → Option ℕ
 number_of name words = if_taken (number_app name) words (number_at most_64 (matches_of (number_app name) words) (codes "number"))
 
 -- the name behind the first word, or none
-abbrev pub member_of : List Text → Option Command
-member_of words = if_taken member_app words (Some (Member (first_of (codes "name") (matches_of member_app words))))
+abbrev pub named_of : Text → List Text → Option (Option Text)
+named_of name words = if_taken (named_app name) words (Some (first_of (codes "name") (matches_of (named_app name) words)))
 
 abbrev pub command_at : Text → List Text → Option Command
 command_at word words =
@@ -52,7 +52,8 @@ command_at word words =
     else if bytes_eq word (codes "verify") then bare_of word Verify words
     else if bytes_eq word (codes "session") then session_of words
     else if bytes_eq word (codes "serve") then bare_of word Serve words
-    else if bytes_eq word (codes "member") then member_of words
+    else if bytes_eq word (codes "member") then option_map Member (named_of word words)
+    else if bytes_eq word (codes "watch") then option_map Watch (named_of word words)
     else if bytes_eq word (codes "make") then option_map Make (number_of word words)
     else if bytes_eq word (codes "trial") then option_map Trial (number_of word words)
     else if bytes_eq word (codes "frames") then bare_of word Frames words

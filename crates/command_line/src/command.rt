@@ -25,6 +25,10 @@ pub enum Command {
     Member {
         name: Option<Name>,
     },
+    /// Watches a member of such a group beside its program, by settings: that one of this name, or of the settings.
+    Watch {
+        name: Option<Name>,
+    },
     /// Makes the script of this number.
     Make {
         number: u64,

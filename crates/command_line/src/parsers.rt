@@ -1,7 +1,7 @@
 // The commands of `clap` that read the words behind the first.
 ghost use Rattle.std.specs.Prelude.{◌≡◌, false, IfOk};
 ghost use Rattle.clap.specs.Words.{app_of, rule_of};
-ghost use Rattle.command_line.specs.Parsers.{bare, member_app, name_rule, number_app, number_rule, session_app};
+ghost use Rattle.command_line.specs.Parsers.{bare, name_rule, named_app, number_app, number_rule, session_app};
 
 use clap::builder::ValueParser;
 use clap::{Arg, ArgAction, Command};
@@ -34,14 +34,14 @@ pub(crate) fn session<'a>(alloc: Global) -> Result<Command<'a>, AllocError>
 }
 
 /// A command that may have a name.
-pub(crate) fn member<'a>(alloc: Global) -> Result<Command<'a>, AllocError>
-    ensures { IfOk result (λ command. app_of command ≡ member_app) }
+pub(crate) fn maybe_named<'a>(alloc: Global, name: &'a str) -> Result<Command<'a>, AllocError>
+    ensures { IfOk result (λ command. app_of command ≡ named_app name.now) }
 {
-    bare(alloc, "member").arg(name(alloc))
+    bare(alloc, name).arg(any_name(alloc))
 }
 
 // An argument that may be left out: any text.
-fn name<'a>(alloc: Global) -> Arg<'a>
+fn any_name<'a>(alloc: Global) -> Arg<'a>
     ensures rule { rule_of result ≡ name_rule }
     ensures local { result.global ≡ false }
 {

@@ -2,7 +2,7 @@ ghost use Rattle.std.specs.Prelude.{◌≡◌, ◌≢◌, true, [], Some, None, 
 ghost use Rattle.std.specs.String.{string_bytes};
 ghost use Rattle.clap.specs.Words.{app_of, fault_of, first_of, found_of, is_simple_and_free, matches_of, rows_of};
 ghost use Rattle.command_line.specs.Parsers.{most_32, most_64};
-ghost use Rattle.command_line.specs.Words.{bare_of, command_of, member_of, number_at, number_of, session_of, session_with};
+ghost use Rattle.command_line.specs.Words.{bare_of, command_of, named_of, number_at, number_of, session_of, session_with};
 
 use crate::command::Command;
 use crate::fault::WordsFault;
@@ -27,6 +27,7 @@ pub fn read_words(alloc: Global, words: &[String]) -> Result<Command, WordsFault
         "session" => read_session(alloc, rest),
         "serve" => read_bare(alloc, "serve", Command::Serve, rest),
         "member" => read_member(alloc, rest),
+        "watch" => read_watch(alloc, rest),
         "make" => read_make(alloc, rest),
         "trial" => read_trial(alloc, rest),
         "frames" => read_bare(alloc, "frames", Command::Frames, rest),
@@ -78,12 +79,32 @@ fn session(
 }
 
 fn read_member(alloc: Global, words: &[String]) -> Result<Command, WordsFault>
-    ensures ok { IfOk result (λ command. member_of (map string_bytes words.now) ≡ Some command) }
-    ensures bad_words { IsErrOf result WordsFault.BadWords → member_of (map string_bytes words.now) ≡ None }
+    ensures ok { IfOk result (λ command. option_map Command.Member
+        (named_of (codes "member") (map string_bytes words.now)) ≡ Some command) }
+    ensures bad_words { IsErrOf result WordsFault.BadWords
+        → named_of (codes "member") (map string_bytes words.now) ≡ None }
 {
-    let matches = parse(parsers::member(alloc)?, words)?;
-    let name = name_in(alloc, &matches)?;
+    let name = read_name(alloc, "member", words)?;
     Ok(Command::Member { name })
+}
+
+fn read_watch(alloc: Global, words: &[String]) -> Result<Command, WordsFault>
+    ensures ok { IfOk result (λ command. option_map Command.Watch
+        (named_of (codes "watch") (map string_bytes words.now)) ≡ Some command) }
+    ensures bad_words { IsErrOf result WordsFault.BadWords
+        → named_of (codes "watch") (map string_bytes words.now) ≡ None }
+{
+    let name = read_name(alloc, "watch", words)?;
+    Ok(Command::Watch { name })
+}
+
+/// Reads the words of a command that may have a name.
+fn read_name(alloc: Global, name: &str, words: &[String]) -> Result<Option<Name>, WordsFault>
+    ensures ok { IfOk result (λ found. named_of name.now (map string_bytes words.now) ≡ Some found) }
+    ensures bad_words { IsErrOf result WordsFault.BadWords → named_of name.now (map string_bytes words.now) ≡ None }
+{
+    let matches = parse(parsers::maybe_named(alloc, name)?, words)?;
+    Ok(name_in(alloc, &matches)?)
 }
 
 /// The name among the arguments, if it is there.

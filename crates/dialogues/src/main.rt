@@ -2,15 +2,21 @@
 //! input has a line for each, with its name, the status that it must end with, the call that fails, if one does, and the
 //! words of the command line;
 //! each line is printed with what came of it. What must be written was told by another program than this one.
+//! Behind them stand rows of text, each with what it must give: texts of settings in `settings.rows`, and streams of
+//! frames of links in `links.rows`. Standard output has a line for each, those of the settings first.
 #![tactic(auto)]
 
 mod dialogue;
 mod fault;
+mod links;
 mod playing;
+mod settings;
 
 use dialogue::Dialogue;
 use playing::told;
-use std::io;
+use std::alloc::Global;
+use std::rt::Files;
+use std::{fs, io};
 
 fn main(rt: HostRuntime) -> io::Result<()> {
     for line in rt.lines(rt.alloc()) {
@@ -19,5 +25,16 @@ fn main(rt: HostRuntime) -> io::Result<()> {
         let text = told(&rt, rt.alloc(), &dialogue)?;
         println!(rt; "{line}: {text}")?;
     }
+    let rows = told_rows(&rt, rt.alloc())?;
+    print!(rt; "{rows}")?;
     Ok(())
+}
+
+/// A line for each row.
+fn told_rows<R: Files + AllocGlobal>(rt: &R, alloc: Global) -> io::Result<String> {
+    let texts = fs::read_to_string(rt, "settings.rows")?;
+    let streams = fs::read_to_string(rt, "links.rows")?;
+    let mut told = settings::told_each(alloc, &texts)?;
+    told.push_str(&links::told_each(alloc, &streams)?)?;
+    Ok(told)
 }

@@ -3,6 +3,8 @@ use Rattle.std.proofs.Common.{◌≡◌, inl, inr, List, ℕ, Option, Result, Ok
 use Rattle.toml.specs.Data.{Members}
 use Rattle.group_config.specs.MemberReading as member
 use Rattle.group_config.specs.MemberReading.{Answers, MemberComesOf}
+use Rattle.group_config.specs.Watching.{WatchComesOf, watch_of}
+use Rattle.group_config.specs.declared.watch_settings.WatchSettings.{WatchSettings}
 use Rattle.group_config.specs.Reading.{ComesOf, IsDocument, Tells, settings_of}
 use Rattle.group_config.specs.declared.fault.ConfigFault.{ConfigFault}
 use Rattle.group_config.specs.declared.member_fault.MemberFault.{MemberFault}
@@ -27,3 +29,12 @@ member_comes word text ms result document = by (member.settings_of word ms) refl
   by (Ok settings) are (inr is) = subst (MemberComesOf word text) (sym is) tt
   by (Err key) are (inl is) = subst (MemberComesOf word text) (sym is) (inr (ms, document, are))
   by (Err key) are (inr is) = subst (MemberComesOf word text) (sym is) tt
+
+-- and of how a member is watched
+pub watch_comes : (text : List ℕ) (ms : Members) (result : Result WatchSettings MemberFault) → IsDocument text ms → Answers (watch_of ms) result → WatchComesOf text result
+watch_comes text ms result document = by (watch_of ms) refl where
+  by : (checked : Result WatchSettings MemberKey) → watch_of ms ≡ checked → Answers checked result → WatchComesOf text result
+  by (Ok settings) are (inl is) = subst (WatchComesOf text) (sym is) (record { members = ms; document = document; are = are })
+  by (Ok settings) are (inr is) = subst (WatchComesOf text) (sym is) tt
+  by (Err key) are (inl is) = subst (WatchComesOf text) (sym is) (inr (ms, document, are))
+  by (Err key) are (inr is) = subst (WatchComesOf text) (sym is) tt

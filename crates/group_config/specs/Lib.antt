@@ -4,3 +4,4 @@ pub mod MemberReading
 pub mod MemberTable
 pub mod Reading
 pub mod Text
+pub mod Watching

@@ -5,6 +5,7 @@
 #![tactic(auto)]
 
 mod address;
+mod address_list;
 mod fault;
 mod known;
 mod member_entries;
@@ -22,8 +23,12 @@ mod settings;
 mod shape;
 mod text;
 mod values;
+mod watch_reading;
+mod watch_settings;
+mod watch_values;
 
 pub use address::Address;
+pub use address_list::AddressList;
 pub use fault::{ConfigFault, TextFault};
 pub use member_entry::MemberEntry;
 pub use member_fault::MemberFault;
@@ -35,3 +40,5 @@ pub use member_table::MemberTable;
 pub use reading::read_settings;
 pub use settings::Settings;
 pub use text::read_text;
+pub use watch_reading::read_watch_settings;
+pub use watch_settings::WatchSettings;

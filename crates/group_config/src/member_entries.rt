@@ -36,7 +36,7 @@ pub(crate) fn members_of(
 }
 
 /// The values of the list that a value is.
-fn items_of(value: Option<&Value>) -> Option<&Array>
+pub(crate) fn items_of(value: Option<&Value>) -> Option<&Array>
     ensures { option_map (λ v. array_view v.now) result ≡ option_and_then as_array (data_of value.entry) }
 {
     value?.as_array()

@@ -25,6 +25,12 @@ pub enum MemberKey {
     OneWord,
     /// There is a key that settings don't have.
     Unknown,
+    /// The table of how a member is watched isn't there, or is no table.
+    Watch,
+    WatchEtcd,
+    WatchSeconds,
+    /// That table has a key that it doesn't have.
+    WatchUnknown,
 }
 
 impl MemberKey {
@@ -59,8 +65,14 @@ impl MemberKey {
                 since two words that differ could split the group there"
             }
             MemberKey::Unknown => {
-                "the keys are group, k, m, blocks, block, members, name, order, patience and one_word"
+                "the keys are group, k, m, blocks, block, members, name, order, patience, one_word and watch"
             }
+            MemberKey::Watch => "watch is a table of the keys etcd and seconds",
+            MemberKey::WatchEtcd => {
+                "etcd is a list of 1 to 16 addresses of etcd, each a text of 1 to 255 bytes, as \"10.0.0.1:2379\""
+            }
+            MemberKey::WatchSeconds => "seconds is 2 to 60, and 3 where it is left out",
+            MemberKey::WatchUnknown => "the keys of watch are etcd and seconds",
         }
     }
 }
@@ -82,6 +94,10 @@ impl fmt::Display for MemberKey {
             MemberKey::Patience => f.write_str("patience"),
             MemberKey::OneWord => f.write_str("one_word"),
             MemberKey::Unknown => f.write_str("unknown"),
+            MemberKey::Watch => f.write_str("watch"),
+            MemberKey::WatchEtcd => f.write_str("watch.etcd"),
+            MemberKey::WatchSeconds => f.write_str("watch.seconds"),
+            MemberKey::WatchUnknown => f.write_str("watch.unknown"),
         }
     }
 }

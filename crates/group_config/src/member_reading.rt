@@ -21,7 +21,7 @@ use toml::{Table, Value};
 
 /// Reads the settings of a member, whose name is the word where there is one. A key that is wrong is told by the first
 /// check that fails: the text is TOML; then group, k, m, block, blocks, members, name, order, patience and one_word, each
-/// there if it is required, of its kind and within its range; then no other key.
+/// there if it is required, of its kind and within its range; then no other key but watch, which another call reads.
 pub fn read_member_settings(
     alloc: Global,
     text: &[u8],
@@ -89,7 +89,7 @@ fn behind_members(
         table,
         &[
             "group", "k", "m", "blocks", "block", "members", "name", "order", "patience",
-            "one_word",
+            "one_word", "watch",
         ],
     ) {
         return Err(bad(MemberKey::Unknown));

@@ -4,4 +4,5 @@ pub mod Program
 pub mod Serving
 pub mod Session
 pub mod Verifying
+pub mod Watching
 pub mod Words

@@ -89,6 +89,10 @@ key_line key.Name = codes "fault: config name\n"
 key_line key.Order = codes "fault: config order\n"
 key_line key.Patience = codes "fault: config patience\n"
 key_line key.OneWord = codes "fault: config one_word\n"
+key_line key.Watch = codes "fault: config watch\n"
+key_line key.WatchEtcd = codes "fault: config watch.etcd\n"
+key_line key.WatchSeconds = codes "fault: config watch.seconds\n"
+key_line key.WatchUnknown = codes "fault: config watch.unknown\n"
 
 -- that settings are refused at a key is the status and was written, or there was no memory
 pub record HasToldKey (key : MemberKey) (before now : List ℕ) (faults_before faults_now : ℕ) (status : Status) : Type 0 where

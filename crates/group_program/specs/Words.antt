@@ -1,6 +1,6 @@
 use Rattle.std.specs.Prelude.{Option, Some, ⊤}
 use Rattle.command_line.specs.declared.command.Command.{Command}
-use Rattle.command_line.specs.declared.command.Command.TheVariants.{Frames, Member, Play, PlayGroups, PlayRegroup, Serve, Session, Verify}
+use Rattle.command_line.specs.declared.command.Command.TheVariants.{Frames, Member, Play, PlayGroups, PlayRegroup, Serve, Session, Verify, Watch}
 
 -- the words ask for no command that reads its input
 abbrev pub ReadsNothing : Option Command → Type 0
@@ -11,10 +11,12 @@ ReadsNothing (Some Frames) = ⊥
 ReadsNothing (Some Verify) = ⊥
 ReadsNothing (Some Serve) = ⊥
 ReadsNothing (Some (Member _)) = ⊥
+ReadsNothing (Some (Watch _)) = ⊥
 ReadsNothing (Some (Session _ _ _ _)) = ⊥
 ReadsNothing _ = ⊤
 
--- the words ask for no member
+-- the words ask for no member, to be run or to be watched
 abbrev pub RunsNoMember : Option Command → Type 0
 RunsNoMember (Some (Member _)) = ⊥
+RunsNoMember (Some (Watch _)) = ⊥
 RunsNoMember _ = ⊤

@@ -1,19 +1,8 @@
+use crate::commands::usage_of;
 use group_types::{BadShape, ConfigKey};
 use scenario_play::Status;
 use scenario_play::status::Count;
 use std::alloc::{AllocError, Global};
-
-const COMMANDS: &str = "usage: cocytus_main play < SCRIPT
-       cocytus_main play_groups < SCRIPT
-       cocytus_main play_regroup < SCRIPT
-       cocytus_main verify < SCRIPT_AND_TRANSCRIPT
-       cocytus_main session <k> <m> <blocks> <block>
-       cocytus_main serve < SETTINGS
-       cocytus_main member [<name>] < SETTINGS
-       cocytus_main make <n>
-       cocytus_main trial <n>
-       cocytus_main frames < STREAM
-";
 
 const LINES: &str = "is none of these, with words one space apart, ended by a line feed alone:
 group <k> <m> <blocks> <block>                 the first line, and no other
@@ -71,7 +60,10 @@ const LONGEST_SETTINGS: &str = "settings have at most 65536 bytes\n";
 /// wrong.
 pub fn help_at(alloc: Global, words: &[String], status: Status) -> Result<String, AllocError> {
     match words.first() {
-        Some(word) if word.as_str() == "member" => help_of_member(alloc, status),
+        _ if matches!(status, Status::BadWords) => usage_of(alloc, words),
+        Some(word) if word.as_str() == "member" || word.as_str() == "watch" => {
+            help_of_member(alloc, status)
+        }
         _ => help_of_others(alloc, words, status),
     }
 }
@@ -92,7 +84,7 @@ fn help_of_member(alloc: Global, status: Status) -> Result<String, AllocError> {
             )
         }
         Status::BadConfig(_) => "".to_string(alloc),
-        Status::Cut => "the system failed at what all links need\n".to_string(alloc),
+        Status::Cut => "the system failed at what all connections need\n".to_string(alloc),
         Status::TooLong => LONGEST_SETTINGS.to_string(alloc),
         other => help_text(other).to_string(alloc),
     }
@@ -100,7 +92,11 @@ fn help_of_member(alloc: Global, status: Status) -> Result<String, AllocError> {
 
 fn help_of_others(alloc: Global, words: &[String], status: Status) -> Result<String, AllocError> {
     match status {
-        Status::BadLine(n) => format!(in alloc; "line {n} of the script {}", lines(words)),
+        Status::BadLine(n) => format!(in alloc;
+            "line {n} of the script {}{}",
+            lines(words),
+            behind_lines(words)
+        ),
         Status::BadFrame(at) => {
             format!(in alloc; "the frame at byte {at} of the input is none of a message\n")
         }
@@ -123,6 +119,15 @@ fn lines(words: &[String]) -> &'static str {
     }
 }
 
+/// What stands behind the script of a command.
+fn behind_lines(words: &[String]) -> &'static str {
+    match words.first() {
+        Some(word) if word.as_str() == "verify" =>
+            "Behind the script stand a line ==== and the transcript.\n",
+        _ => "",
+    }
+}
+
 /// Which limit the input of a command has.
 fn too_long(words: &[String]) -> &'static str {
     match words.first() {
@@ -135,7 +140,6 @@ fn too_long(words: &[String]) -> &'static str {
 
 fn help_text(status: Status) -> &'static str {
     match status {
-        Status::BadWords => COMMANDS,
         Status::BadCount(Count::Groups) => "there are 1 to 16 groups\n",
         Status::BadCount(Count::Nodes) => {
             "there are at least as many nodes as a group has processes, and at most 64\n"

@@ -4,6 +4,7 @@
 //! does to its machine.
 #![tactic(auto)]
 
+mod commands;
 mod ending;
 mod help;
 mod listing;
@@ -16,11 +17,14 @@ mod running;
 mod serving;
 mod serving_group;
 mod verifying;
+mod watching;
 
 pub use ending::exit_of;
 pub use group_server::{Notice, Settings, Silent};
 pub use help::help_at;
-pub use member_machine::{Machine, MemberEnd, MemberKey, MemberSettings, MemoryMachine};
+pub use member_machine::{
+    Machine, MemberEnd, MemberKey, MemberSettings, MemoryMachine, WatchSettings, Watcher,
+};
 pub use member_run::MemberRun;
 pub use member_stop::MemberStop;
 pub use notice::notice_of;

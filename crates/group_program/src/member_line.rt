@@ -53,6 +53,10 @@ fn key_line(key: MemberKey) -> &'static str
         MemberKey::Order => "fault: config order\n",
         MemberKey::Patience => "fault: config patience\n",
         MemberKey::OneWord => "fault: config one_word\n",
+        MemberKey::Watch => "fault: config watch\n",
+        MemberKey::WatchEtcd => "fault: config watch.etcd\n",
+        MemberKey::WatchSeconds => "fault: config watch.seconds\n",
+        MemberKey::WatchUnknown => "fault: config watch.unknown\n",
     }
 }
 

@@ -13,6 +13,7 @@ ghost use Rattle.scenario_play.specs.Played.{HasPlayedWhole};
 ghost use Rattle.group_program.specs.Member.{IsMember};
 ghost use Rattle.group_program.specs.Program.{HasCarriedOut, HasStopped};
 ghost use Rattle.group_program.specs.Serving.{HasServedWhole};
+ghost use Rattle.group_program.specs.Watching.{IsWatched};
 ghost use Rattle.group_program.specs.Words.{ReadsNothing, RunsNoMember};
 
 use crate::listing::list_frames;
@@ -20,11 +21,12 @@ use crate::running::run_member;
 use crate::serving::serve_session;
 use crate::serving_group::serve_by_settings;
 use crate::verifying::judge;
+use crate::watching::watch_member;
 use cluster_play::play_groups;
 use command_line::{Command, Name, WordsFault, read_words};
 use edge_io::{Clock, Sink, Source};
 use group_server::{Notice, ReadyListener};
-use member_machine::Machine;
+use member_machine::{Machine, Watcher};
 use regroup_play::play_regroup;
 use scenario_play::Status;
 use scenario_play::make::make;
@@ -36,14 +38,14 @@ use std::sync::Wait;
 use std::thread::Threads;
 
 /// Runs the command that the words after the program's name ask for: `play`, `play_groups`, `play_regroup`, `verify`,
-/// `session`, `serve`, `member`, `make`, `trial` or `frames`. Before the first connection of `serve` the notice tells what is
-/// served, and `member` runs on the machine.
+/// `session`, `serve`, `member`, `watch`, `make`, `trial` or `frames`. Before the first connection of `serve` the notice tells what
+/// is served, and `member` and `watch` run on the machine.
 pub fn run_program<
     R: Threads + Wait + Sync,
     S: Source,
     K: Sink,
     L: ReadyListener,
-    M: Machine,
+    M: Machine + Watcher,
     N: Notice,
     T: Clock,
 >(
@@ -80,6 +82,11 @@ where
         (outside (S.input source.old) (S.faults source.old) (K.held sink.old) (K.faults sink.old))
         (outside (S.input source.new) (S.faults source.new) (K.held sink.new) (K.faults sink.new)) result
         ⊎ (HasStopped (K.held sink.old) (K.held sink.new) result × (source.new ≡ source.old) × (machine.new ≡ machine.old)) }
+    ensures watch { (name : Option (List ℕ)) → command_of (map string_bytes words.now) ≡ Some (Command.Watch name)
+        → IsWatched M.watched machine.old machine.new name
+        (outside (S.input source.old) (S.faults source.old) (K.held sink.old) (K.faults sink.old))
+        (outside (S.input source.new) (S.faults source.new) (K.held sink.new) (K.faults sink.new)) result
+        ⊎ (HasStopped (K.held sink.old) (K.held sink.new) result × (source.new ≡ source.old) × (machine.new ≡ machine.old)) }
     ensures bad_words { result ≡ Status.BadWords → command_of (map string_bytes words.now) ≡ None }
     ensures read { result ≡ Status.ReadFault → Rose (S.faults source.old) (S.faults source.new) }
     ensures write { result ≡ Status.WriteFault → Rose (K.faults sink.old) (K.faults sink.new) }
@@ -105,7 +112,7 @@ fn run_command<
     S: Source,
     K: Sink,
     L: ReadyListener,
-    M: Machine,
+    M: Machine + Watcher,
     N: Notice,
     T: Clock,
 >(
@@ -138,6 +145,10 @@ where
         → IsMember M.ran machine.old machine.new name
         (outside (S.input source.old) (S.faults source.old) (K.held sink.old) (K.faults sink.old))
         (outside (S.input source.new) (S.faults source.new) (K.held sink.new) (K.faults sink.new)) result }
+    ensures watch { (name : Option (List ℕ)) → command ≡ Command.Watch name
+        → IsWatched M.watched machine.old machine.new name
+        (outside (S.input source.old) (S.faults source.old) (K.held sink.old) (K.faults sink.old))
+        (outside (S.input source.new) (S.faults source.new) (K.held sink.new) (K.faults sink.new)) result }
     ensures machine { RunsNoMember (Some command) → machine.new ≡ machine.old }
 {
     match command {
@@ -150,6 +161,7 @@ where
         Command::Frames => list_frames(alloc, source, sink),
         Command::Serve => serve_by_settings(rt, alloc, source, sink, listener, notice, clock),
         Command::Member { name } => run_member(alloc, text_of(&name), source, sink, machine),
+        Command::Watch { name } => watch_member(alloc, text_of(&name), source, sink, machine),
         Command::Session {
             k,
             m,

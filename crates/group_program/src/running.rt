@@ -79,14 +79,14 @@ fn given<S: Source>(
 }
 
 /// Tells a person at which key settings are refused.
-fn refuse<M: Machine>(machine: &M, stop: MemberStop) {
+pub(crate) fn refuse<M: Machine>(machine: &M, stop: MemberStop) {
     if let MemberStop::BadKey { key } = stop {
         machine.refuse(key);
     }
 }
 
 /// The status of a run that ended so.
-fn status_of(run: MemberRun) -> Status
+pub(crate) fn status_of(run: MemberRun) -> Status
     ensures { result ≡ status_of run }
 {
     match run.end {
@@ -100,7 +100,7 @@ fn status_of(run: MemberRun) -> Status
 }
 
 /// The status where no settings could be looked at.
-fn status_of_text(fault: TextFault) -> Status
+pub(crate) fn status_of_text(fault: TextFault) -> Status
     ensures { result ≡ status_of_text fault }
 {
     match fault {

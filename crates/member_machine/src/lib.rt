@@ -1,4 +1,5 @@
-//! A machine on which a member of a group can run: the trait `Machine`, and one in memory that runs nothing. Its
+//! A machine on which a member of a group can run, and what can watch it there: the traits `Machine` and `Watcher`, and one in
+//! memory that runs nothing. Its
 //! contract says what a run by settings may come to in the machine's own words, and which settings it may be given.
 //! Links, clients and the member itself are left to those who implement it.
 #![tactic(auto)]
@@ -6,8 +7,10 @@
 mod end;
 mod machine;
 mod memory_machine;
+mod watcher;
 
 pub use end::MemberEnd;
-pub use group_config::{MemberKey, MemberSettings};
+pub use group_config::{MemberKey, MemberSettings, WatchSettings};
 pub use machine::Machine;
 pub use memory_machine::MemoryMachine;
+pub use watcher::Watcher;

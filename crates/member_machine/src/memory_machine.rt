@@ -1,8 +1,9 @@
 use crate::end::MemberEnd;
 use crate::machine::Machine;
-use group_config::{MemberKey, MemberSettings};
+use crate::watcher::Watcher;
+use group_config::{MemberKey, MemberSettings, WatchSettings};
 
-/// A machine in memory: it runs nothing, ends as it is told to, and notes which member it was to run.
+/// A machine in memory: it runs nothing, ends as it is told to, and notes which member it was to run or to watch.
 #[derive(Debug, Drop)]
 pub struct MemoryMachine {
     end: MemberEnd,
@@ -20,7 +21,7 @@ impl MemoryMachine {
         MemoryMachine { end, asked: None }
     }
 
-    /// The index of the member that it was to run last.
+    /// The index of the member that it was to run or to watch last.
     pub fn asked(&self) -> Option<u32>
         ensures { result ≡ self.now.asked }
     {
@@ -40,4 +41,16 @@ impl Machine for MemoryMachine {
     }
 
     fn refuse(&self, _key: MemberKey) {}
+}
+
+impl Watcher for MemoryMachine {
+    ghost use Rattle.std.specs.Prelude.{◌≡◌, Some};
+
+    ghost watched = { λ before settings watch end now.
+        (end ≡ before.end) × (now.end ≡ before.end) × (now.asked ≡ Some settings.own) };
+
+    fn watch(&mut self, settings: &MemberSettings, _watch: &WatchSettings) -> MemberEnd {
+        self.asked = Some(settings.own);
+        self.end
+    }
 }

@@ -7,7 +7,7 @@ use std::test::Fail;
 #[test]
 fn each_end_but_done_is_explained(rt: HostRuntime) -> Result<(), Fail> {
     for (status, begin) in [
-        (Status::BadWords, "usage: cocytus_main play < SCRIPT\n"),
+        (Status::BadWords, "cocytus_main play < SCRIPT\n    plays "),
         (
             Status::BadLine(7),
             "line 7 of the script is none of these, ",
@@ -39,6 +39,24 @@ fn each_end_but_done_is_explained(rt: HostRuntime) -> Result<(), Fail> {
     }
     assert!(rt; help_at(rt.alloc(), &[], Status::Done)?.is_empty());
     assert!(rt; !help_at(rt.alloc(), &[], Status::BadShape(Field::Block))?.is_empty());
+    Ok(())
+}
+
+#[test]
+fn help_is_told_of_a_command(rt: HostRuntime) -> Result<(), Fail> {
+    for (word, begin) in [
+        (
+            "member",
+            "cocytus_main member [<name>] < SETTINGS\n    runs ",
+        ),
+        ("frames", "cocytus_main frames < STREAM\n    tells "),
+        ("--help", "cocytus_main play < SCRIPT\n    plays "),
+        ("--version", "cocytus_main 1, "),
+    ] {
+        let words = owned(rt.alloc(), &[word, "--help"])?;
+        let told = help_at(rt.alloc(), &words, Status::BadWords)?;
+        assert!(rt; told.starts_with(begin), "{word}");
+    }
     Ok(())
 }
 

@@ -1,9 +1,10 @@
 // Texts of settings, an empty line behind each. The first line of each is a comment, which names it. What is told of a
 // text is its name, and what it gives, or the key that is refused and what is allowed there. A text whose name begins
-// with `member` has the settings of a member, of the name behind `, as ` where that stands there, and each other the
-// settings of a served group.
+// with `member` has the settings of a member, of the name behind `, as ` where that stands there, one that begins with
+// `watch` those of what watches it, and each other the settings of a served group.
 mod member;
 mod served;
+mod watch;
 
 use std::alloc::{AllocError, Global};
 
@@ -39,6 +40,8 @@ fn given_by(alloc: Global, text: &str, name: &str) -> Result<String, AllocError>
     if name.starts_with("member") {
         let word = name.split_once(", as ").map(|(_, word)| word);
         member::told(alloc, text.as_bytes(), word)
+    } else if name.starts_with("watch") {
+        watch::told(alloc, text.as_bytes())
     } else {
         served::told(alloc, text.as_bytes())
     }

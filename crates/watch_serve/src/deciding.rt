@@ -1,0 +1,48 @@
+use crate::names::name_at;
+use crate::report::WatchReport;
+use crate::watching::Watching;
+use watch_rules::next_dead;
+
+impl<R, W: WatchReport> Watching<'_, R, W> {
+    /// Sees who is to be dead next, where etcd has answered for long enough.
+    pub(crate) fn judge(&mut self) {
+        self.next = None;
+        if self.trust.is_settled(self.now) {
+            let shape = self.settings.shape;
+            self.next = next_dead(
+                shape.k() as usize,
+                shape.m() as usize,
+                self.members.as_slice(),
+            );
+        }
+    }
+
+    /// Tells that the member stands in etcd.
+    pub(crate) fn tell_alive(&self) {
+        let name = name_at(self.settings, self.settings.own as usize);
+        if let Ok(text) = format!(in self.alloc; "{name} is alive in etcd") {
+            self.report.note(text.as_str());
+        }
+    }
+
+    /// Tells that one more is dead.
+    pub(crate) fn tell_condemned(&self) {
+        if let Some(x) = self.next {
+            let name = name_at(self.settings, x);
+            if let Ok(text) = format!(in self.alloc;
+                "{name} was seen and isn't alive: it is dead now"
+            ) {
+                self.report.warn(text.as_str());
+            }
+        }
+    }
+
+    /// Tells that etcd didn't answer for a time.
+    pub(crate) fn tell_gap(&self, gap: u64) {
+        if let Ok(text) = format!(in self.alloc;
+            "etcd didn't answer for {gap} ms: nobody more is dead for 10 s"
+        ) {
+            self.report.warn(text.as_str());
+        }
+    }
+}
