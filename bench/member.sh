@@ -1,6 +1,6 @@
 #!/bin/sh
-# Schedules of members side by side, each played on a World beside them, by hand: sh bench/member.sh [SCHEDULES [TURNS]]. The program is
-# built without a proof; it fails where the machine did anything otherwise.
+# Schedules of members side by side, each played on a World beside them, by hand: sh bench/member.sh [SCHEDULES [STEPS]]. The program is built
+# without a proof; it writes how often members did what, and fails where the machine did anything otherwise.
 set -eu
 top=$(cd "$(dirname "$0")/.." && pwd)
 work=$(mktemp -d)

@@ -144,7 +144,9 @@ def many_half_lines(link):
 
 
 # As many as a crowd ask for an item of 1 MiB again and again, and read nothing; then they leave. What each of them costs, and what is given back.
+# More than 300 MiB are moved first, by a server that other work on the machine slows, and calls wait for that.
 def many_read_nothing(link):
+    link.settimeout(120.0)
     ask(link, b"set large 0 0 1048576\r\n" + b"x" * 1_048_576 + b"\r\n", b"\r\n")
     held = resident()
     bad = [connect() for _ in range(300)]

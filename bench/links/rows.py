@@ -1,4 +1,4 @@
-"""The streams of crates/data_rows, worked out by the model and by hand: python3 bench/links/rows.py streams|told writes them, or what is told of each."""
+"""The streams of crates/dialogues, worked out by the model and by hand: python3 bench/links/rows.py streams|told writes them, or what is told of each."""
 import sys
 from model import ACTS, ANSWERS, REPLIES, crc32c, frame_of, u16, u32, u64, u8
 

@@ -41,7 +41,7 @@ class Connection:
     @classmethod
     async def open(cls, member, ledger):
         try:
-            reader, writer = await asyncio.open_connection("127.0.0.1", member.client)
+            reader, writer = await asyncio.open_connection(member.host, member.client)
         except OSError as error:
             raise Gone from error
         return cls(member, reader, writer, ledger)

@@ -13,14 +13,20 @@ class Wrong(Exception):
     """What a run must not show."""
 
 
-def free_ports(count):
-    """So many ports of the loopback that nobody uses, below those that the system gives to clients."""
+def own_host():
+    """An address of the loopback that no other program of these tests uses now."""
+    number = os.getpid()
+    return f"127.{1 + (number >> 16)}.{number >> 8 & 255}.{number & 255}"
+
+
+def free_ports(host, count):
+    """So many ports of an address that nobody uses, below those that the system gives to clients."""
     found = []
     while len(found) < count:
         port = random.randrange(10_000, 32_000)
         with socket.socket() as probe:
             try:
-                probe.bind(("127.0.0.1", port))
+                probe.bind((host, port))
             except OSError:
                 continue
         if port not in found:
@@ -31,8 +37,8 @@ def free_ports(count):
 class Member:
     """A member, and its program once it was started."""
 
-    def __init__(self, name, index, ports):
-        self.name, self.index = name, index
+    def __init__(self, name, index, host, ports):
+        self.name, self.index, self.host = name, index, host
         self.link, self.client, self.control = ports
         self.program, self.errors = None, None
         self.may_end = self.is_condemned = self.is_stopped = False
@@ -56,17 +62,18 @@ class Group:
         self.program, self.folder, self.k, self.m = program, folder, k, m
         self.block, self.blocks, self.patience = block, blocks, patience
         names = [f"d{n}" for n in range(k)] + [f"p{n}" for n in range(m)]
-        ports = free_ports(3 * len(names))
-        self.members = [Member(name, n, ports[3 * n:3 * n + 3]) for n, name in enumerate(names)]
+        self.host, self.key = own_host(), os.urandom(16).hex()
+        ports = free_ports(self.host, 3 * len(names))
+        self.members = [Member(name, n, self.host, ports[3 * n:3 * n + 3]) for n, name in enumerate(names)]
         self.words = []
 
     def settings(self, links):
         """The settings, with other ports for the links to some members."""
-        lines = [f'group = "{"6f1c7be2a05d4c1e" * 2}"', f"k = {self.k}", f"m = {self.m}", f"block = {self.block}", f"blocks = {self.blocks}",
+        lines = [f'group = "{self.key}"', f"k = {self.k}", f"m = {self.m}", f"block = {self.block}", f"blocks = {self.blocks}",
                  f"patience = {self.patience}", f"one_word = {'true' if self.k <= self.m else 'false'}"]
         for each in self.members:
-            lines += ["[[members]]", f'name = "{each.name}"', f'link = "127.0.0.1:{links.get(each.index, each.link)}"',
-                      f'client = "127.0.0.1:{each.client}"', f'control = "127.0.0.1:{each.control}"']
+            lines += ["[[members]]", f'name = "{each.name}"', f'link = "{self.host}:{links.get(each.index, each.link)}"',
+                      f'client = "{self.host}:{each.client}"', f'control = "{self.host}:{each.control}"']
         return "\n".join(lines) + "\n"
 
     def start(self, member, links=None, suffix=""):
@@ -92,8 +99,8 @@ class Group:
         until = time.monotonic() + STARTING
         for each in present:
             while "serves at" not in each.said():
-                if each.has_ended():
-                    raise Wrong(f"{each.name} ended with {each.program.returncode} at the start")
+                for ended in [ended for ended in present if ended.has_ended()]:
+                    raise Wrong(f"{ended.name} ended with {ended.program.returncode} at the start")
                 if time.monotonic() > until:
                     raise Wrong(f"{each.name} does not serve after {STARTING:.0f} s")
                 await asyncio.sleep(0.02)
@@ -126,7 +133,7 @@ class Group:
     async def ask(self, member, line, timeout=60.0):
         """An operator's line at a member, and the lines of its answer."""
         async def talk():
-            reader, writer = await asyncio.open_connection("127.0.0.1", member.control)
+            reader, writer = await asyncio.open_connection(self.host, member.control)
             writer.write(line.encode() + b"\n")
             lines = [(await reader.readline()).decode().rstrip("\n")]
             while line == "status" and lines[-1] not in ("end", ""):

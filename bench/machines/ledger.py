@@ -8,11 +8,14 @@ import json
 import time
 
 
+LARGEST = 1_048_576
+
+
 def size_of(seed, key, version, most):
     """How many bytes a version has: 0 to `most`, most of them few."""
     number = int.from_bytes(hashlib.blake2b(f"{seed} {key} {version}".encode(), digest_size=8).digest(), "big")
     part, number = number % 1000, number // 1000
-    limit = 0 if part < 40 else 120 if part < 760 else 4_096 if part < 960 else 65_536 if part < 997 else 1_048_576
+    limit = 0 if part < 40 else 120 if part < 760 else 4_096 if part < 960 else 65_536 if part < 992 else LARGEST
     if part == 999:
         return most
     return min(most, number % (limit + 1))
@@ -50,6 +53,8 @@ class Ledger:
         self.keys, self.calls, self.faults = {}, [], []
         self.sets = self.gets = self.refusals = self.ended = 0
         self.longest = 0.0
+        # Of the values that were set: how many have no byte, are above 64 KiB, and have the most bytes that there may be.
+        self.empty = self.large = self.largest = 0
 
     def value_of(self, key, version):
         return bytes_of(key, version, size_of(self.seed, key, version, self.most))
@@ -66,6 +71,11 @@ class Ledger:
                 call.low = held.acked
                 call.high = held.sent if held.owner == client else None
         return call
+
+    def note_size(self, size):
+        self.empty += size == 0
+        self.large += size > 65_536
+        self.largest += size == LARGEST
 
     def end(self, call, answer):
         """An answer came."""

@@ -9,8 +9,8 @@ A line of a record is a JSON list [client, call, key, value, begin, end, answer]
 
 A call without an end (null) may have acted at any moment since it began, or not at all. A call that was refused (its answer begins with
 "SERVER_ERROR") has not acted. The calls of each key are searched for an order that keeps their times and has these answers, by the algorithm of
-Wing and Gong with Lowe's memoization. A line is printed for each key that has none, or for which none was found within the limit; the status is 1
-where a key has none. It knows nothing of the program that made the records."""
+Wing and Gong with Lowe's memoization. A line is printed for each key that has none, or for which none was found within the limit, in seconds of a
+processor; the status is 1 where a key has none. It knows nothing of the program that made the records."""
 import json
 import sys
 import time
@@ -110,14 +110,14 @@ def is_linear(calls, limit=LIMIT):
         call.bit = 1 << at
     closed = [call for call in calls if not call.is_open()]
     open_calls = [call for call in calls if call.is_open() and call.kind != "get"]
-    front, until, steps = moments_of(closed), time.monotonic() + limit, 0
+    front, until, steps = moments_of(closed), time.process_time() + limit, 0
     state, taken, used, seen, chosen = None, 0, 0, Seen(), []
     if not closed:
         return True
     turns = next_calls(front, open_calls, used)
     while True:
         steps += 1
-        if steps % 4096 == 0 and time.monotonic() > until:
+        if steps % 4096 == 0 and time.process_time() > until:
             return None
         moment, call = next(turns, (None, None))
         if call is not None:

@@ -98,10 +98,10 @@ def run():
     slowest = 0.0
     for number in range(40):
         rows = made_by_a_register(rng, 1000)
-        began = time.monotonic()
+        began = time.process_time()
         if is_linear(calls_of(rows)) is not True:
             faults.append(f"made by a register, {number}: refused")
-        slowest = max(slowest, time.monotonic() - began)
+        slowest = max(slowest, time.process_time() - began)
         at = rng.choice([at for at, row in enumerate(rows) if row[0] == "incr" and isinstance(row[4], int)])
         if is_linear(calls_of(changed(rows, at, rows[at][4] + 500))) is not False:
             faults.append(f"made by a register, {number}, with one answer changed: taken")

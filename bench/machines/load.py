@@ -6,17 +6,17 @@ from connection import Connection, Gone, delete_of, get_of, incr_of, set_of
 from group import Wrong
 from ledger import Key
 
-COUNTERS, SHARED, SHARING = 4, 6, 8
+COUNTERS, SHARED, SHARING, READERS = 4, 6, 8, 24
 
 
 class Load:
     """`clients` of them, each with up to `depth` requests under way; `gets` of 100 requests on keys of their own are gets, and `leaving` of 1,000
-    times a client goes away in the middle."""
+    times a client goes away in the middle. All together send at most `pace` requests in a second, if that isn't 0."""
 
-    def __init__(self, group, ledger, seed, clients, depth, gets, leaving):
+    def __init__(self, group, ledger, seed, clients, depth, gets, leaving, pace=0):
         self.group, self.ledger, self.seed = group, ledger, seed
-        self.clients, self.depth, self.gets, self.leaving = clients, depth, gets, leaving
-        self.over, self.unique, self.at, self.broken, self.left = False, 0, {}, 0, 0
+        self.clients, self.depth, self.gets, self.leaving, self.pace = clients, depth, gets, leaving, pace
+        self.over, self.unique, self.at, self.broken, self.left = asyncio.Event(), 0, {}, 0, 0
         slots = 6 if clients < 15 else 3 if clients < 50 else 1
         self.own = [[self.new_key(n, slot, 0) for slot in range(slots)] for n in range(clients)]
         self.counters = [f"c{n}" for n in range(COUNTERS)]
@@ -39,7 +39,7 @@ class Load:
     async def run(self, number):
         """A client."""
         rng = random.Random(f"{self.seed} {number}")
-        while not self.over:
+        while not self.over.is_set():
             try:
                 # Some ask one that hangs.
                 members = self.group.answering() if rng.random() < 0.9 else self.group.living()
@@ -48,18 +48,28 @@ class Load:
                 at = await Connection.open(member, self.ledger)
                 try:
                     for _ in range(rng.randrange(1, 60)):
-                        if self.over:
+                        count = rng.randint(1, self.depth)
+                        await self.rest(count, rng)
+                        if self.over.is_set():
                             return
-                        await self.turn(at, number, rng)
+                        await self.turn(at, number, count, rng)
                 finally:
                     at.leave()
             except Gone:
                 self.broken += 1
                 await asyncio.sleep(0.01)
 
-    async def turn(self, at, number, rng):
-        """Some requests and their answers."""
-        requests = [self.draw(number, rng) for _ in range(rng.randint(1, self.depth))]
+    async def rest(self, count, rng):
+        """Waits as long as so many requests of this client have, so that all keep their pace; or until the load is over."""
+        if self.pace:
+            try:
+                await asyncio.wait_for(self.over.wait(), 2 * rng.random() * count * self.clients / self.pace)
+            except asyncio.TimeoutError:
+                pass
+
+    async def turn(self, at, number, count, rng):
+        """So many requests and their answers."""
+        requests = [self.draw(number, rng) for _ in range(count)]
         self.note_order(requests, number)
         try:
             if rng.randrange(1000) < self.leaving:
@@ -109,7 +119,9 @@ class Load:
             return get_of([self.ledger.begin(number, "get", key) for key in sorted(keys)])
         key = rng.choice(self.own[number])
         version = key.sent + 1
-        return set_of(self.ledger.begin(number, "set", key.name, version), version, self.ledger.value_of(key.name, version))
+        value = self.ledger.value_of(key.name, version)
+        self.ledger.note_size(len(value))
+        return set_of(self.ledger.begin(number, "set", key.name, version), version, value)
 
     def draw_shared(self, number, rng):
         key, part = rng.choice(self.shared), rng.randrange(10)
@@ -124,7 +136,8 @@ class Load:
 
     async def finish(self, tasks, within):
         """Ends the load, and waits until no answer has come for so long. The clients that wait for one at a member that lives then."""
-        self.over, late, ended = True, tasks, -1
+        self.over.set()
+        late, ended = tasks, -1
         while late and ended < self.ledger.ended:
             ended = self.ledger.ended
             _, late = await asyncio.wait(late, timeout=within)
@@ -136,20 +149,25 @@ class Load:
         return [f"client {n} waits at {self.at[n].name}, no answer for {within:.0f} s" for n in hanging] + [f"a client failed: {each!r}" for each in failed]
 
     async def read_back(self, within):
-        """Reads every key at each member that lives, 160 within a time; what counters show there."""
-        shown = {}
-        names = [*self.ledger.keys, *self.counters, *self.shared]
-        parts = [names[first:first + 160] for first in range(0, len(names), 160)]
-        for member in self.group.living():
-            for part in parts:
-                try:
-                    calls = await asyncio.wait_for(self.read_at(member, part), within)
-                except asyncio.TimeoutError:
-                    raise Wrong(f"{member.name} has not shown {len(part)} keys after {within:.0f} s") from None
-                for call in calls:
+        """Reads every key at each member that lives, 20 within a time; what counters show there. Where clients were few it is read by one at a time, so
+        that what nobody else wakes is seen."""
+        shown, names = {}, [*self.ledger.keys, *self.counters, *self.shared]
+        parts = [(member, names[first:first + 20]) for member in self.group.living() for first in range(0, len(names), 20)]
+        parts.reverse()
+
+        async def read():
+            while parts:
+                for call in await self.read_part(*parts.pop(), within):
                     if call.key in self.counters:
                         shown.setdefault(call.key, []).append(call.answer)
+        await asyncio.gather(*[read() for _ in range(1 if self.clients < 5 else READERS)])
         return shown
+
+    async def read_part(self, member, names, within):
+        try:
+            return await asyncio.wait_for(self.read_at(member, names), within)
+        except asyncio.TimeoutError:
+            raise Wrong(f"{member.name} has not shown {len(names)} keys after {within:.0f} s") from None
 
     async def read_at(self, member, names):
         """The gets of some keys at a member. Where it lets its clients go, since the others are slow, they come again."""
@@ -157,7 +175,7 @@ class Load:
             calls = [self.ledger.begin(1000 + member.index, "get", key) for key in names]
             try:
                 at = await Connection.open(member, self.ledger)
-                await at.exchange([get_of(calls[n:n + 20]) for n in range(0, len(calls), 20)])
+                await at.exchange([get_of(calls)])
                 at.leave()
                 return calls
             except Gone:

@@ -2,28 +2,9 @@
 import asyncio
 import signal
 
-from connection import Connection, Gone, get_of, set_of
 from group import Wrong
-from relay import Relay
-
-LATEST_WORD = 0.5
-
-
-async def pause(run, most):
-    await asyncio.sleep(run.rng.random() * most)
-
-
-async def word_of(run, members):
-    """Says after a while, at one that lives, that members are dead."""
-    await pause(run, LATEST_WORD)
-    at = run.rng.choice(run.group.answering())
-    run.notes.append(f"word at {at.name}")
-    await run.group.condemn(members, at)
-
-
-async def kill_one(run, member):
-    run.notes.append(f"kill {member.name}")
-    run.group.kill(member)
+from links import LINKED
+from steps import LATEST_WORD, condemn_at_another, haunt, kill_one, kill_slowly, pause, word_of
 
 
 async def kill(run):
@@ -62,30 +43,6 @@ async def kill_in_word(run):
     await word_of(run, [first, second])
 
 
-async def haunt(run, ghost):
-    """Clients ask a condemned member that goes on: it may answer nothing. Those that it has not let go 4 s behind its patience are counted."""
-    async def ask(delay):
-        await asyncio.sleep(delay)
-        try:
-            at = await Connection.open(ghost, run.ledger)
-        except Gone:
-            return
-        names = sorted(run.ledger.keys)
-        own = run.load.new_key(2000 + ghost.index, int(delay * 10), 0)
-        asked, made = run.ledger.begin(-2, "get", run.rng.choice(names)), run.ledger.begin(own.owner, "set", own.name, 1)
-        requests = [get_of([asked]), set_of(made, 1, run.ledger.value_of(own.name, 1))]
-        try:
-            await asyncio.wait_for(at.exchange(requests), run.group.patience + 4)
-        except Gone:
-            pass
-        except asyncio.TimeoutError:
-            run.kept += 1
-        for call in [call for call in (asked, made) if call.end is not None]:
-            run.ledger.fault(call, f"{ghost.name} is condemned, and answers")
-        at.leave()
-    await asyncio.gather(*[ask(delay) for delay in (0, run.rng.random(), run.group.patience + 1)])
-
-
 async def stop_and_go_on(run):
     """Stops a member with SIGSTOP, says that it is dead, and lets it go on."""
     ghost = run.rng.choice(run.group.members)
@@ -110,39 +67,8 @@ async def stop_and_go_on(run):
 async def condemn_living(run):
     """Says that a member is dead that lives, and has its clients."""
     ghost = run.rng.choice(run.group.members)
-    at = run.rng.choice([each for each in run.group.answering() if each is not ghost])
-    run.notes.append(f"condemn {ghost.name} at {at.name}")
-    await run.group.condemn([ghost], at)
-    await run.group.taken(ghost)
+    await condemn_at_another(run, ghost)
     await haunt(run, ghost)
-
-
-async def relay_of(run):
-    """A relay between two members, at the settings of the one that connects."""
-    a, b = sorted(run.rng.sample(range(len(run.group.members)), 2))
-    run.relay, run.ends = Relay(run.group.members[b].link), (run.group.members[a], run.group.members[b])
-    return {(a, b): await run.relay.open()}
-
-
-async def cut(run):
-    """Cuts the link between two members, and says that one of them is dead."""
-    way = run.rng.choice(["cut", "cut for ever", "stall and cut"])
-    names = " ".join(each.name for each in run.ends)
-    run.notes.append(f"{way} {names}")
-    if way == "stall and cut":
-        run.relay.stall()
-        await pause(run, 1.0)
-    run.relay.cut(is_last=way == "cut for ever")
-    await pause(run, 1.0)
-    ghost = run.rng.choice(run.ends)
-    at = run.rng.choice([each for each in run.group.answering() if each is not ghost])
-    run.notes.append(f"condemn {ghost.name} at {at.name}")
-    await run.group.condemn([ghost], at)
-    await run.group.taken(ghost)
-    await haunt(run, ghost)
-    for each, other in (run.ends, run.ends[::-1]):
-        if each is not ghost and each.name != at.name and f"the link to {other.name} broke" not in each.said():
-            run.notes.append(f"{each.name} has not said that its link to {other.name} broke")
 
 
 async def again(run):
@@ -185,12 +111,6 @@ async def slow(run):
         await killing
 
 
-async def kill_slowly(run, member):
-    await pause(run, run.seconds / 2)
-    await kill_one(run, member)
-    await word_of(run, [member])
-
-
 async def absent(run):
     """A member never came: it was condemned before the load, and others are killed as far as the group can lose them."""
     others = [each for each in run.group.members if not each.may_end]
@@ -200,5 +120,5 @@ async def absent(run):
         await pause(run, run.seconds / 4)
 
 
-PLANS = {"kill": kill, "kill in the word": kill_in_word, "stop and go on": stop_and_go_on, "condemn a living one": condemn_living, "cut a link": cut,
-         "start again": again, "slow": slow, "leave": kill, "absent": absent}
+PLANS = {"kill": kill, "kill in the word": kill_in_word, "stop and go on": stop_and_go_on, "condemn a living one": condemn_living, "start again": again,
+         "slow": slow, "leave": kill, "absent": absent, **LINKED}

@@ -7,9 +7,12 @@ import linear
 from group import Group
 from ledger import Ledger
 from load import Load
-from plans import PLANS, relay_of
+from links import relays_of
+from plans import PLANS
 
 FINISH, READING, LINEAR = 60.0, 240.0, 5.0
+# Requests in a second, of all clients; at 0 as fast as they are answered.
+PACES = (0, 50, 100, 100, 200, 200, 200, 400, 400, 800, 800, 1600)
 
 
 class Run:
@@ -24,12 +27,13 @@ class Run:
         block = self.rng.choice(blocks)
         self.group = Group(program, folder, k, m, block, 2**26 // block)
         self.ledger = Ledger(seed, most)
-        self.seconds = 3.0 + 4.0 * self.rng.random()
+        self.seconds = 2.0 + 3.0 * self.rng.random()
         # No more than 400 requests under way: a build with checks answers some 100 a second.
         clients, depth = self.rng.choice([(1, 16), (4, 4), (4, 16), (12, 4), (12, 16), (30, 1), (30, 4), (80, 1), (80, 4), (200, 1), (200, 2)])
-        self.load = Load(self.group, self.ledger, seed, clients, depth, self.rng.choice([10, 50, 90]), 100 if self.plan == "leave" else 0)
+        gets, leaving = self.rng.choice([10, 50, 90]), 100 if self.plan == "leave" else 0
+        self.load = Load(self.group, self.ledger, seed, clients, depth, gets, leaving, self.rng.choice(PACES))
         self.notes, self.faults, self.undecided, self.kept = [], [], 0, 0
-        self.relay, self.ends = None, None
+        self.relays = {}
 
     async def play(self):
         try:
@@ -53,7 +57,7 @@ class Run:
             self.keep()
 
     async def start(self):
-        relays = await relay_of(self) if self.plan == "cut a link" else None
+        relays = await relays_of(self)
         absent = self.rng.choice(self.group.members) if self.plan == "absent" else None
         if absent is not None:
             self.notes.append(f"without {absent.name}")
@@ -70,13 +74,17 @@ class Run:
         """Whether it was right, its plan, and what is summed up."""
         calls = self.ledger.calls
         told = sum(call.kind == "incr" and call.key in self.load.counters and call.end is not None for call in calls)
-        return {"right": int(not self.faults), "plan": self.plan, "folder": self.folder, "sets": self.ledger.sets, "gets": self.ledger.gets,
-                "refused": self.ledger.refusals, "counted": told, "open": sum(call.end is None for call in calls),
-                "keys": len({call.key for call in calls}), "undecided": self.undecided, "kept": self.kept, "longest": self.ledger.longest}
+        ledger, load = self.ledger, self.load
+        return {"right": int(not self.faults), "plan": self.plan, "folder": self.folder, "sets": ledger.sets, "gets": ledger.gets,
+                "refused": ledger.refusals, "counted": told, "open": sum(call.end is None for call in calls),
+                "keys": len({call.key for call in calls}), "undecided": self.undecided, "kept": self.kept, "longest": ledger.longest,
+                "empty": ledger.empty, "large": ledger.large, "largest": ledger.largest, "clients": load.clients, "depth": load.depth,
+                "unpaced": int(not load.pace)}
 
     def line(self):
         made = f"{self.plan}: {', '.join(self.notes)}" if self.notes else self.plan
-        drawn = (f"{self.load.clients} clients, {self.load.depth} deep, values to {self.ledger.most}, {self.load.gets} of 100 gets, "
+        pace = f"{self.load.pace} a second" if self.load.pace else "unpaced"
+        drawn = (f"{self.load.clients} clients, {self.load.depth} deep, {pace}, values to {self.ledger.most}, {self.load.gets} of 100 gets, "
                  f"blocks of {self.group.block}")
         verdict = "right" if not self.faults else f"WRONG: {self.faults[0][:300]}"
         return (f"| {self.seed} | {made} | {drawn} | {self.ledger.sets} | {self.ledger.gets} | {1000 * self.ledger.longest:.0f} | "

@@ -81,6 +81,42 @@ def check_pages(members):
     print("promtool finds nothing at fault with six pages", flush=True)
 
 
+def numbers(members, name):
+    """What a member tells at /metrics: a number by its name with its labels."""
+    lines = [line for line in page(members.controls[name], "/metrics")[1].splitlines() if not line.startswith("#")]
+    return {metric: int(value) for metric, value in (line.rsplit(" ", 1) for line in lines)}
+
+
+def total(members, names, metric):
+    """The sum of what some members tell of all that begins so."""
+    return sum(value for name in names for key, value in numbers(members, name).items() if key.startswith(metric))
+
+
+def check_counts(members):
+    """Twenty sets, three deletes and twenty-five gets are counted where they were asked, and their items where they are."""
+    for i in range(20):
+        line_of(members.clients["d0"], b"set key%d 0 0 9\r\n123456789\r\n" % i)
+    for i in range(3):
+        line_of(members.clients["d2"], b"delete key%d\r\n" % i)
+    for i in range(25):
+        line_of(members.clients["p1"], b"get key%d\r\n" % i)
+    data = [name for name in members.controls if name.startswith("d")]
+    for name, metric, wanted in (
+        ("d0", 'cocytus_calls_total{command="set",result="done"}', 20),
+        ("d2", 'cocytus_calls_total{command="delete",result="done"}', 3),
+        ("p1", 'cocytus_calls_total{command="get",result="done"}', 17),
+        ("p1", 'cocytus_calls_total{command="get",result="refused"}', 8),
+    ):
+        if numbers(members, name)[metric] != wanted:
+            raise Wrong(f"{metric} of {name} is {numbers(members, name)[metric]} instead of {wanted}")
+    for names in data, ["p0"], ["p1"]:
+        await_that(f"17 items at {names}", 5, lambda: total(members, names, "cocytus_items") == 17)
+        await_that(f"all applied at {names}", 5, lambda: total(members, names, "cocytus_updates_unfinished") == 0)
+    if total(members, data, "cocytus_free_run_longest_bytes") >= 4 * 4096 * 4096 or not total(members, data, "cocytus_link_sent_bytes_total"):
+        raise Wrong("no space is taken, or nothing was sent")
+    print("calls, items and space are counted right", flush=True)
+
+
 def check_health(members, what, others):
     """All are healthy but these."""
     wanted = {name: others.get(name, 200) for name in members.controls}
@@ -128,6 +164,7 @@ def main():
         try:
             members.start()
             check_pages(members)
+            check_counts(members)
             prometheus = start_prometheus(examples, folder)
             run(members, examples)
             print("all right")
