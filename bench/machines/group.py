@@ -4,7 +4,8 @@ import os
 import random
 import socket
 import subprocess
-import time
+
+from limits import within
 
 STARTING = 120.0
 
@@ -96,25 +97,30 @@ class Group:
             absent.may_end = True
             await self.reach(present[0])
             await self.condemn([absent], present[0])
-        until = time.monotonic() + STARTING
         for each in present:
-            while "serves at" not in each.said():
-                for ended in [ended for ended in present if ended.has_ended()]:
-                    raise Wrong(f"{ended.name} ended with {ended.program.returncode} at the start")
-                if time.monotonic() > until:
-                    raise Wrong(f"{each.name} does not serve after {STARTING:.0f} s")
-                await asyncio.sleep(0.02)
+            await self.await_that(STARTING, f"{each.name} serves", self.serves(each, present))
+
+    async def serves(self, member, present):
+        while "serves at" not in member.said():
+            for ended in [each for each in present if each.has_ended()]:
+                raise Wrong(f"{ended.name} ended with {ended.program.returncode} at the start")
+            await asyncio.sleep(0.02)
+
+    async def await_that(self, seconds, what, work):
+        try:
+            return await within(seconds, work)
+        except asyncio.TimeoutError:
+            raise Wrong(f"not within {seconds:.0f} s: {what}") from None
 
     async def reach(self, member):
         """Waits until a member hears its operators."""
-        until = time.monotonic() + STARTING
-        while True:
-            try:
-                return await self.ask(member, "status")
-            except OSError:
-                if member.has_ended() or time.monotonic() > until:
-                    raise
-                await asyncio.sleep(0.05)
+        async def heard():
+            while not member.has_ended():
+                try:
+                    return await self.ask(member, "status")
+                except OSError:
+                    await asyncio.sleep(0.05)
+        await self.await_that(STARTING, f"{member.name} hears its operators", heard())
 
     def living(self):
         """The members that were neither killed nor condemned."""
@@ -130,7 +136,7 @@ class Group:
         member.program.kill()
         member.program.wait()
 
-    async def ask(self, member, line, timeout=60.0):
+    async def ask(self, member, line):
         """An operator's line at a member, and the lines of its answer."""
         async def talk():
             reader, writer = await asyncio.open_connection(self.host, member.control)
@@ -140,7 +146,7 @@ class Group:
                 lines.append((await reader.readline()).decode().rstrip("\n"))
             writer.close()
             return lines
-        return await asyncio.wait_for(talk(), timeout)
+        return await self.await_that(60.0, f"{member.name} answers to: {line}", talk())
 
     async def condemn(self, members, at):
         """Says that members are dead, at one that lives."""
@@ -152,26 +158,27 @@ class Group:
         if lines != ["taken"]:
             raise Wrong(f"{at.name} answers to the death of {names}: {lines}")
 
-    async def taken(self, member, within=60.0):
+    async def taken(self, member):
         """Waits until all that live have taken the death of a member."""
-        until = time.monotonic() + within
-        for each in self.answering():
-            while not any(line.startswith("taken ") and member.name in line.split() for line in await self.ask(each, "status")):
-                if time.monotonic() > until:
-                    raise Wrong(f"{each.name} has not taken the death of {member.name} after {within:.0f} s")
+        async def has_taken(at):
+            while not any(line.startswith("taken ") and member.name in line.split() for line in await self.ask(at, "status")):
                 await asyncio.sleep(0.02)
+        for each in self.answering():
+            await self.await_that(60.0, f"{each.name} takes the death of {member.name}", has_taken(each))
 
-    async def idle(self, within=30.0):
+    async def idle(self):
         """Waits until no call is left at those that live, once all clients are gone. What is left there else."""
-        left, until = [], time.monotonic() + within
-        for each in self.living():
-            lines = await self.ask(each, "status")
-            while not {"clients 0", "calls 0", "parked 0", "answers 0"} <= set(lines):
-                if time.monotonic() > until:
-                    left.append(f"{each.name} has left, with no client: {', '.join(lines[2:-1])}")
-                    break
+        lines, left = {}, []
+
+        async def is_idle(at):
+            while not {"clients 0", "calls 0", "parked 0", "answers 0"} <= set(lines.setdefault(at.name, [])):
+                lines[at.name] = await self.ask(at, "status")
                 await asyncio.sleep(0.1)
-                lines = await self.ask(each, "status")
+        for each in self.living():
+            try:
+                await within(30.0, is_idle(each))
+            except asyncio.TimeoutError:
+                left.append(f"{each.name} has left, with no client: {', '.join(lines[each.name][2:-1])}")
         return left
 
     def faults(self):

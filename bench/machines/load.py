@@ -5,6 +5,7 @@ import random
 from connection import Connection, Gone, delete_of, get_of, incr_of, set_of
 from group import Wrong
 from ledger import Key
+from limits import within
 
 COUNTERS, SHARED, SHARING, READERS = 4, 6, 8, 24
 
@@ -28,10 +29,15 @@ class Load:
         return key
 
     async def open_counters(self, member):
-        """Sets the counters to 0 at a member, before the load."""
-        at = await Connection.open(member, self.ledger)
-        await at.exchange([set_of(self.ledger.begin(-1, "set", key, 0), 0, b"0") for key in self.counters])
-        at.leave()
+        """Sets the counters to 0 at a member, before the load. Where it lets its clients go a set may act later: others are counters then."""
+        while True:
+            try:
+                at = await Connection.open(member, self.ledger)
+                await at.exchange([set_of(self.ledger.begin(-1, "set", key, 0), 0, b"0") for key in self.counters])
+                return at.leave()
+            except Gone:
+                self.counters = [f"{key}-" for key in self.counters]
+                await asyncio.sleep(0.1)
 
     def start(self):
         return [asyncio.create_task(self.run(n), name=f"client {n}") for n in range(self.clients)]
@@ -134,21 +140,29 @@ class Load:
             return incr_of(self.ledger.begin(number, "incr", key, 1))
         return delete_of(self.ledger.begin(number, "delete", key))
 
-    async def finish(self, tasks, within):
+    async def finish(self, tasks, seconds):
         """Ends the load, and waits until no answer has come for so long. The clients that wait for one at a member that lives then."""
         self.over.set()
         late, ended = tasks, -1
         while late and ended < self.ledger.ended:
             ended = self.ledger.ended
-            _, late = await asyncio.wait(late, timeout=within)
+            late = await self.late(late, seconds)
         hanging = [n for n, task in enumerate(tasks) if task in late and self.at[n] in self.group.living()]
         for task in late:
             task.cancel()
         done = await asyncio.gather(*tasks, return_exceptions=True)
         failed = [each for each in done if isinstance(each, Exception)]
-        return [f"client {n} waits at {self.at[n].name}, no answer for {within:.0f} s" for n in hanging] + [f"a client failed: {each!r}" for each in failed]
+        return [f"client {n} waits at {self.at[n].name}, no answer for {seconds:.0f} s" for n in hanging] + [f"a client failed: {each!r}" for each in failed]
 
-    async def read_back(self, within):
+    async def late(self, tasks, seconds):
+        """The tasks that have not ended within a time."""
+        try:
+            await within(seconds, asyncio.wait(tasks))
+        except asyncio.TimeoutError:
+            pass
+        return [each for each in tasks if not each.done()]
+
+    async def read_back(self, seconds):
         """Reads every key at each member that lives, 20 within a time; what counters show there. Where clients were few it is read by one at a time, so
         that what nobody else wakes is seen."""
         shown, names = {}, [*self.ledger.keys, *self.counters, *self.shared]
@@ -157,17 +171,17 @@ class Load:
 
         async def read():
             while parts:
-                for call in await self.read_part(*parts.pop(), within):
+                for call in await self.read_part(*parts.pop(), seconds):
                     if call.key in self.counters:
                         shown.setdefault(call.key, []).append(call.answer)
         await asyncio.gather(*[read() for _ in range(1 if self.clients < 5 else READERS)])
         return shown
 
-    async def read_part(self, member, names, within):
+    async def read_part(self, member, names, seconds):
         try:
-            return await asyncio.wait_for(self.read_at(member, names), within)
+            return await within(seconds, self.read_at(member, names))
         except asyncio.TimeoutError:
-            raise Wrong(f"{member.name} has not shown {len(names)} keys after {within:.0f} s") from None
+            raise Wrong(f"{member.name} has not shown {len(names)} keys after {seconds:.0f} s") from None
 
     async def read_at(self, member, names):
         """The gets of some keys at a member. Where it lets its clients go, since the others are slow, they come again."""

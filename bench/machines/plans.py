@@ -120,5 +120,7 @@ async def absent(run):
         await pause(run, run.seconds / 4)
 
 
+# Those in which clients ask a member that has to let them go.
+HAUNTING = ("stop and go on", "condemn a living one", "cut a link")
 PLANS = {"kill": kill, "kill in the word": kill_in_word, "stop and go on": stop_and_go_on, "condemn a living one": condemn_living, "start again": again,
          "slow": slow, "leave": kill, "absent": absent, **LINKED}

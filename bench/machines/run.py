@@ -8,7 +8,7 @@ from group import Group
 from ledger import Ledger
 from load import Load
 from links import relays_of
-from plans import PLANS
+from plans import HAUNTING, PLANS
 
 FINISH, READING, LINEAR = 60.0, 240.0, 5.0
 # Requests in a second, of all clients; at 0 as fast as they are answered.
@@ -25,7 +25,9 @@ class Run:
         # A lost value is decoded block by block: where values are large, blocks of 256 bytes would make a loss last a minute.
         most, blocks = self.rng.choice([(4_096, [256, 1024, 4096]), (65_536, [1024, 4096, 16_384]), (1_048_576, [16_384, 65_536])])
         block = self.rng.choice(blocks)
-        self.group = Group(program, folder, k, m, block, 2**26 // block)
+        # Members let their clients go soon where that is waited for; else a machine that other work has would make them.
+        patience = 5 if self.plan in HAUNTING else 60
+        self.group = Group(program, folder, k, m, block, 2**26 // block, patience)
         self.ledger = Ledger(seed, most)
         self.seconds = 2.0 + 3.0 * self.rng.random()
         # No more than 400 requests under way: a build with checks answers some 100 a second.
