@@ -43,10 +43,10 @@ python3 "$here/hostile/hostile.py" 127.0.0.1 21202 "$(cat "$work/d2.pid")"
 echo "p1 reads nothing for 10 s, and five members are loaded:"
 for name in d0 d1 d2 d3 p0; do resident $name; done; echo
 kill -STOP "$(cat "$work/p1.pid")"
-"$work/load" 127.0.0.1:21200,127.0.0.1:21201,127.0.0.1:21202,127.0.0.1:21203,127.0.0.1:21204 --connections 30 --threads 2 --depth 16 --gets 50 --size 100000 --seconds 12 > "$work/loaded" 2>&1 & load=$!
+"$work/load" 127.0.0.1:21200,127.0.0.1:21201,127.0.0.1:21202,127.0.0.1:21203,127.0.0.1:21204 --connections 30 --threads 2 --depth 16 --gets 50 --size 100000 --keys 200 --seconds 12 > "$work/loaded" 2>&1 & load=$!
 sleep 10
 for name in d0 d1 d2 d3 p0; do resident $name; done; echo
 kill -CONT "$(cat "$work/p1.pid")"
-wait $load
+wait $load || { cat "$work/loaded"; exit 1; }
 cut -d' ' -f1-12,15-24 "$work/loaded"
 for name in d0 d1 d2 d3 p0; do resident $name; done; echo
