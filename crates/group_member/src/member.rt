@@ -1,5 +1,6 @@
-ghost use Rattle.std.specs.Prelude.{◌≡◌, ◌<◌, ◌↔◌, IsTrue, IfOk};
+ghost use Rattle.std.specs.Prelude.{◌≡◌, ℕ, ◌<◌, ◌↔◌, IsTrue, IfOk};
 ghost use Rattle.group_types.specs.Names.{IsProcess};
+ghost use Rattle.group_types.specs.declared.process.ProcessId.TheVariants.{DataNode, ParityNode};
 ghost use Rattle.membership.specs.Members.{knows_dead};
 ghost use Rattle.group_run.specs.Applying.{replica_of};
 ghost use Rattle.group_wire.specs.State.{opening_group};
@@ -83,6 +84,15 @@ impl Member {
         ensures { result.now.replica ≡ replica_of self.now.node.process partition.0 }
     {
         self.node.replica(partition)
+    }
+
+    /// The number of the last block session that its process opened: 0 at a data process.
+    pub fn last_session(&self) -> u64
+        ensures parity { (i : ℕ) → self.now.node.process.name ≡ ParityNode i
+            → result ≡ self.now.node.process.as_leader.last_session }
+        ensures data_process { (d : ℕ) → self.now.node.process.name ≡ DataNode d → result ≡ 0 }
+    {
+        self.node.last_session()
     }
 
     /// Whether the member has cut a process.

@@ -1,5 +1,6 @@
-ghost use Rattle.std.specs.Prelude.{◌≡◌, ◌+◌, ◌<◌, ◌≤◌, IfOk, length};
+ghost use Rattle.std.specs.Prelude.{◌≡◌, ℕ, ◌+◌, ◌<◌, ◌≤◌, IfOk, length};
 ghost use Rattle.group_types.specs.Dimensions.{space_of};
+ghost use Rattle.group_types.specs.declared.process.ProcessId.TheVariants.{DataNode, ParityNode};
 ghost use Rattle.erasure_code.specs.Spaces.{bytes_at};
 ghost use Rattle.group_run.specs.Applying.{replica_of};
 ghost use Rattle.group_run.specs.Shown.{process_stamp};
@@ -35,6 +36,15 @@ impl Node {
         ensures { result ≡ (replica_of self.now.node.process partition.0).applied }
     {
         self.replica(partition).applied()
+    }
+
+    /// The number of the last block session that a parity process opened, 0 at a data process.
+    pub fn last_session(&self) -> u64
+        ensures parity { (i : ℕ) → self.now.node.process.name ≡ ParityNode i
+            → result ≡ self.now.node.process.as_leader.last_session }
+        ensures data_process { (d : ℕ) → self.now.node.process.name ≡ DataNode d → result ≡ 0 }
+    {
+        self.process.last_session()
     }
 
     /// The bytes of a run of its space.

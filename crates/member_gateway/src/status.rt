@@ -1,5 +1,6 @@
 // What the program of a member sees of it.
-ghost use Rattle.std.specs.Prelude.{◌≡◌, length};
+ghost use Rattle.std.specs.Prelude.{◌≡◌, ℕ, length};
+ghost use Rattle.group_types.specs.declared.process.ProcessId.TheVariants.{DataNode, ParityNode};
 ghost use Rattle.membership.specs.Members.{knows_dead};
 
 use crate::command::Command;
@@ -65,6 +66,15 @@ impl MemberGateway {
     /// How many pings were sent.
     pub fn pings(&self) -> u64 {
         self.work.fence.pinged()
+    }
+
+    /// How many block sessions its process has opened, each of which rebuilds a block of every lost space: none at a data process.
+    pub fn sessions(&self) -> u64
+        ensures parity { (i : ℕ) → self.now.member.node.process.name ≡ ParityNode i
+            → result ≡ self.now.member.node.process.as_leader.last_session }
+        ensures data_process { (d : ℕ) → self.now.member.node.process.name ≡ DataNode d → result ≡ 0 }
+    {
+        self.work.member.last_session()
     }
 
     /// Since when the oldest answer waits to be shown, by the clock of its links.

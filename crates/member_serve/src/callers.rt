@@ -29,6 +29,9 @@ pub(crate) trait Callers: Exchange<MemberLinks> {
     /// How many pings were sent.
     fn pings(&self) -> u64;
 
+    /// How many block sessions the member's process has opened.
+    fn sessions(&self) -> u64;
+
     /// What the member's process keeps of a partition, if that is one of the group.
     fn usage(&self, partition: Partition) -> Option<Usage>;
 }
@@ -64,6 +67,10 @@ impl Callers for MemberGateway {
 
     fn pings(&self) -> u64 {
         MemberGateway::pings(self)
+    }
+
+    fn sessions(&self) -> u64 {
+        MemberGateway::sessions(self)
     }
 
     fn usage(&self, partition: Partition) -> Option<Usage> {

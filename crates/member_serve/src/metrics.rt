@@ -24,6 +24,8 @@ const BROKEN: &str = "Links that broke.";
 
 const PINGS: &str = "Rounds of pings by which answers were confirmed.";
 
+const REBUILDS: &str = "Rebuilds that were begun here, each of a block of every lost space.";
+
 /// A number of a member, by the conventions of Prometheus.
 #[derive(Clone, Copy)]
 struct Metric {
@@ -90,18 +92,19 @@ impl<R, W, G: Callers> Serving<'_, R, W, G> {
     }
 
     // What only goes up.
-    fn counters(&self) -> [Metric; 4] {
+    fn counters(&self) -> [Metric; 5] {
         let Tally {
             accepted,
             refused,
             broken,
         } = self.tally;
-        let pings = self.worker.gateway().pings();
+        let gateway = self.worker.gateway();
         [
             Metric::counter("cocytus_clients_accepted_total", ACCEPTED, accepted),
             Metric::counter("cocytus_clients_refused_total", REFUSED, refused),
             Metric::counter("cocytus_links_broken_total", BROKEN, broken),
-            Metric::counter("cocytus_pings_total", PINGS, pings),
+            Metric::counter("cocytus_pings_total", PINGS, gateway.pings()),
+            Metric::counter("cocytus_rebuilds_total", REBUILDS, gateway.sessions()),
         ]
     }
 
