@@ -57,6 +57,9 @@ impl<R, W: WatchReport> Watching<'_, R, W> {
     }
 
     fn take_found(&mut self, id: Option<u64>) {
+        if !self.lease.holds {
+            self.tell_alive();
+        }
         if !self.lease.holds || self.lease.id != id {
             self.lease = Lease::found(id, self.now, self.watch.seconds);
         }
