@@ -114,7 +114,20 @@ def check_counts(members):
         await_that(f"all applied at {names}", 5, lambda: total(members, names, "cocytus_updates_unfinished") == 0)
     if total(members, data, "cocytus_free_run_longest_bytes") >= 4 * 4096 * 4096 or not total(members, data, "cocytus_link_sent_bytes_total"):
         raise Wrong("no space is taken, or nothing was sent")
+    if total(members, members.controls, "cocytus_rebuilds_total"):
+        raise Wrong("something was rebuilt before a loss")
     print("calls, items and space are counted right", flush=True)
+
+
+def check_rebuilds(members, living):
+    """Items of a member that is dead are read from blocks that are rebuilt, by the first parity process alone."""
+    for i in range(3, 20):
+        if line_of(members.clients["d0"], b"get key%d\r\n" % i) != f"VALUE key{i} 0 9":
+            raise Wrong(f"key{i} isn't read behind the loss")
+    counts = {name: numbers(members, name)["cocytus_rebuilds_total"] for name in living}
+    if not counts.pop("p0") or any(counts.values()):
+        raise Wrong(f"blocks were rebuilt elsewhere than at p0, or nowhere: {counts}")
+    print("rebuilds are counted where they are made", flush=True)
 
 
 def check_health(members, what, others):
@@ -145,6 +158,7 @@ def run(members, examples):
     check_health(members, "d1 is killed", {"d1": 0})
     members.say("p1", "d1")
     await_alerts("d1 was said to be dead", ["MemberLost d1"])
+    check_rebuilds(members, [name for name in members.controls if name != "d1"])
     members.say("d0", "p0")
     lost = ["MemberLost d1", "MemberLost p0", "NoLossLeft", "CondemnedRuns p0"]
     await_alerts("p0, which lives, was said to be dead", lost)
