@@ -1,5 +1,6 @@
 ghost use Rattle.std.specs.Prelude.{◌≡◌};
-ghost use Rattle.watch_rules.specs.Judging.{IsJudged, count_dead, count_living, first_missing};
+ghost use Rattle.std.specs.List.{position};
+ghost use Rattle.watch_rules.specs.Judging.{count_dead, count_living, is_missing, judged};
 
 use crate::standing::Standing;
 
@@ -7,59 +8,32 @@ use crate::standing::Standing;
 /// may lose m members: the first that was there once, isn't any more and isn't dead yet, where at least k others live, and
 /// no more than m are dead with it.
 pub fn next_dead(k: usize, m: usize, members: &[Standing]) -> Option<usize>
-    ensures { IsJudged k m members.now result }
+    ensures { result ≡ judged k m members.now }
 {
-    if count_living(members) < k {
-        return None;
+    if k <= count_living(members) && count_dead(members) < m {
+        first_missing(members)
+    } else {
+        None
     }
-    if count_dead(members) >= m {
-        return None;
-    }
-    first_missing(members)
 }
 
 /// How many live.
 fn count_living(members: &[Standing]) -> usize
     ensures { result ≡ count_living members.now }
 {
-    let mut left = members;
-    let mut count = 0usize;
-    'left: while let Some((first, rest)) = left.split_first() {
-        if first.is_living() {
-            count += 1;
-        }
-        left = rest;
-    }
-    count
+    members.iter().filter(|member| member.is_living()).count()
 }
 
 /// How many are dead.
 fn count_dead(members: &[Standing]) -> usize
     ensures { result ≡ count_dead members.now }
 {
-    let mut left = members;
-    let mut count = 0usize;
-    'left: while let Some((first, rest)) = left.split_first() {
-        if first.dead {
-            count += 1;
-        }
-        left = rest;
-    }
-    count
+    members.iter().filter(|member| member.dead).count()
 }
 
 /// The index of the first that is missing.
 fn first_missing(members: &[Standing]) -> Option<usize>
-    ensures { result ≡ first_missing members.now }
+    ensures { result ≡ position is_missing members.now }
 {
-    let mut left = members;
-    let mut at = 0usize;
-    'left: while let Some((first, rest)) = left.split_first() {
-        if first.is_missing() {
-            return Some(at);
-        }
-        left = rest;
-        at += 1;
-    }
-    None
+    members.iter().position(|member| member.is_missing())
 }

@@ -1,6 +1,5 @@
 //! Who of a group is dead, by what an engine for agreement keeps of its members: the judgement as a value. The contract says
-//! who may be added to the dead, and that somebody is where somebody may be. What is kept of members, and when this is
-//! asked, is left to others.
+//! who is added to the dead, if anybody is. What is kept of members, and when this is asked, is left to others.
 #![tactic(auto)]
 
 mod judging;
