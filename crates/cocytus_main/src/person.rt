@@ -1,5 +1,5 @@
 use edge_io::{WriteEdge, write_all};
-use group_program::{Notice, Settings, Status, help_at, notice_of};
+use group_program::{Finding, Notice, Settings, Status, help_at, notice_of};
 use member_serve::{Level, Report};
 use ready_worker::Watch;
 use std::net::SocketAddr;
@@ -55,6 +55,12 @@ impl Notice for Person {
     fn tell(&self, settings: &Settings) {
         if let Ok(text) = notice_of(self.rt.alloc(), settings) {
             self.say(&text);
+        }
+    }
+
+    fn refuse(&self, finding: &Finding) {
+        if let Ok(line) = format!(in self.rt.alloc(); "settings: {finding}") {
+            self.say_at(Level::Warning, &line);
         }
     }
 }

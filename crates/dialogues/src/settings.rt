@@ -1,7 +1,7 @@
 // Texts of settings, an empty line behind each. The first line of each is a comment, which names it. What is told of a
-// text is its name, and what it gives, or the key that is refused and what is allowed there. A text whose name begins
-// with `member` has the settings of a member, of the name behind `, as ` where that stands there, one that begins with
-// `watch` those of what watches it, and each other the settings of a served group.
+// text is its name, and what it gives, or the key that is refused, what is wrong there, and what is allowed. A text whose
+// name begins with `member` has the settings of a member, of the name behind `, as ` where that stands there, one that
+// begins with `watch` those of what watches it, and each other the settings of a served group.
 mod member;
 mod served;
 mod watch;

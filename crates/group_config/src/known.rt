@@ -18,6 +18,16 @@ pub(crate) fn all_known_in(table: &Table, keys: &[&str]) -> bool
     true
 }
 
+/// The first key of a table that is none of these, for a person.
+pub(crate) fn unknown_in<'a>(table: &'a Table, keys: &[&str]) -> Option<&'a str> {
+    'keys: for key in table.keys() {
+        if !is_among(key.as_str(), keys) {
+            return Some(key.as_str());
+        }
+    }
+    None
+}
+
 /// Whether a key is one of these.
 fn is_among(key: &str, keys: &[&str]) -> bool
     ensures { result ≡ list_any (λ k. bytes_eq k key.now) (map (λ k. k.now) keys.now) }

@@ -20,6 +20,9 @@ use std::alloc::Global;
 use toml::value::Array;
 use toml::{Table, Value};
 
+/// The keys of a member.
+pub(crate) const ENTRY_KEYS: [&str; 4] = ["name", "link", "client", "control"];
+
 /// So many members with names that differ.
 pub(crate) fn members_of(
     alloc: Global,
@@ -95,7 +98,7 @@ fn entry_in(alloc: Global, table: &Table) -> Result<MemberEntry, MemberFault>
     let Some(control) = short_text_of(value_at(table, "control")) else {
         return Err(bad(MemberKey::MemberControl));
     };
-    if !all_known_in(table, &["name", "link", "client", "control"]) {
+    if !all_known_in(table, &ENTRY_KEYS) {
         return Err(bad(MemberKey::MemberUnknown));
     }
     new_entry(alloc, name, link, client, control)

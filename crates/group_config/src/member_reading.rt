@@ -19,6 +19,12 @@ use group_types::Shape;
 use std::alloc::Global;
 use toml::{Table, Value};
 
+/// The keys of a member's settings.
+pub(crate) const MEMBER_KEYS: [&str; 11] = [
+    "group", "k", "m", "blocks", "block", "members", "name", "order", "patience", "one_word",
+    "watch",
+];
+
 /// Reads the settings of a member, whose name is the word where there is one. A key that is wrong is told by the first
 /// check that fails: the text is TOML; then group, k, m, block, blocks, members, name, order, patience and one_word, each
 /// there if it is required, of its kind and within its range; then no other key but watch, which another call reads.
@@ -85,13 +91,7 @@ fn behind_members(
     let Some(one_word) = one_word_of(value_at(table, "one_word"), shape) else {
         return Err(bad(MemberKey::OneWord));
     };
-    if !all_known_in(
-        table,
-        &[
-            "group", "k", "m", "blocks", "block", "members", "name", "order", "patience",
-            "one_word", "watch",
-        ],
-    ) {
+    if !all_known_in(table, &MEMBER_KEYS) {
         return Err(bad(MemberKey::Unknown));
     }
     Ok(MemberSettings {

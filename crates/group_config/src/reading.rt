@@ -19,6 +19,18 @@ use toml::Table;
 /// The most connections after which serving may end.
 const MOST_CONNECTIONS: u64 = 1 << 62;
 
+/// The keys of settings.
+pub(crate) const KEYS: [&str; 8] = [
+    "k",
+    "m",
+    "blocks",
+    "block",
+    "address",
+    "workers",
+    "connections",
+    "control",
+];
+
 /// Reads settings. A key that is wrong is told by the first check that fails: the text is TOML; then k, m, block,
 /// blocks, address, workers, connections and control, each there if it is required, of its kind and within its
 /// range; then no other key.
@@ -62,19 +74,7 @@ fn behind_shape_in(alloc: Global, table: &Table, shape: Shape) -> Result<Setting
     let Some(control) = truth_or_false(value_at(table, "control")) else {
         return Err(bad(ConfigKey::Control));
     };
-    if !all_known_in(
-        table,
-        &[
-            "k",
-            "m",
-            "blocks",
-            "block",
-            "address",
-            "workers",
-            "connections",
-            "control",
-        ],
-    ) {
+    if !all_known_in(table, &KEYS) {
         return Err(bad(ConfigKey::Unknown));
     }
     Ok(Settings {

@@ -13,6 +13,9 @@ use crate::watch_values::{etcd_of, table_of};
 use std::alloc::Global;
 use toml::Table;
 
+/// The keys of the table watch.
+pub(crate) const WATCH_KEYS: [&str; 2] = ["etcd", "seconds"];
+
 /// Reads how a member is watched, which its settings say in the table watch. A key that is wrong is told by the first check
 /// that fails: the text is TOML; then watch, and its etcd and seconds, each there if it is required, of its kind and within
 /// its range; then no other key of that table.
@@ -49,7 +52,7 @@ fn watch_in(alloc: Global, watch: &Table) -> Result<WatchSettings, MemberFault>
     let Some(seconds) = number_or(value_at(watch, "seconds"), 3, 2, 60) else {
         return Err(bad(MemberKey::WatchSeconds));
     };
-    if !all_known_in(watch, &["etcd", "seconds"]) {
+    if !all_known_in(watch, &WATCH_KEYS) {
         return Err(bad(MemberKey::WatchUnknown));
     }
     Ok(WatchSettings {

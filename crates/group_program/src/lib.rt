@@ -13,6 +13,7 @@ mod member_run;
 mod member_stop;
 mod notice;
 mod program;
+mod refusing;
 mod running;
 mod serving;
 mod serving_group;
@@ -20,7 +21,7 @@ mod verifying;
 mod watching;
 
 pub use ending::exit_of;
-pub use group_server::{Notice, Settings, Silent};
+pub use group_server::{Finding, Notice, Settings, Silent};
 pub use help::help_at;
 pub use member_machine::{
     Machine, MemberEnd, MemberKey, MemberSettings, MemoryMachine, WatchSettings, Watcher,

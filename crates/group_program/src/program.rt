@@ -39,7 +39,7 @@ use std::thread::Threads;
 
 /// Runs the command that the words after the program's name ask for: `play`, `play_groups`, `play_regroup`, `verify`,
 /// `session`, `serve`, `member`, `watch`, `make`, `trial` or `frames`. Before the first connection of `serve` the notice tells what
-/// is served, and `member` and `watch` run on the machine.
+/// is served, and of settings that are refused what is wrong with them. `member` and `watch` run on the machine.
 pub fn run_program<
     R: Threads + Wait + Sync,
     S: Source,
@@ -160,8 +160,22 @@ where
         Command::Trial { number } => trial(alloc, number, sink),
         Command::Frames => list_frames(alloc, source, sink),
         Command::Serve => serve_by_settings(rt, alloc, source, sink, listener, notice, clock),
-        Command::Member { name } => run_member(alloc, text_of(&name), source, sink, machine),
-        Command::Watch { name } => watch_member(alloc, text_of(&name), source, sink, machine),
+        Command::Member { name } => run_member(
+            alloc,
+            text_of(&name),
+            source,
+            sink,
+            machine,
+            notice,
+        ),
+        Command::Watch { name } => watch_member(
+            alloc,
+            text_of(&name),
+            source,
+            sink,
+            machine,
+            notice,
+        ),
         Command::Session {
             k,
             m,

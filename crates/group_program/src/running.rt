@@ -9,8 +9,10 @@ ghost use Rattle.group_program.specs.declared.member_stop.MemberStop.TheVariants
 use crate::member_line::tell_key;
 use crate::member_run::MemberRun;
 use crate::member_stop::MemberStop;
+use crate::refusing::tell_refusal;
 use edge_io::{Sink, Source};
 use group_config::{MemberSettings, TextFault, read_member_settings, read_text};
+use group_server::Notice;
 use group_types::ConfigKey;
 use member_machine::{Machine, MemberEnd};
 use scenario_play::Status;
@@ -19,12 +21,13 @@ use std::alloc::Global;
 
 /// Runs a member by the settings that the source gives, the one of this name where there is one, and then writes the last
 /// line of the status.
-pub(crate) fn run_member<S: Source, K: Sink, M: Machine>(
+pub(crate) fn run_member<S: Source, K: Sink, M: Machine, N: Notice>(
     alloc: Global,
     name: Option<&str>,
     source: &mut S,
     sink: &mut K,
     machine: &mut M,
+    notice: &N,
 ) -> Status
     ensures member { IsMember M.ran machine.old machine.new (option_copied name.entry)
         (outside (S.input source.old) (S.faults source.old) (K.held sink.old) (K.faults sink.old))
@@ -34,25 +37,27 @@ pub(crate) fn run_member<S: Source, K: Sink, M: Machine>(
     ensures write { result ≢ Status.WriteFault }
     ensures accept { result ≢ Status.AcceptFault }
 {
-    match run_by_settings(alloc, name, source, machine) {
+    match run_by_settings(alloc, name, source, machine, notice) {
         Ok(run) => tell(alloc, sink, status_of(run)),
         Err(MemberStop::BadKey { key }) => tell_key(sink, key),
         Err(MemberStop::Unread { fault }) => tell(alloc, sink, status_of_text(fault)),
     }
 }
 
-/// Runs a member by the settings that the source gives. Where they are refused the machine tells a person.
-fn run_by_settings<S: Source, M: Machine>(
+/// Runs a member by the settings that the source gives. Where they are refused a person is told what is wrong, and by the
+/// machine what is allowed.
+fn run_by_settings<S: Source, M: Machine, N: Notice>(
     alloc: Global,
     name: Option<&str>,
     source: &mut S,
     machine: &mut M,
+    notice: &N,
 ) -> Result<MemberRun, MemberStop>
     ensures ran { HasRunMember M.ran machine.old machine.new (option_copied name.entry)
         (S.input source.old) (S.input source.new) result }
     ensures read { HasCauseOf (S.faults source.old) (S.faults source.new) result (Unread text.ReadFault) }
 {
-    match given(alloc, name, source) {
+    match given(alloc, name, source, notice) {
         Ok(settings) => Ok(MemberRun {
             own: settings.own,
             end: machine.run(&settings),
@@ -65,20 +70,25 @@ fn run_by_settings<S: Source, M: Machine>(
 }
 
 /// The settings that a source gives.
-fn given<S: Source>(
+fn given<S: Source, N: Notice>(
     alloc: Global,
     name: Option<&str>,
     source: &mut S,
+    notice: &N,
 ) -> Result<MemberSettings, MemberStop>
     ensures given { IsGivenMemberOr (option_copied name.entry) (S.input source.old) (S.input source.new) result }
     ensures members { IfOk result HasMembers }
     ensures read { HasCauseOf (S.faults source.old) (S.faults source.new) result (Unread text.ReadFault) }
 {
     let text = read_text(alloc, source)?;
-    Ok(read_member_settings(alloc, &text, name)?)
+    let read = read_member_settings(alloc, &text, name);
+    if let Err(fault) = &read {
+        tell_refusal(alloc, &text, name, *fault, notice);
+    }
+    Ok(read?)
 }
 
-/// Tells a person at which key settings are refused.
+/// Tells a person what is allowed at the key at which settings are refused.
 pub(crate) fn refuse<M: Machine>(machine: &M, stop: MemberStop) {
     if let MemberStop::BadKey { key } = stop {
         machine.refuse(key);

@@ -10,11 +10,13 @@ ghost use Rattle.group_program.specs.declared.member_stop.MemberStop.TheVariants
 use crate::member_line::tell_key;
 use crate::member_run::MemberRun;
 use crate::member_stop::MemberStop;
+use crate::refusing::tell_refusal;
 use crate::running::{refuse, status_of, status_of_text};
 use edge_io::{Sink, Source};
 use group_config::{
     MemberSettings, WatchSettings, read_member_settings, read_text, read_watch_settings,
 };
+use group_server::Notice;
 use member_machine::{Machine, Watcher};
 use scenario_play::Status;
 use scenario_play::tell::tell;
@@ -22,12 +24,13 @@ use std::alloc::Global;
 
 /// Watches a member by the settings that the source gives, the one of this name where there is one, and then writes the last
 /// line of the status.
-pub(crate) fn watch_member<S: Source, K: Sink, M: Machine + Watcher>(
+pub(crate) fn watch_member<S: Source, K: Sink, M: Machine + Watcher, N: Notice>(
     alloc: Global,
     name: Option<&str>,
     source: &mut S,
     sink: &mut K,
     machine: &mut M,
+    notice: &N,
 ) -> Status
     ensures watch { IsWatched M.watched machine.old machine.new (option_copied name.entry)
         (outside (S.input source.old) (S.faults source.old) (K.held sink.old) (K.faults sink.old))
@@ -37,25 +40,27 @@ pub(crate) fn watch_member<S: Source, K: Sink, M: Machine + Watcher>(
     ensures write { result ≢ Status.WriteFault }
     ensures accept { result ≢ Status.AcceptFault }
 {
-    match watch_by_settings(alloc, name, source, machine) {
+    match watch_by_settings(alloc, name, source, machine, notice) {
         Ok(run) => tell(alloc, sink, status_of(run)),
         Err(MemberStop::BadKey { key }) => tell_key(sink, key),
         Err(MemberStop::Unread { fault }) => tell(alloc, sink, status_of_text(fault)),
     }
 }
 
-/// Watches a member by the settings that the source gives. Where they are refused the machine tells a person.
-fn watch_by_settings<S: Source, M: Machine + Watcher>(
+/// Watches a member by the settings that the source gives. Where they are refused a person is told what is wrong, and by
+/// the machine what is allowed.
+fn watch_by_settings<S: Source, M: Machine + Watcher, N: Notice>(
     alloc: Global,
     name: Option<&str>,
     source: &mut S,
     machine: &mut M,
+    notice: &N,
 ) -> Result<MemberRun, MemberStop>
     ensures ran { HasWatched M.watched machine.old machine.new (option_copied name.entry)
         (S.input source.old) (S.input source.new) result }
     ensures read { HasCauseOf (S.faults source.old) (S.faults source.new) result (Unread text.ReadFault) }
 {
-    match given(alloc, name, source) {
+    match given(alloc, name, source, notice) {
         Ok((settings, watch)) => Ok(MemberRun {
             own: settings.own,
             end: machine.watch(&settings, &watch),
@@ -68,10 +73,11 @@ fn watch_by_settings<S: Source, M: Machine + Watcher>(
 }
 
 /// The settings that a source gives.
-fn given<S: Source>(
+fn given<S: Source, N: Notice>(
     alloc: Global,
     name: Option<&str>,
     source: &mut S,
+    notice: &N,
 ) -> Result<(MemberSettings, WatchSettings), MemberStop>
     ensures given { IsGivenWatchOr (option_copied name.entry) (S.input source.old) (S.input source.new) result }
     ensures members { IfOk result (λ given. HasMembers given.0) }
@@ -79,7 +85,14 @@ fn given<S: Source>(
     ensures read { HasCauseOf (S.faults source.old) (S.faults source.new) result (Unread text.ReadFault) }
 {
     let text = read_text(alloc, source)?;
-    let settings = read_member_settings(alloc, &text, name)?;
-    let watch = read_watch_settings(alloc, &text)?;
-    Ok((settings, watch))
+    let settings = read_member_settings(alloc, &text, name);
+    if let Err(fault) = &settings {
+        tell_refusal(alloc, &text, name, *fault, notice);
+    }
+    let settings = settings?;
+    let watch = read_watch_settings(alloc, &text);
+    if let Err(fault) = &watch {
+        tell_refusal(alloc, &text, name, *fault, notice);
+    }
+    Ok((settings, watch?))
 }

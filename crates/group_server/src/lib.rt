@@ -13,7 +13,7 @@ mod server;
 mod service;
 
 pub use fault::ServiceFault;
-pub use group_config::Settings;
+pub use group_config::{Finding, Settings};
 pub use notice::{Notice, Silent};
 pub use ready_worker::ReadyListener;
 pub use server::serve_group;

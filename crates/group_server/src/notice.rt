@@ -1,9 +1,12 @@
-use group_config::Settings;
+use group_config::{Finding, Settings};
 
-/// Tells a person what is served, between `listen` and the first connection. It changes nothing else.
+/// Tells a person what becomes of settings. It changes nothing else.
 pub trait Notice {
-    /// A group is served by these settings.
+    /// A group is served by these settings, which is told between `listen` and the first connection.
     fn tell(&self, settings: &Settings);
+
+    /// Settings are refused, and this is wrong with them.
+    fn refuse(&self, finding: &Finding);
 }
 
 /// The notice that tells nobody.
@@ -12,4 +15,6 @@ pub struct Silent;
 
 impl Notice for Silent {
     fn tell(&self, _settings: &Settings) {}
+
+    fn refuse(&self, _finding: &Finding) {}
 }

@@ -9,7 +9,7 @@ use crate::fault::ServiceFault;
 use crate::notice::Notice;
 use crate::server::serve_group;
 use edge_io::{Clock, Sink, Source, write_all};
-use group_config::{Settings, read_settings, read_text};
+use group_config::{ConfigFault, Settings, find_served, read_settings, read_text};
 use group_stage::Stage;
 use node_worker::{OpenGate, ServeFault};
 use ready_worker::ReadyListener;
@@ -37,18 +37,35 @@ where
     ensures write { HasCauseOf (K.faults sink.old) (K.faults sink.new) result ServiceFault.WriteFault }
     ensures accept { HasCauseOf (L.faults listener.old) (L.faults listener.new) result ServiceFault.AcceptFault }
 {
-    let settings = given(alloc, source)?;
+    let settings = given(alloc, source, notice)?;
     serve_by(rt, alloc, &settings, sink, listener, notice, clock)
 }
 
 /// The settings that a source gives.
-fn given<S: Source>(alloc: Global, source: &mut S) -> Result<Settings, ServiceFault>
+fn given<S: Source, N: Notice>(
+    alloc: Global,
+    source: &mut S,
+    notice: &N,
+) -> Result<Settings, ServiceFault>
     ensures given { IsGivenOr (S.input source.old) (S.input source.new) result }
     ensures workers { IfOk result (λ s. HasWorkers s.workers) }
     ensures read { HasCauseOf (S.faults source.old) (S.faults source.new) result ServiceFault.ReadFault }
 {
     let text = read_text(alloc, source)?;
-    Ok(read_settings(alloc, &text)?)
+    let read = read_settings(alloc, &text);
+    if let Err(fault) = &read {
+        tell_refusal(alloc, &text, *fault, notice);
+    }
+    Ok(read?)
+}
+
+/// Tells what is wrong with a text of settings.
+fn tell_refusal<N: Notice>(alloc: Global, text: &[u8], fault: ConfigFault, notice: &N) {
+    if let ConfigFault::BadConfig { key } = fault {
+        if let Ok(finding) = find_served(alloc, text, key) {
+            notice.refuse(&finding);
+        }
+    }
 }
 
 /// Serves a group with these settings.

@@ -1,11 +1,17 @@
-use group_config::{CallOrder, MemberEntry, MemberFault, MemberSettings, read_member_settings};
+use group_config::{
+    CallOrder, MemberEntry, MemberFault, MemberSettings, find_member, read_member_settings,
+};
 use std::alloc::{AllocError, Global};
 
-/// What the settings of a member say, of this name where there is one, or the key that is refused.
+/// What the settings of a member say, of this name where there is one, or the key that is refused and what is wrong
+/// there.
 pub(crate) fn told(alloc: Global, text: &[u8], word: Option<&str>) -> Result<String, AllocError> {
     match read_member_settings(alloc, text, word) {
         Ok(settings) => told_settings(alloc, &settings),
-        Err(MemberFault::BadKey { key }) => format!(in alloc; "{key} ({})", key.allowed()),
+        Err(MemberFault::BadKey { key }) => {
+            let finding = find_member(alloc, text, word, key)?;
+            format!(in alloc; "{key}: {finding} ({})", key.allowed())
+        }
         Err(MemberFault::Want) => Err(AllocError),
     }
 }

@@ -1,11 +1,14 @@
-use group_config::{ConfigFault, Settings, read_settings};
+use group_config::{ConfigFault, Settings, find_served, read_settings};
 use std::alloc::{AllocError, Global};
 
-/// What the settings of a served group say, or the key that is refused.
+/// What the settings of a served group say, or the key that is refused and what is wrong there.
 pub(crate) fn told(alloc: Global, text: &[u8]) -> Result<String, AllocError> {
     match read_settings(alloc, text) {
         Ok(settings) => told_settings(alloc, &settings),
-        Err(ConfigFault::BadConfig { key }) => format!(in alloc; "{key} ({})", key.allowed()),
+        Err(ConfigFault::BadConfig { key }) => {
+            let finding = find_served(alloc, text, key)?;
+            format!(in alloc; "{key}: {finding} ({})", key.allowed())
+        }
         Err(ConfigFault::Want) => Err(AllocError),
     }
 }

@@ -1,11 +1,14 @@
-use group_config::{Address, MemberFault, WatchSettings, read_watch_settings};
+use group_config::{Address, MemberFault, WatchSettings, find_member, read_watch_settings};
 use std::alloc::{AllocError, Global};
 
-/// How settings say that a member is watched, or the key that is refused.
+/// How settings say that a member is watched, or the key that is refused and what is wrong there.
 pub(crate) fn told(alloc: Global, text: &[u8]) -> Result<String, AllocError> {
     match read_watch_settings(alloc, text) {
         Ok(settings) => told_settings(alloc, &settings),
-        Err(MemberFault::BadKey { key }) => format!(in alloc; "{key} ({})", key.allowed()),
+        Err(MemberFault::BadKey { key }) => {
+            let finding = find_member(alloc, text, None, key)?;
+            format!(in alloc; "{key}: {finding} ({})", key.allowed())
+        }
         Err(MemberFault::Want) => Err(AllocError),
     }
 }
