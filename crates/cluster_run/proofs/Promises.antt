@@ -1,7 +1,9 @@
 -- Every script's cluster keeps the promises of the headline.
-use Rattle.std.proofs.Common.{ℕ, ◌≡◌, ◌+◌, ◌⊎◌, inl, inr, List, [], ◌∷◌, ◌++◌, length, map, All, Option, Some, None, refl, sym, ap, subst, ◌∙◌, append_assoc}
+use Rattle.std.proofs.Common.{ℕ, zero, suc, ◌≡◌, ◌<◌, ◌+◌, ◌⊎◌, inl, inr, List, [], ◌∷◌, ◌++◌, length, map, take, All, Option, Some, None, Result, Ok, Err, refl, sym, ap, subst, ◌∙◌, append_assoc}
+use Rattle.group_types.specs.Dimensions.{Dimensions}
 use Rattle.group_types.specs.Shape.{IsShape}
-use Rattle.group_layout.specs.Cluster.{Cluster, ClusterEntry, GroupTurn, IsLayout, MayAllHappen, cluster_step, cluster_turns, logged_in, tagged}
+use Rattle.group_run.specs.Shown.{HoldsTruth}
+use Rattle.group_layout.specs.Cluster.{Cluster, ClusterEntry, GroupTurn, IsLayout, MayAllHappen, cluster_step, cluster_turns, logged_in, tagged, world_in}
 use Rattle.group_layout.specs.Legal.{IsClusterLegal}
 use Rattle.group_layout.specs.Promise.{IsOwn}
 use Rattle.group_layout.specs.declared.event.ClusterEvent.{ClusterEvent}
@@ -11,16 +13,29 @@ use Rattle.group_layout.proofs.Happening.{clusters_are_runs}
 use Rattle.group_layout.proofs.Owning.{entries_are_own}
 use Rattle.group_layout.proofs.Tables.{logs_are_legal}
 use Rattle.group_cluster.specs.Plan.{IsPlan, Plan}
+use Rattle.law_headline.proofs.Truth.{truth_always}
+use Rattle.scenario_text.specs.Meaning.{IsLineOf, line_of}
+use Rattle.scenario_text.specs.declared.line.Line.{Line}
+use Rattle.scenario_text.specs.declared.line.Line.TheVariants.{Skipped, Group, Ask, Collect, Deliver, Fail, Flush, Trace, Drain, Show, Places, Time, Stop}
+use Rattle.scenario_text.specs.declared.line.LineFault.{LineFault}
+use Rattle.scenario_text.proofs.Lines.{line_of-within}
 use Rattle.scenario_run.specs.Course.{Ends, Goes, Refused, fault_in, named_in, turns_in}
 use Rattle.scenario_run.specs.Lines.{lines_of}
 use Rattle.scenario_run.proofs.Following.{fault_after, named-line, turns_after}
+use Rattle.scenario_run.proofs.Truth.{shows-truth}
 use Rattle.cluster_run.specs.Led.{IsLedTo}
-use Rattle.cluster_run.specs.Playing.{ClusterNext, ClusterPlay, ClusterTurn, log_of, next_of, opening_of, turns_from}
-use Rattle.cluster_run.specs.Promises.{ScriptsKeepPromises, end_of}
+use Rattle.cluster_run.specs.Playing.{ClusterNext, ClusterPlay, ClusterTurn, group_in, log_of, next_of, opening_of, turns_from}
+use Rattle.cluster_run.specs.Meaning.{in_group}
+use Rattle.cluster_run.specs.Promises.{AreTrueLines, HoldsAfter, IsTrueIn, IsTrueLine, IsTrueNamed, ScriptsKeepPromises, end_of}
 use Rattle.cluster_run.specs.Script.{events_of, plan_in, turns_of}
 use Rattle.cluster_run.specs.declared.fault.ClusterFault.TheVariants.{BadLine}
-use Rattle.cluster_run.proofs.Leading.{Leads, laid, leads-then, led-even, led-nodes, led-on, none-leads, opened}
+use Rattle.cluster_run.proofs.Leading.{Leads, laid, leads-then, led-even, led-group, led-nodes, led-on, none-leads, opened}
+use Rattle.cluster_run.proofs.Meaning.{in_group-below}
 use Rattle.cluster_run.proofs.Running.{GoesOn, Opens, line-leads, line-opens, never-ends}
+
+-- what follows a line, by what it does
+abbrev TrueAfter : ClusterNext → List (List ℕ) → Type 0
+TrueAfter next lines = elim next [ Goes play turns text ↦ AreTrueLines play lines | Ends ↦ Unit {0} | Refused fault ↦ Unit {0} ]
 
 -- the lines behind the one that names the groups are events that may happen
 record Runs (c : Cluster) (turns : List ClusterTurn) : Type 0 where
@@ -46,12 +61,55 @@ module _ (plan : Plan) where
               (subst (λ (q : Option ClusterPlay). Leads on.play.cluster rest.d (turns_in next_of q lines)) (sym on.is) rest.leads);
         }
 
+  -- what is shown behind the line that names the groups is true
+  truth : (c : Cluster) (j : ℕ) → IsLedTo plan c → j < plan.groups → HoldsTruth (world_in c.groups j)
+  truth c j led low = let own = led-group plan c j led low in subst HoldsTruth (sym own.is) (truth_always plan.shape own.events own.run)
+
+  true-in : (p : ClusterPlay) (j : ℕ) (l : Result Line LineFault) → IsLedTo plan p.cluster → j < plan.groups → ((l' : Line) → l ≡ Ok l' → IsLineOf (Some (group_in p j).shape) l') → IsTrueIn p j l
+  true-in p j (Err fault) led low within = tt
+  true-in p j (Ok (Show from run)) led low within = shows-truth (group_in p j) from run (within (Show from run) refl).0 (truth p.cluster j led low)
+  true-in p j (Ok Skipped) led low within = tt
+  true-in p j (Ok (Group shape)) led low within = tt
+  true-in p j (Ok (Ask caller from act)) led low within = tt
+  true-in p j (Ok (Collect caller call from)) led low within = tt
+  true-in p j (Ok (Deliver from to)) led low within = tt
+  true-in p j (Ok (Fail from keep)) led low within = tt
+  true-in p j (Ok (Flush from)) led low within = tt
+  true-in p j (Ok (Trace caller call d from)) led low within = tt
+  true-in p j (Ok Drain) led low within = tt
+  true-in p j (Ok Places) led low within = tt
+  true-in p j (Ok (Time moment)) led low within = tt
+  true-in p j (Ok Stop) led low within = tt
+
+  true-named : (p : ClusterPlay) (named : Option (ℕ × List ℕ)) → IsLedTo plan p.cluster → ((x : ℕ × List ℕ) → named ≡ Some x → x.0 < plan.groups) → IsTrueNamed p named
+  true-named p None led there = tt
+  true-named p (Some x) led there =
+      let even = led-even plan p.cluster led in
+      true-in p x.0 (line_of (Some p.cluster.groups.shape) x.1) led (there x refl)
+      (λ l reads. subst (λ (s : Dimensions). IsLineOf (Some s) l) (even.shape ∙ sym (even.worlds x.0)) (line_of-within (Some p.cluster.groups.shape) x.1 l reads))
+
+  true-lines : (p : ClusterPlay) (lines : List (List ℕ)) → IsLedTo plan p.cluster → AreTrueLines (Some p) lines
+  true-lines p [] led = tt
+  true-lines p (line ∷ lines) led = (here, by (next_of (Some p) line) refl (λ q. true-lines q lines)) where
+    here : IsTrueLine (Some p) line
+    here = let many = (led-even plan p.cluster led).many in
+        true-named p (in_group (length p.cluster.groups.worlds) line) led
+        (λ x names. subst (λ (n : ℕ). x.0 < n) many (in_group-below (length p.cluster.groups.worlds) line x names))
+
+    by : (next : ClusterNext) → next_of (Some p) line ≡ next → ((q : ClusterPlay) → IsLedTo plan q.cluster → AreTrueLines (Some q) lines) → TrueAfter next lines
+    by Ends is later = tt
+    by (Refused fault) is later = tt
+    by (Goes next turns text) is later =
+        let on = line-leads plan p line next turns text led is in
+        subst (λ (q : Option ClusterPlay). AreTrueLines q lines) (sym on.is) (later on.play (led-on plan p.cluster on.play.cluster turns led on.leads))
+
 -- a script that names its groups
 record Named (lines : List (List ℕ)) : Type 0 where
   plan : Plan
   limits : IsPlan plan
   named : plan_in (named_in next_of None lines) ≡ Some plan
   runs_are : Runs (opening_of plan) (turns_in next_of None lines)
+  true_lines : AreTrueLines None lines
 
 -- the numbers of the opening cluster
 opening-plan : (plan : Plan) → IsPlan plan → plan_in (Some (record { cluster = opening_of plan; moment = 0 })) ≡ Some plan
@@ -74,6 +132,9 @@ begins n (line ∷ lines) ends = by (next_of None line) refl ends (begins (n + 1
     plan_is : (q : Option ClusterPlay) → next ≡ q → plan_in (named_in next_of None (line ∷ lines)) ≡ plan_in (named_in next_of q lines)
     plan_is q same = ap plan_in (named-line next_of line lines (Goes next turns text) is ∙ ap (λ (x : Option ClusterPlay). named_in next_of x lines) same)
 
+    true_then : (q : Option ClusterPlay) → next ≡ q → AreTrueLines q lines → AreTrueLines None (line ∷ lines)
+    true_then q same truth = (tt, subst (λ (x : ClusterNext). TrueAfter x lines) (sym is) (subst (λ (x : Option ClusterPlay). AreTrueLines x lines) (sym same) truth))
+
     either : (next ≡ None) ⊎ ((plan : Plan) × IsPlan plan × (next ≡ Some (record { cluster = opening_of plan; moment = 0 }))) → Named (line ∷ lines)
     either (inl nothing) =
         let behind = later (subst (λ (q : Option ClusterPlay). fault_in next_of BadLine (n + 1) q lines ≡ None) nothing rest) in
@@ -82,6 +143,7 @@ begins n (line ∷ lines) ends = by (next_of None line) refl ends (begins (n + 1
           limits = behind.limits;
           named = plan_is None nothing ∙ behind.named;
           runs_are = subst (Runs (opening_of behind.plan)) (sym (turns_are None nothing)) behind.runs_are;
+          true_lines = true_then None nothing behind.true_lines;
         }
     either (inr (plan, limits, some)) =
         let p : ClusterPlay = record { cluster = opening_of plan; moment = 0 } in
@@ -90,12 +152,19 @@ begins n (line ∷ lines) ends = by (next_of None line) refl ends (begins (n + 1
           limits = limits;
           named = plan_is (Some p) some ∙ opening-plan plan limits;
           runs_are = subst (Runs (opening_of plan)) (sym (turns_are (Some p) some)) (runs plan p lines (opened plan limits));
+          true_lines = true_then (Some p) some (true-lines plan p lines (opened plan limits));
         }
 
   by : (next : ClusterNext) → next_of None line ≡ next → fault_in next_of BadLine n None (line ∷ lines) ≡ None → (fault_in next_of BadLine (n + 1) None lines ≡ None → Named lines) → Named (line ∷ lines)
   by Ends is ends later = absurd (never-ends line is)
   by (Refused fault) is ends later = absurd (cc (sym (ap (λ (x : ClusterNext). fault_after next_of BadLine n x lines) is) ∙ ends))
   by (Goes next turns text) is ends later = begun next turns text is (line-opens line next turns text is) (sym (ap (λ (x : ClusterNext). fault_after next_of BadLine n x lines) is) ∙ ends) later
+
+-- the first of events that may happen
+may-front : (c : Cluster) (n : ℕ) (es : List ClusterEvent) → MayAllHappen c es → MayAllHappen c (take n es)
+may-front c zero es may = tt
+may-front c (suc n) [] may = tt
+may-front c (suc n) (e ∷ es) may = (may.0, may-front (cluster_step c e).cluster n es may.1)
 
 -- the events of turns
 events-are : (c : Cluster) (es : List ClusterEvent) → map (λ turn. turn.event) (turns_from c es) ≡ es
@@ -122,11 +191,11 @@ scripts_keep_promises text whole = record {
   may = may;
   turns = turns;
   log = log;
-  runs = clusters_are_runs plan.shape plan.nodes plan.groups (events_of text) limits layout may;
+  holds = holds;
   legal = subst (IsClusterLegal plan.shape.k) log (logs_are_legal plan.shape plan.nodes plan.groups (events_of text) limits layout may);
   own = subst (All (IsOwn plan.shape.k plan.groups)) log (entries_are_own plan.shape plan.nodes plan.groups (events_of text) limits layout may);
   within = answers_are_within plan.shape plan.nodes plan.groups (events_of text) limits layout may;
-  borne = few_failures_are_borne plan.shape plan.nodes plan.groups (events_of text) limits layout may;
+  shown = named.true_lines;
 } where
   named : Named (lines_of text)
   named = begins 1 (lines_of text) whole
@@ -154,3 +223,11 @@ scripts_keep_promises text whole = record {
 
   log : (end_of plan (events_of text)).groups.log ≡ log_of (turns_of text)
   log = (clusters_are_runs plan.shape plan.nodes plan.groups (events_of text) limits layout may).log ∙ logged-all (opening_of plan) (events_of text) ∙ ap log_of turns
+
+  holds : (n : ℕ) → HoldsAfter plan (take n (events_of text))
+  holds n =
+      let front = may-front (opening_of plan) n (events_of text) may in
+      record {
+        runs = clusters_are_runs plan.shape plan.nodes plan.groups (take n (events_of text)) limits layout front;
+        borne = few_failures_are_borne plan.shape plan.nodes plan.groups (take n (events_of text)) limits layout front;
+      }

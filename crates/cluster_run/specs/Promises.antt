@@ -1,5 +1,6 @@
--- What holds of every script's cluster: its events may happen, so the laws of clusters are about it.
-use Rattle.std.specs.Prelude.{ℕ, ◌≡◌, ◌<◌, ◌≤◌, List, All, Some, None}
+-- What holds of every script's cluster: its events may happen, so the laws of clusters are about it; and the lines that show
+-- bytes show what the log of their group tells.
+use Rattle.std.specs.Prelude.{ℕ, ◌≡◌, ◌<◌, ◌≤◌, List, [], ◌∷◌, All, length, take, Option, Some, None, Result, Ok}
 use Rattle.group_run.specs.Meaning.{IsDown}
 use Rattle.membership.specs.Members.{count_dead}
 use Rattle.group_layout.specs.Cluster.{Cluster, MayAllHappen, cluster_after, cluster_turns, world_in}
@@ -8,12 +9,44 @@ use Rattle.group_layout.specs.Promise.{AreRuns, IsOwn}
 use Rattle.group_layout.specs.Within.{ClusterAnswersWithin}
 use Rattle.group_layout.specs.declared.event.ClusterEvent.{ClusterEvent}
 use Rattle.group_cluster.specs.Plan.{IsPlan, Plan}
-use Rattle.cluster_run.specs.Playing.{log_of, opening_of, turns_from}
+use Rattle.scenario_text.specs.Meaning.{line_of}
+use Rattle.scenario_text.specs.declared.line.Line.{Line}
+use Rattle.scenario_text.specs.declared.line.Line.TheVariants.{Show}
+use Rattle.scenario_text.specs.declared.line.LineFault.{LineFault}
+use Rattle.scenario_run.specs.Course.{Goes, Ends, Refused}
+use Rattle.scenario_run.specs.Lines.{lines_of}
+use Rattle.scenario_run.specs.Promises.{ShowsTruth}
+use Rattle.cluster_run.specs.Meaning.{in_group}
+use Rattle.cluster_run.specs.Playing.{ClusterPlay, group_in, log_of, next_of, opening_of, turns_from}
 use Rattle.cluster_run.specs.Script.{events_of, first_fault, plan_of, turns_of}
 
 -- the cluster at the end of events
 abbrev pub end_of : Plan → List ClusterEvent → Cluster
 end_of plan events = cluster_after (opening_of plan) events
+
+-- a line of a group that shows bytes shows what its log tells
+abbrev pub IsTrueIn : ClusterPlay → ℕ → Result Line LineFault → Type 0
+IsTrueIn p j (Ok (Show from run)) = ShowsTruth (group_in p j) from run
+IsTrueIn p j _ = Unit {0}
+
+abbrev pub IsTrueNamed : ClusterPlay → Option (ℕ × List ℕ) → Type 0
+IsTrueNamed p None = Unit {0}
+IsTrueNamed p (Some named) = IsTrueIn p named.0 (line_of (Some p.cluster.groups.shape) named.1)
+
+abbrev pub IsTrueLine : Option ClusterPlay → List ℕ → Type 0
+IsTrueLine None line = Unit {0}
+IsTrueLine (Some p) line = IsTrueNamed p (in_group (length p.cluster.groups.worlds) line)
+
+-- and so it is with all lines
+abbrev pub AreTrueLines : Option ClusterPlay → List (List ℕ) → Type 0
+AreTrueLines play [] = Unit {0}
+AreTrueLines play (line ∷ lines) = IsTrueLine play line
+    × elim (next_of play line) [ Goes next turns text ↦ AreTrueLines next lines | Ends ↦ Unit {0} | Refused fault ↦ Unit {0} ]
+
+-- after events each group makes a run of its own, with the whole headline, and while at most m nodes have failed none is down
+pub record HoldsAfter (plan : Plan) (events : List ClusterEvent) : Type 0 where
+  pub runs : AreRuns plan.shape plan.groups (end_of plan events).groups (cluster_turns (opening_of plan) events)
+  pub borne : count_dead (end_of plan events).failed ≤ plan.shape.m → (j : ℕ) → j < plan.groups → ¬ (IsDown (world_in (end_of plan events).groups j))
 
 -- a script's cluster keeps its promises
 pub record KeepsPromises (text : List ℕ) : Type 0 where
@@ -24,15 +57,15 @@ pub record KeepsPromises (text : List ℕ) : Type 0 where
   pub may : MayAllHappen (opening_of plan) (events_of text)
   pub turns : turns_from (opening_of plan) (events_of text) ≡ turns_of text
   pub log : (end_of plan (events_of text)).groups.log ≡ log_of (turns_of text)
-  -- each group makes a run of its own, with the whole headline
-  pub runs : AreRuns plan.shape plan.groups (end_of plan (events_of text)).groups (cluster_turns (opening_of plan) (events_of text))
+  -- so it is after each of the script's events
+  pub holds : (n : ℕ) → HoldsAfter plan (take n (events_of text))
   -- the log is legal, and each entry is of its key's group
   pub legal : IsClusterLegal plan.shape.k (log_of (turns_of text))
   pub own : All (IsOwn plan.shape.k plan.groups) (log_of (turns_of text))
   -- each answered call stands in it once, between its asking and its answering
   pub within : ClusterAnswersWithin plan.shape.k (cluster_turns (opening_of plan) (events_of text))
-  -- while at most m nodes have failed no group is down
-  pub borne : count_dead (end_of plan (events_of text)).failed ≤ plan.shape.m → (j : ℕ) → j < plan.groups → ¬ (IsDown (world_in (end_of plan (events_of text)).groups j))
+  -- what is shown is what the log tells
+  pub shown : AreTrueLines None (lines_of text)
 
 -- the promises are kept by every script none of whose lines is refused
 abbrev pub ScriptsKeepPromises : Type 0
