@@ -1,0 +1,10 @@
+pub mod Acknowledged
+pub mod Answering
+pub mod Begun
+pub mod Carrying
+pub mod Closed
+pub mod Joining
+pub mod Legal
+pub mod Logged
+pub mod Reading
+pub mod Resting

@@ -1,0 +1,5 @@
+use Rattle.wire_eras.proofs.Reading.{heads_list_items}
+use Rattle.wire_eras.proofs.laws.heads_list_items.Goals as goal
+
+pub returns : goal.returns
+returns c = heads_list_items

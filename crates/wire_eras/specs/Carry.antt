@@ -1,0 +1,34 @@
+-- How the log of a group begins into which the items of an earlier table were carried by clients.
+use Rattle.std.specs.Prelude.{ℕ, ℤ, ◌≡◌, ◌⊎◌, false, List, ◌++◌, Some, Contains}
+use Rattle.group_types.specs.Each.{Each}
+use Rattle.memc_table.specs.Act.{key_of}
+use Rattle.memc_table.specs.Asked.{Asked}
+use Rattle.memc_table.specs.Contents.{Contents}
+use Rattle.memc_table.specs.Expiry.{is_live, until_of}
+use Rattle.memc_table.specs.declared.act.Act.TheVariants.{Set}
+use Rattle.memc_table.specs.declared.holding.Holding.{Holding}
+use Rattle.group_calls.specs.declared.entry.Entry.{Entry}
+
+-- an op sets what a table holds of its key: flags and value, with an exptime by which it lives as long
+pub record SetsHeld (t : Contents) (op : Asked) : Type 0 where
+  pub holding : Holding
+  pub held : t.items (key_of op.act) ≡ Some holding
+  pub exptime : ℤ
+  pub act : op.act ≡ Set (key_of op.act) holding.item.flags exptime holding.item.value
+  pub until : until_of exptime op.moment ≡ holding.until
+
+-- an entry is on this key
+abbrev pub HasKey : List Entry → List ℕ → Type 0
+HasKey log key = (e : Entry) × Contains log e × (key_of e.op.act ≡ key)
+
+-- an item has ended by the moment of each op on its key
+abbrev pub HasEnded : List Entry → List ℕ → Holding → Type 0
+HasEnded log key h = Each (λ e. key_of e.op.act ≡ key → is_live e.op.moment h.until ≡ false) log
+
+-- a log begins with sets of what a table holds; an item that isn't set has ended before it could be asked for
+pub record BeginsWithCarry (t : Contents) (log : List Entry) : Type 0 where
+  pub sets : List Entry
+  pub later : List Entry
+  pub is : log ≡ sets ++ later
+  pub only : Each (λ e. SetsHeld t e.op) sets
+  pub all : (key : List ℕ) (h : Holding) → t.items key ≡ Some h → HasKey sets key ⊎ HasEnded log key h
