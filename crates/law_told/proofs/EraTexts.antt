@@ -38,7 +38,8 @@ use Rattle.regroup_run.proofs.Leading.{done-append}
 use Rattle.regroup_run.proofs.Running.{Opens, line-opens, never-ends}
 use Rattle.law_told.specs.EraTexts.{EraLinesTell, EraTranscriptsTell, LineTells}
 use Rattle.law_told.specs.Lines.{Tells, is_log_line, text_of}
-use Rattle.law_told.proofs.Lines.{AreOthers, answer-other, others-append, tells-append, tells-entries, tells-none, tells-said, text-append}
+use Rattle.law_told.proofs.Lines as lines
+use Rattle.law_told.proofs.Lines.{AreOthers, answer-other, others-append, tells-append, tells-none, tells-said, text-append}
 
 -- ---- which lines are of the log
 
@@ -62,22 +63,14 @@ entries-lines : (es : List EraEntry) → era_entries_text es ≡ text_of (map er
 entries-lines [] = refl
 entries-lines (e ∷ es) = ap (λ (t : List ℕ). era_entry_text e ++ 10 ∷ t) (entries-lines es)
 
-tells-log : (es : List EraEntry) → Tells era_entry_text (era_entries_text es) es []
-tells-log es = subst (λ (t : List ℕ). Tells era_entry_text t es []) (sym (entries-lines es)) (tells-entries era_entry_text entry-marked es)
-
-tells-one : (line : List ℕ) → is_log_line line ≡ false → Tells era_entry_text (line ++ 10 ∷ []) [] (line ∷ [])
-tells-one line other = tells-said era_entry_text (line ∷ []) (other, tt)
-
 -- a line that is said, and entries behind it or in front of it
 said-first : (line : List ℕ) (es : List EraEntry) → is_log_line line ≡ false → Tells era_entry_text (line ++ 10 ∷ era_entries_text es) es (line ∷ [])
 said-first line es other =
-    subst (λ (t : List ℕ). Tells era_entry_text t es (line ∷ [])) (append_assoc line (10 ∷ []) (era_entries_text es))
-    (tells-append era_entry_text (line ++ 10 ∷ []) (era_entries_text es) [] es (line ∷ []) [] (tells-one line other) (tells-log es))
+    subst (λ (t : List ℕ). Tells era_entry_text (line ++ 10 ∷ t) es (line ∷ [])) (sym (entries-lines es)) (lines.said-first era_entry_text entry-marked line es other)
 
 said-last : (line : List ℕ) (es : List EraEntry) → is_log_line line ≡ false → Tells era_entry_text (era_entries_text es ++ (line ++ 10 ∷ [])) es (line ∷ [])
 said-last line es other =
-    subst (λ (xs : List EraEntry). Tells era_entry_text (era_entries_text es ++ (line ++ 10 ∷ [])) xs (line ∷ [])) (append-nil es)
-    (tells-append era_entry_text (era_entries_text es) (line ++ 10 ∷ []) es [] [] (line ∷ []) (tells-log es) (tells-one line other))
+    subst (λ (t : List ℕ). Tells era_entry_text (t ++ (line ++ 10 ∷ [])) es (line ∷ [])) (sym (entries-lines es)) (lines.said-last era_entry_text entry-marked line es other)
 
 -- runs
 record Said (text : List ℕ) : Type 0 where

@@ -1,5 +1,6 @@
 pub mod Bases
 pub mod Carried
+pub mod ClusterTexts
 pub mod Counts
 pub mod Dead
 pub mod EraTexts

@@ -1,5 +1,6 @@
 -- Lines of a log and others, in texts that are put together.
-use Rattle.std.proofs.Common.{ℕ, ◌≡◌, Bool, true, false, cond, not, List, [], ◌∷◌, ◌++◌, map, refl, sym, ap, ap₂, ◌∙◌, append_assoc}
+use Rattle.std.proofs.Common.{ℕ, ◌≡◌, Bool, true, false, cond, not, List, [], ◌∷◌, ◌++◌, map, refl, sym, ap, ap₂, subst, ◌∙◌, append_assoc}
+use Rattle.std.proofs.lemmas.List.{append-nil}
 use Rattle.std.specs.Prelude.{filter}
 use Rattle.group_calls.specs.declared.event.Answer.{Answer}
 use Rattle.group_calls.specs.declared.event.Answer.TheVariants as says
@@ -89,3 +90,14 @@ module _ {E : Type 0} (entry_text : E → List ℕ) where
       log = ap (λ (b : Bool). cond b (entry_text e ∷ filter is_log_line rest.lines) (filter is_log_line rest.lines)) (marked e) ∙ ap (λ (ls : List (List ℕ)). entry_text e ∷ ls) rest.log;
       others = ap (λ (b : Bool). cond (not b) (entry_text e ∷ filter is_other rest.lines) (filter is_other rest.lines)) (marked e) ∙ rest.others;
     }
+
+    -- a line that is said, and entries behind it or in front of it
+    pub said-first : (line : List ℕ) (es : List E) → is_log_line line ≡ false → Tells entry_text (line ++ 10 ∷ text_of (map entry_text es)) es (line ∷ [])
+    said-first line es other =
+        subst (λ (t : List ℕ). Tells entry_text t es (line ∷ [])) (append_assoc line (10 ∷ []) (text_of (map entry_text es)))
+        (tells-append (line ++ 10 ∷ []) (text_of (map entry_text es)) [] es (line ∷ []) [] (tells-said (line ∷ []) (other, tt)) (tells-entries es))
+
+    pub said-last : (line : List ℕ) (es : List E) → is_log_line line ≡ false → Tells entry_text (text_of (map entry_text es) ++ (line ++ 10 ∷ [])) es (line ∷ [])
+    said-last line es other =
+        subst (λ (xs : List E). Tells entry_text (text_of (map entry_text es) ++ (line ++ 10 ∷ [])) xs (line ∷ [])) (append-nil es)
+        (tells-append (text_of (map entry_text es)) (line ++ 10 ∷ []) es [] [] (line ∷ []) (tells-entries es) (tells-said (line ∷ []) (other, tt)))

@@ -1,3 +1,4 @@
+pub mod ClusterTexts
 pub mod Clusters
 pub mod EraTexts
 pub mod Eras
