@@ -31,19 +31,24 @@ fn replies_are_told_from_other_words(rt: HostRuntime) {
     }
 }
 
-const ANSWERS: [(Kind, &'static str, bool); 14] = [
-    (Kind::Ask, "ticket 1", true),
-    (Kind::Ask, "ticket 01", false),
+const ANSWERS: [(Kind, &'static str, bool); 19] = [
+    (Kind::Store, "ticket 1", true),
+    (Kind::Store, "ticket 01", false),
+    (Kind::Alter, "ticket 1", true),
+    (Kind::Read, "ticket 1", false),
+    (Kind::Store, "no_space", true),
+    (Kind::Alter, "no_space", false),
+    (Kind::Read, "no_space", false),
     (Kind::Collect, "ticket 1", false),
-    (Kind::Ask, "retry pending 0 3", true),
-    (Kind::Ask, "retry pending 4294967296 3", false),
-    (Kind::Ask, "retry block 7", true),
+    (Kind::Read, "retry pending 0 3", true),
+    (Kind::Store, "retry pending 4294967296 3", false),
+    (Kind::Read, "retry block 7", true),
     (Kind::Trace, "stale 4", true),
-    (Kind::Ask, "stale 4", false),
+    (Kind::Store, "stale 4", false),
     (Kind::Collect, "stranger", true),
     (Kind::Fail, "lost", false),
     (Kind::Deliver, "idle", true),
-    (Kind::Ask, "reply miss", true),
+    (Kind::Read, "reply miss", true),
     (Kind::Flush, "reply miss", false),
     (Kind::Deliver, "done ", false),
 ];

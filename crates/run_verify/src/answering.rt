@@ -1,6 +1,6 @@
 ghost use Rattle.std.specs.Prelude.{◌≡◌, ◌≤◌, length, All, IfOk, IfErr, OnOk, true};
 ghost use Rattle.scenario_run.specs.Lines.{lines_of};
-ghost use Rattle.transcript_text.specs.Forms.{kind_of};
+ghost use Rattle.transcript_text.specs.Forms.{kind_of, kind_of_act};
 ghost use Rattle.run_verify.specs.Accounts.{account_of};
 ghost use Rattle.memc_table.specs.Table.{contents};
 ghost use Rattle.run_verify.specs.Judging.{IsAnswered, Judges, TellsReplyTo};
@@ -10,6 +10,7 @@ ghost use Rattle.run_verify.specs.Plain.{FitsEvent};
 use crate::account::Account;
 use crate::calls::{add_call, calls_of, is_ahead, is_text_of, reply_in};
 use group_calls::Event;
+use memc_table::Act;
 use std::alloc::AllocError;
 use transcript_text::Kind;
 use transcript_text::answer::{Said, read_said};
@@ -104,11 +105,29 @@ fn kind(event: &Event) -> Kind
     ensures { result ≡ kind_of event.now }
 {
     match event {
-        Event::Ask { .. } => Kind::Ask,
+        Event::Ask { op, .. } => kind_of_act(op.act()),
         Event::Collect { .. } => Kind::Collect,
         Event::Deliver { .. } => Kind::Deliver,
         Event::Fail { .. } => Kind::Fail,
         Event::Flush { .. } => Kind::Flush,
         Event::Trace { .. } => Kind::Trace,
+    }
+}
+
+/// The kind of an ask, by its act.
+fn kind_of_act(act: &Act) -> Kind
+    ensures { result ≡ kind_of_act act.now }
+{
+    match act {
+        Act::Get { .. } => Kind::Read,
+        Act::Delete { .. } | Act::Touch { .. } => Kind::Alter,
+        Act::Set { .. }
+        | Act::Add { .. }
+        | Act::Replace { .. }
+        | Act::Cas { .. }
+        | Act::Append { .. }
+        | Act::Prepend { .. }
+        | Act::Incr { .. }
+        | Act::Decr { .. } => Kind::Store,
     }
 }

@@ -1,6 +1,8 @@
 -- The limits of what a transcript tells, and the answers that an event can have.
 use Rattle.std.specs.Prelude.{ℕ, ◌≡◌, ◌<◌, ◌^◌, Bool, true, false, List, All, ⊤}
 use Rattle.group_types.specs.Dimensions.{callers}
+use Rattle.memc_table.specs.declared.act.Act.{Act}
+use Rattle.memc_table.specs.declared.act.Act.TheVariants.{Get, Delete, Touch}
 use Rattle.memc_table.specs.declared.reply.Reply.{Reply}
 use Rattle.memc_table.specs.declared.reply.Reply.TheVariants.{Value, Number}
 use Rattle.group_calls.specs.declared.event.Answer.{Answer}
@@ -37,9 +39,16 @@ FitsAnswer (answered.Retry cause) = FitsCause cause
 FitsAnswer (answered.Stale call) = call < 2 ^ 64
 FitsAnswer _ = ⊤
 
+-- the kind of an ask, by its act
+abbrev pub kind_of_act : Act → Kind
+kind_of_act (Get _) = kind.Read
+kind_of_act (Delete _) = kind.Alter
+kind_of_act (Touch _ _) = kind.Alter
+kind_of_act _ = kind.Store
+
 -- the kind of an event
 abbrev pub kind_of : Event → Kind
-kind_of (event.Ask _ _ _) = kind.Ask
+kind_of (event.Ask _ op _) = kind_of_act op.act
 kind_of (event.Collect _ _ _) = kind.Collect
 kind_of (event.Deliver _ _) = kind.Deliver
 kind_of (event.Fail _ _) = kind.Fail
@@ -63,15 +72,27 @@ form_of answered.AlreadyDead = form.AlreadyDead
 form_of answered.Gone = form.Gone
 form_of (answered.Stale _) = form.Stale
 
--- the forms of the answers that an event of a kind can have
+-- the forms of the answers that an event of a kind can have: only an update has a ticket, and only one that may store a value
+-- finds no space
 abbrev pub can_have : Kind → Form → Bool
-can_have kind.Ask form.Reply = true
-can_have kind.Ask form.Ticket = true
-can_have kind.Ask form.Retry = true
-can_have kind.Ask form.NoSpace = true
-can_have kind.Ask form.Moved = true
-can_have kind.Ask form.Lost = true
-can_have kind.Ask form.Down = true
+can_have kind.Read form.Reply = true
+can_have kind.Read form.Retry = true
+can_have kind.Read form.Moved = true
+can_have kind.Read form.Lost = true
+can_have kind.Read form.Down = true
+can_have kind.Alter form.Reply = true
+can_have kind.Alter form.Ticket = true
+can_have kind.Alter form.Retry = true
+can_have kind.Alter form.Moved = true
+can_have kind.Alter form.Lost = true
+can_have kind.Alter form.Down = true
+can_have kind.Store form.Reply = true
+can_have kind.Store form.Ticket = true
+can_have kind.Store form.Retry = true
+can_have kind.Store form.NoSpace = true
+can_have kind.Store form.Moved = true
+can_have kind.Store form.Lost = true
+can_have kind.Store form.Down = true
 can_have kind.Collect form.Reply = true
 can_have kind.Collect form.NotYet = true
 can_have kind.Collect form.Stranger = true

@@ -49,16 +49,9 @@ fn may_have(kind: Kind, form: Form) -> bool
     ensures { result ≡ can_have kind form }
 {
     match kind {
-        Kind::Ask => matches!(
-            form,
-            Form::Reply
-                | Form::Ticket
-                | Form::Retry
-                | Form::NoSpace
-                | Form::Moved
-                | Form::Lost
-                | Form::Down
-        ),
+        Kind::Read => may_be_read(form),
+        Kind::Alter => may_alter(form),
+        Kind::Store => may_store(form),
         Kind::Collect => matches!(
             form,
             Form::Reply | Form::NotYet | Form::Stranger | Form::Lost | Form::Down
@@ -66,17 +59,56 @@ fn may_have(kind: Kind, form: Form) -> bool
         Kind::Deliver => matches!(form, Form::Done | Form::Idle | Form::Down),
         Kind::Fail => matches!(form, Form::Done | Form::AlreadyDead),
         Kind::Flush => matches!(form, Form::Done | Form::Lost | Form::Down),
-        Kind::Trace => matches!(
-            form,
-            Form::Reply
-                | Form::NotYet
-                | Form::Stale
-                | Form::Gone
-                | Form::Moved
-                | Form::Lost
-                | Form::Down
-        ),
+        Kind::Trace => may_be_traced(form),
     }
+}
+
+fn may_be_read(form: Form) -> bool
+    ensures { result ≡ can_have Kind.Read form }
+{
+    matches!(
+        form,
+        Form::Reply | Form::Retry | Form::Moved | Form::Lost | Form::Down
+    )
+}
+
+fn may_alter(form: Form) -> bool
+    ensures { result ≡ can_have Kind.Alter form }
+{
+    matches!(
+        form,
+        Form::Reply | Form::Ticket | Form::Retry | Form::Moved | Form::Lost | Form::Down
+    )
+}
+
+fn may_store(form: Form) -> bool
+    ensures { result ≡ can_have Kind.Store form }
+{
+    matches!(
+        form,
+        Form::Reply
+            | Form::Ticket
+            | Form::Retry
+            | Form::NoSpace
+            | Form::Moved
+            | Form::Lost
+            | Form::Down
+    )
+}
+
+fn may_be_traced(form: Form) -> bool
+    ensures { result ≡ can_have Kind.Trace form }
+{
+    matches!(
+        form,
+        Form::Reply
+            | Form::NotYet
+            | Form::Stale
+            | Form::Gone
+            | Form::Moved
+            | Form::Lost
+            | Form::Down
+    )
 }
 
 /// The form of a line that is an answer.

@@ -1,7 +1,10 @@
-/// What happens to a group, by kinds.
+/// What happens to a group, by kinds. An ask is one of three, by its act: a get reads, a delete and a touch alter an item
+/// and bring no value, and every other act may store a value.
 #[derive(Clone, Copy, Debug, PartialEq, Eq)]
 pub enum Kind {
-    Ask,
+    Read,
+    Alter,
+    Store,
     Collect,
     Deliver,
     Fail,
