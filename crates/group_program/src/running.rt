@@ -9,9 +9,9 @@ ghost use Rattle.group_program.specs.declared.member_stop.MemberStop.TheVariants
 use crate::member_line::tell_key;
 use crate::member_run::MemberRun;
 use crate::member_stop::MemberStop;
-use crate::refusing::tell_refusal;
+use crate::refusing::settings_or_tell;
 use edge_io::{Sink, Source};
-use group_config::{MemberSettings, TextFault, read_member_settings, read_text};
+use group_config::{MemberSettings, TextFault, read_text};
 use group_server::Notice;
 use group_types::ConfigKey;
 use member_machine::{Machine, MemberEnd};
@@ -81,11 +81,7 @@ fn given<S: Source, N: Notice>(
     ensures read { HasCauseOf (S.faults source.old) (S.faults source.new) result (Unread text.ReadFault) }
 {
     let text = read_text(alloc, source)?;
-    let read = read_member_settings(alloc, &text, name);
-    if let Err(fault) = &read {
-        tell_refusal(alloc, &text, name, *fault, notice);
-    }
-    Ok(read?)
+    Ok(settings_or_tell(alloc, &text, name, notice)?)
 }
 
 /// Tells a person what is allowed at the key at which settings are refused.

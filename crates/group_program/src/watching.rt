@@ -10,12 +10,10 @@ ghost use Rattle.group_program.specs.declared.member_stop.MemberStop.TheVariants
 use crate::member_line::tell_key;
 use crate::member_run::MemberRun;
 use crate::member_stop::MemberStop;
-use crate::refusing::tell_refusal;
+use crate::refusing::{settings_or_tell, watch_or_tell};
 use crate::running::{refuse, status_of, status_of_text};
 use edge_io::{Sink, Source};
-use group_config::{
-    MemberSettings, WatchSettings, read_member_settings, read_text, read_watch_settings,
-};
+use group_config::{MemberSettings, WatchSettings, read_text};
 use group_server::Notice;
 use member_machine::{Machine, Watcher};
 use scenario_play::Status;
@@ -85,14 +83,7 @@ fn given<S: Source, N: Notice>(
     ensures read { HasCauseOf (S.faults source.old) (S.faults source.new) result (Unread text.ReadFault) }
 {
     let text = read_text(alloc, source)?;
-    let settings = read_member_settings(alloc, &text, name);
-    if let Err(fault) = &settings {
-        tell_refusal(alloc, &text, name, *fault, notice);
-    }
-    let settings = settings?;
-    let watch = read_watch_settings(alloc, &text);
-    if let Err(fault) = &watch {
-        tell_refusal(alloc, &text, name, *fault, notice);
-    }
-    Ok((settings, watch?))
+    let settings = settings_or_tell(alloc, &text, name, notice)?;
+    let watch = watch_or_tell(alloc, &text, notice)?;
+    Ok((settings, watch))
 }

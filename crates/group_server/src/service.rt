@@ -2,6 +2,7 @@ ghost use Rattle.std.specs.Prelude.{◌≡◌, IfErr, IfOk, OnOk};
 ghost use Rattle.edge_io.specs.Faults.{HasCauseOf};
 ghost use Rattle.edge_io.specs.Moving.{Appends};
 ghost use Rattle.group_config.specs.Keys.{HasWorkers};
+ghost use Rattle.group_config.specs.Reading.{ComesOf};
 ghost use Rattle.group_server.specs.Service.{HasServedBy, HasServedGroup, listening, tally};
 ghost use Rattle.group_server.specs.Steps.{HasNotOpened, HasReported, IsGivenOr};
 
@@ -11,6 +12,7 @@ use crate::server::serve_group;
 use edge_io::{Clock, Sink, Source, write_all};
 use group_config::{ConfigFault, Settings, find_served, read_settings, read_text};
 use group_stage::Stage;
+use group_types::ConfigKey;
 use node_worker::{OpenGate, ServeFault};
 use ready_worker::ReadyListener;
 use std::alloc::Global;
@@ -52,19 +54,25 @@ fn given<S: Source, N: Notice>(
     ensures read { HasCauseOf (S.faults source.old) (S.faults source.new) result ServiceFault.ReadFault }
 {
     let text = read_text(alloc, source)?;
-    let read = read_settings(alloc, &text);
-    if let Err(fault) = &read {
-        tell_refusal(alloc, &text, *fault, notice);
-    }
-    Ok(read?)
+    Ok(read_or_tell(alloc, &text, notice)?)
 }
 
-/// Tells what is wrong with a text of settings.
-fn tell_refusal<N: Notice>(alloc: Global, text: &[u8], fault: ConfigFault, notice: &N) {
-    if let ConfigFault::BadConfig { key } = fault {
-        if let Ok(finding) = find_served(alloc, text, key) {
-            notice.refuse(&finding);
-        }
+/// The settings that a text gives. Where it gives none a person is told what is wrong with it.
+fn read_or_tell<N: Notice>(alloc: Global, text: &[u8], notice: &N) -> Result<Settings, ConfigFault>
+    ensures comes { ComesOf text.now result }
+    ensures workers { IfOk result (λ s. HasWorkers s.workers) }
+{
+    let read = read_settings(alloc, text);
+    if let Err(ConfigFault::BadConfig { key }) = &read {
+        tell_refusal(alloc, text, *key, notice);
+    }
+    read
+}
+
+/// Tells what is wrong with a text of settings that is refused at a key.
+fn tell_refusal<N: Notice>(alloc: Global, text: &[u8], key: ConfigKey, notice: &N) {
+    if let Ok(finding) = find_served(alloc, text, key) {
+        notice.refuse(&finding);
     }
 }
 

@@ -3,9 +3,9 @@ use Rattle.group_config.specs.Text.{HasRead}
 use Rattle.group_server.proofs.Reports.{refused}
 use Rattle.group_server.proofs.service.given.Goals as goal
 
-pub returns-in_err-read_settings-clause-given : goal.returns-in_err-read_settings-clause-given
-returns-in_err-read_settings-clause-given g c =
+pub returns-in_err-read_or_tell-clause-given : goal.returns-in_err-read_or_tell-clause-given
+returns-in_err-read_or_tell-clause-given g c =
     let before = g.S.Source.input c.args.source.now in
     let now = g.S.Source.input c.read_text.new.source in
-    refused before now c.deref.result.now c.in_err-read_settings.field-0.0 c.from_residual-in_err-read_settings.result
-    (subst (HasRead before now) (sym c.deref.ensures.value) c.in_ok-text.ensures.whole) c.read_settings-read.ensures.comes c.from_residual-in_err-read_settings.ensures.1
+    refused before now c.deref.result.now c.in_err-read_or_tell.field-0.0 c.from_residual-in_err-read_or_tell.result
+    (subst (HasRead before now) (sym c.deref.ensures.value) c.in_ok-text.ensures.whole) c.in_err-read_or_tell.ensures.comes c.from_residual-in_err-read_or_tell.ensures.1
