@@ -7,3 +7,4 @@ pub mod EraTexts
 pub mod Going
 pub mod Lines
 pub mod Others
+pub mod Verified

@@ -3,3 +3,4 @@ pub mod Clusters
 pub mod EraTexts
 pub mod Eras
 pub mod Lines
+pub mod Verified
