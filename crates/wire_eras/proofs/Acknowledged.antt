@@ -1,20 +1,21 @@
 -- A carry whose sets are acknowledged is the beginning of the log.
-use Rattle.std.proofs.Common.{ℕ, ◌≡◌, List, [], ◌∷◌, ◌++◌, ◌⊎◌, inl, inr, refl, sym, ap, subst, ◌∙◌}
+use Rattle.std.proofs.Common.{ℕ, List, ◌∷◌, ◌++◌, ◌⊎◌, inl, inr, sym, ap, subst, ◌∙◌}
 use Rattle.std.specs.Prelude.{Contains}
 use Rattle.std.proofs.lemmas.List.Elements.{Contains-append_left}
 use Rattle.group_types.specs.Dimensions.{Dimensions}
-use Rattle.memc_table.specs.Act.{key_of}
-use Rattle.memc_table.specs.Contents.{Contents}
 use Rattle.memc_table.specs.declared.holding.Holding.{Holding}
 use Rattle.group_calls.specs.Turns.{entry_of}
 use Rattle.group_calls.specs.declared.entry.Entry.{Entry}
 use Rattle.law_log.proofs.Turnings.{get-contained}
 use Rattle.group_wire.specs.Actions.{Action, Show}
-use Rattle.group_wire.specs.Composed.{AreActions, composed}
+use Rattle.group_wire.specs.Composed.{AreActions}
 use Rattle.group_wire.proofs.Showing.{shown_is_logged}
-use Rattle.wire_eras.specs.Acknowledged.{AcknowledgedAreCarried, IsAcknowledged}
+use Rattle.wire_eras.specs.Acknowledged.{AcknowledgedAreCarried, AcknowledgedKeep, IsAcknowledged}
 use Rattle.wire_eras.specs.Carry.{HasEnded, HasKey, SetsHeld}
 use Rattle.wire_eras.specs.Laws.{log_made}
+use Rattle.wire_eras.specs.Told.{table_left}
+use Rattle.wire_eras.proofs.Carrying.{carries_keep}
+use Rattle.wire_eras.proofs.Legal.{first_log_is_legal}
 use Rattle.wire_eras.proofs.Logged.{behind, front, log-only, log-split}
 
 -- a call that was acknowledged is in the log
@@ -48,3 +49,9 @@ acknowledged_are_carried t s actions more carries =
         → HasKey (log_made s actions) key ⊎ HasEnded (log_made s (actions ++ more)) key h
     by key h run (inl a) = inl (acknowledged s actions key run a)
     by key h run (inr ended) = inr ended
+
+pub acknowledged_keep : AcknowledgedKeep
+acknowledged_keep earlier told s actions more legal carries are key h was a =
+    let run : AreActions s actions = front s actions more carries.run in
+    carries_keep s.k earlier (log_made s actions) told run.0.k.0 legal (first_log_is_legal s actions run) (log-only (SetsHeld (table_left s.k earlier)) s actions run carries.sets) are key h was
+    (acknowledged s actions key run a)

@@ -1,5 +1,5 @@
 -- What clients begin is all that is asked, and all that the members' events ask.
-use Rattle.std.proofs.Common.{ℕ, ◌≡◌, ◌+◌, Bool, true, false, ◌&&◌, List, [], ◌∷◌, ◌++◌, map, Option, Some, None, refl, sym, ap, subst, ◌∙◌}
+use Rattle.std.proofs.Common.{ℕ, ◌≡◌, ◌+◌, Bool, true, false, ◌&&◌, List, [], ◌∷◌, ◌++◌, Option, Some, None, refl, sym, subst, ◌∙◌}
 use Rattle.std.specs.Prelude.{not, ⊤}
 use Rattle.std.specs.List.{range_with_len}
 use Rattle.std.proofs.lemmas.List.{append_assoc, append-nil}
@@ -8,7 +8,7 @@ use Rattle.group_types.specs.Each.{Each}
 use Rattle.group_types.specs.Hash.{home_of}
 use Rattle.group_types.specs.Names.{process_at}
 use Rattle.group_types.specs.declared.process.ProcessId.{ProcessId}
-use Rattle.group_types.proofs.Eaches.{each-append, each-map}
+use Rattle.group_types.proofs.Eaches.{each-append}
 use Rattle.memc_table.specs.Act.{key_of}
 use Rattle.memc_table.specs.Asked.{Asked}
 use Rattle.group_message.specs.declared.message.Message.{Message}
@@ -19,9 +19,9 @@ use Rattle.group_run.specs.Asking.{collect_from}
 use Rattle.group_run.specs.World.{front_if}
 use Rattle.law_moves.proofs.Reading.{some-same}
 use Rattle.group_wire.specs.Actions.{Action, Begin, Send, Read, Treat, Collect, Flush, Learn, Receive, GiveUp, Cut, Say, Hear, Permit, Take, Ping, Pong, Count, Show, LetGo, Stop}
-use Rattle.group_wire.specs.Composed.{Composed, Made, call_given_up, composed, composed_from, composed_with, events_of, failures_at, given_up, lost_ask, made_by, message_made, opening_composed, request_made, stands_if}
+use Rattle.group_wire.specs.Composed.{Composed, Made, call_given_up, composed_from, composed_with, events_of, failures_at, given_up, lost_ask, made_by, message_made, opening_composed, request_made, stands_if}
 use Rattle.group_wire.specs.Sending.{parked_at, sent_on, treating}
-use Rattle.group_wire.specs.Serving.{call_learned, gateways_after, handed_to, if_open, learned_first, read_first, request_treated, sends_by, stage_given_up, stage_learned, staged, tell, told_of}
+use Rattle.group_wire.specs.Serving.{call_learned, gateways_after, handed_to, if_open, learned_first, read_first, request_treated, sends_by, stage_given_up, staged, tell, told_of}
 use Rattle.group_wire.specs.Sets.{Processes, changed, changed_at, one_or, without}
 use Rattle.group_wire.specs.State.{Request, AskFor, TraceOf, Told, Stage, Unasked, AskedOf, Unknown, TracedAt, Answered, OpenCall, Gateways, Group, gateway_of}
 use Rattle.group_wire.proofs.Changes.{changed-each, changed-pairs, changed_at-each, one_or-is}

@@ -1,13 +1,14 @@
 -- What sets of what a table holds leave: each item that was set is what it was, and each other is untouched.
-use Rattle.std.proofs.Common.{ℕ, zero, suc, ◌≡◌, ◌<◌, ◌≤◌, ◌+◌, Bool, true, false, List, [], ◌∷◌, ◌++◌, Option, Some, None, is_some, if◌then◌else◌, inl, inr, refl, sym, ap, subst, ◌∙◌, arith}
+use Rattle.std.proofs.Common.{ℕ, zero, suc, ◌≡◌, ◌≤◌, ◌+◌, ◌==◌, nat_le, Bool, true, false, List, [], ◌∷◌, ◌++◌, Option, Some, None, is_some, if◌then◌else◌, inl, inr, refl, sym, ap, subst, ◌∙◌, arith}
 use Rattle.std.specs.Prelude.{Contains, slice_index}
+use Rattle.std.proofs.lemmas.Grind.{common_steps}
 use Rattle.group_types.specs.Each.{Each}
 use Rattle.group_types.specs.Hash.{home_of}
-use Rattle.group_types.specs.Lists.{at, same_key}
+use Rattle.group_types.specs.Lists.{same_key}
 use Rattle.memc_table.specs.Act.{key_of}
 use Rattle.memc_table.specs.Asked.{Asked}
 use Rattle.memc_table.specs.Contents.{Contents, after_ruling, count_of, empty_table, ruling_on, table_after}
-use Rattle.memc_table.specs.Expiry.{until_of}
+use Rattle.memc_table.specs.Expiry.{longest_offset, until_of}
 use Rattle.memc_table.specs.declared.act.Act.{Act}
 use Rattle.memc_table.specs.declared.act.Act.TheVariants.{Add, Append, Cas, Decr, Delete, Get, Incr, Prepend, Replace, Set, Touch}
 use Rattle.memc_table.specs.declared.holding.Holding.{Holding}
@@ -19,10 +20,10 @@ use Rattle.law_log.proofs.Tables.{table-append}
 use Rattle.law_moves.proofs.Reading.{some-same}
 use Rattle.law_updates.proofs.Keys.{key-eq, key-refl}
 use Rattle.group_eras.specs.Promise.{IsKept}
-use Rattle.group_eras.specs.Told.{Bases, op_in, with_cas, without_base}
+use Rattle.group_eras.specs.Told.{Bases, with_cas, without_base}
 use Rattle.group_eras.proofs.Joins.{Joined, Meets, SetsFree, key-cas}
 use Rattle.group_eras.proofs.Shifts.{Alike, Gone, IsSet, shift, shifted}
-use Rattle.wire_eras.specs.Carry.{HasKey, SetsHeld}
+use Rattle.wire_eras.specs.Carry.{ExptimesKeep, HasKey, SetsHeld}
 use Rattle.wire_eras.specs.Laws.{CarriesKeep}
 use Rattle.wire_eras.specs.Told.{AreToldAs, IsToldAs, bases_of, table_left}
 use Rattle.wire_eras.proofs.Joining.{Anywhere, index-at, joined-start, legal-on, many-left}
@@ -160,3 +161,11 @@ module _ (k : ℕ) (some : 1 ≤ k) (earlier sets told : List Entry) (legal : Is
 
 pub carries_keep : CarriesKeep
 carries_keep k earlier sets told some legal own only are key h was has = kept-left k some earlier sets told own only are key h was has
+
+pub exptimes_keep : ExptimesKeep
+exptimes_keep None moment late = refl
+exptimes_keep (Some u) moment late = by (u == 0) refl (nat_le u longest_offset) refl where
+  by : (b : Bool) → (u == 0) ≡ b → (c : Bool) → nat_le u longest_offset ≡ c → (if b then None else (if c then Some (moment + u) else Some u)) ≡ Some u
+  by true is c low = absurd (let none : u ≡ 0 = grind (arith, common_steps) in omega (arith, none, late))
+  by false is true low = absurd (let most : u ≤ longest_offset = grind (arith, common_steps) in omega (arith, most, late))
+  by false is false low = refl

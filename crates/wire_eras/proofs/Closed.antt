@@ -2,7 +2,7 @@
 use Rattle.std.proofs.Common.{ℕ, ◌≡◌, ◌≢◌, ◌<◌, ◌≤◌, ◌+◌, Bool, true, false, List, [], ◌∷◌, ◌++◌, length, map, ◌⊎◌, inl, inr, refl, sym, ap, subst, ◌∙◌, arith}
 use Rattle.std.specs.Prelude.{slice_index, slice_set}
 use Rattle.std.proofs.lemmas.Bool.{cases_eq}
-use Rattle.std.proofs.lemmas.List.{get_or-set_other, get_or-set_same, length-set}
+use Rattle.std.proofs.lemmas.List.{get_or-set_other, get_or-set_same}
 use Rattle.group_types.specs.Dimensions.{Dimensions}
 use Rattle.group_types.specs.Each.{Each}
 use Rattle.group_types.specs.Hash.{home_of}
@@ -15,22 +15,21 @@ use Rattle.memc_table.specs.Contents.{Contents, after_ruling, count_of, empty_ta
 use Rattle.memc_table.specs.Expiry.{live_at}
 use Rattle.memc_table.specs.declared.ruling.Ruling.{Ruling}
 use Rattle.memc_table.specs.declared.ruling.Ruling.TheVariants.{Accepted, Refused}
-use Rattle.group_message.specs.declared.message.Message.{Message}
 use Rattle.group_message.specs.declared.message.Message.TheVariants as tells
 use Rattle.group_calls.specs.Log.{IsLegalFrom, table_of}
 use Rattle.group_calls.specs.Turns.{accepts}
 use Rattle.group_calls.specs.declared.entry.Entry.{Entry}
 use Rattle.group_calls.specs.declared.event.Event.{Event}
 use Rattle.group_run.specs.Headline.{IsRun}
-use Rattle.group_run.specs.Meaning.{IsDown, IsDrained, is_dead, link}
-use Rattle.group_run.specs.World.{World, after}
+use Rattle.group_run.specs.Meaning.{IsDown, IsDrained, link}
+use Rattle.group_run.specs.World.{after}
 use Rattle.law_log.proofs.Tables.{home-below, table-append}
 use Rattle.law_updates.proofs.Rules.{RulesWell, rules-well}
 use Rattle.group_eras.proofs.Resting.{Rests, same-counts}
 use Rattle.group_eras.proofs.Standing.{legal-behind}
 use Rattle.group_wire.specs.Actions.{Action}
-use Rattle.group_wire.specs.Composed.{AreActions, Composed, Made, composed, events_of, opening_composed}
-use Rattle.group_wire.specs.Composition.{HasNotFailed, IsComposed, machine}
+use Rattle.group_wire.specs.Composed.{AreActions, composed, events_of, opening_composed}
+use Rattle.group_wire.specs.Composition.{machine}
 use Rattle.group_wire.specs.Sets.{one_or}
 use Rattle.group_wire.proofs.Compositions.{runs_compose}
 use Rattle.group_wire.proofs.Honest as honest

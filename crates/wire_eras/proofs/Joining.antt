@@ -1,5 +1,5 @@
 -- A later log that is told behind an earlier one stays legal, entry by entry.
-use Rattle.std.proofs.Common.{ℕ, zero, suc, ◌≡◌, ◌<◌, ◌≤◌, ◌+◌, false, List, [], ◌∷◌, ◌++◌, length, Option, Some, None, ◌⊎◌, inl, inr, refl, sym, ap, subst, ◌∙◌, arith}
+use Rattle.std.proofs.Common.{ℕ, zero, suc, ◌≡◌, ◌≤◌, ◌+◌, List, [], ◌∷◌, length, inr, refl, sym, ap, subst, ◌∙◌, arith}
 use Rattle.std.specs.Prelude.{slice_index, ⊤}
 use Rattle.std.proofs.lemmas.List.{length-set, length-replicate}
 use Rattle.erasure_code.proofs.Lists.{get_or-zeros}
@@ -9,12 +9,11 @@ use Rattle.group_types.specs.Lists.{at}
 use Rattle.memc_table.specs.Act.{key_of}
 use Rattle.memc_table.specs.Asked.{Asked}
 use Rattle.memc_table.specs.Contents.{Contents, after_ruling, count_of, empty_table, partition_of, reply_of, ruling_on, table_after}
-use Rattle.memc_table.specs.declared.holding.Holding.{Holding}
 use Rattle.memc_table.specs.declared.ruling.Ruling.{Ruling}
 use Rattle.memc_table.specs.declared.ruling.Ruling.TheVariants.{Accepted, Refused}
 use Rattle.group_calls.specs.Log.{IsLegalFrom, table_of}
 use Rattle.group_calls.specs.declared.entry.Entry.{Entry}
-use Rattle.group_eras.specs.Told.{Bases, op_in, told_reply}
+use Rattle.group_eras.specs.Told.{Bases, told_reply}
 use Rattle.group_eras.proofs.Joins.{Joined, SetsFree, after-joined, reply-joined}
 use Rattle.wire_eras.specs.Told.{AreToldAs, bases_of, table_left}
 

@@ -1,13 +1,13 @@
 -- The log of a later group, told behind an earlier one, is legal.
-use Rattle.std.proofs.Common.{ℕ, zero, suc, ◌≡◌, ◌≤◌, ◌+◌, Bool, true, false, List, [], ◌∷◌, ◌++◌, length, take, Option, Some, None, is_some, if◌then◌else◌, ◌⊎◌, inl, inr, refl, sym, ap, subst, ◌∙◌, arith}
-use Rattle.std.specs.Prelude.{slice_get, slice_index, slice_set}
+use Rattle.std.proofs.Common.{ℕ, ◌≡◌, ◌≤◌, ◌+◌, Bool, true, false, List, [], ◌∷◌, ◌++◌, length, Option, Some, None, is_some, if◌then◌else◌, ◌⊎◌, inl, inr, refl, sym, ap, subst, ◌∙◌}
+use Rattle.std.specs.Prelude.{slice_index, slice_set}
 use Rattle.group_types.specs.Dimensions.{Dimensions}
 use Rattle.group_types.specs.Each.{Each}
 use Rattle.group_types.specs.Hash.{home_of}
 use Rattle.group_types.specs.Lists.{same_key}
 use Rattle.memc_table.specs.Act.{key_of}
 use Rattle.memc_table.specs.Asked.{Asked}
-use Rattle.memc_table.specs.Contents.{Contents, after_ruling, count_of, empty_table, partition_of, reply_in, reply_of, ruling_on, table_after}
+use Rattle.memc_table.specs.Contents.{Contents, after_ruling, count_of, empty_table, reply_in, ruling_on, table_after}
 use Rattle.memc_table.specs.Expiry.{is_live, live_at}
 use Rattle.memc_table.specs.Ruling.{ruling_of}
 use Rattle.memc_table.specs.declared.holding.Holding.{Holding}
@@ -15,20 +15,20 @@ use Rattle.memc_table.specs.declared.ruling.Ruling.{Ruling}
 use Rattle.memc_table.specs.declared.ruling.Ruling.TheVariants.{Accepted, Refused}
 use Rattle.group_calls.specs.Log.{IsLegal, IsLegalFrom, table_of}
 use Rattle.group_calls.specs.declared.entry.Entry.{Entry}
-use Rattle.law_log.proofs.Tables.{legal-append}
-use Rattle.group_eras.specs.Told.{Bases}
+use Rattle.law_log.proofs.Tables.{legal-append, table-append}
+use Rattle.group_eras.specs.Told.{Bases, with_base}
 use Rattle.group_eras.proofs.Joins.{Joined, Meets, SetsFree}
 use Rattle.group_eras.proofs.Shifts.{Alike, Gone, HasCas, shift}
 use Rattle.group_eras.proofs.Standing.{NoKey, legal-behind}
 use Rattle.group_wire.specs.Actions.{Action}
-use Rattle.group_wire.specs.Composed.{AreActions, composed, opening_composed}
+use Rattle.group_wire.specs.Composed.{opening_composed}
 use Rattle.group_wire.proofs.Compositions.{runs_compose}
 use Rattle.group_wire.proofs.Honest as honest
 use Rattle.wire_eras.specs.Carry.{HasEnded, HasKey, SetsHeld}
-use Rattle.wire_eras.specs.Laws.{FirstLogIsLegal, GoesOnFrom, IsTold, LogsAreOne, log_made}
-use Rattle.wire_eras.specs.Told.{AreToldAs, IsToldAs, bases_of, table_left}
+use Rattle.wire_eras.specs.Laws.{FirstLogIsLegal, GoesOnFrom, IsRaised, IsTold, LogsAreOne, TablesGoOn, log_made, raised}
+use Rattle.wire_eras.specs.Told.{AreToldAs, bases_of, table_left}
 use Rattle.wire_eras.proofs.Carrying.{OfHeld, Settled, Untouched, behind, settled, there, told-key}
-use Rattle.wire_eras.proofs.Joining.{Anywhere, legal-on}
+use Rattle.wire_eras.proofs.Joining.{Anywhere, index-at, legal-on}
 
 pub first_log_is_legal : FirstLogIsLegal
 first_log_is_legal s actions run = subst (λ (t : Dimensions). IsLegal t.k (log_made s actions)) (honest.shape-from (opening_composed s) actions) (runs_compose s actions run).headline.one_log.legal
@@ -97,13 +97,12 @@ module _ (e : Entry) (log : List Entry) (all clean : Contents) (stale : Stale (e
   stale-after : Stale log (table_after all e.op) (table_after clean e.op)
   stale-after = subst (λ (r : Ruling). Stale log (after_ruling all (key_of e.op.act) r) (table_after clean e.op)) (sym ruling-same) (stale-ruled (ruling_on clean e.op))
 
--- a log that is legal without the items that weren't carried is so with them
-stale-legal : (log : List Entry) (all clean : Contents) → Stale log all clean → IsLegalFrom clean log → IsLegalFrom all log
-stale-legal [] all clean stale legal = tt
-stale-legal (e ∷ es) all clean stale legal = (
-  legal.0 ∙ sym (ap reply_in (ruling-same e es all clean stale)),
-  stale-legal es (table_after all e.op) (table_after clean e.op) (stale-after e es all clean stale) legal.1,
-)
+-- a log that is legal without the items that weren't carried is so with them, and leaves them as they are
+stale-legal : (log : List Entry) (all clean : Contents) → Stale log all clean → IsLegalFrom clean log → IsLegalFrom all log × Stale [] (table_of all log) (table_of clean log)
+stale-legal [] all clean stale legal = (tt, stale)
+stale-legal (e ∷ es) all clean stale legal =
+    let rest = stale-legal es (table_after all e.op) (table_after clean e.op) (stale-after e es all clean stale) legal.1 in
+    ((legal.0 ∙ sym (ap reply_in (ruling-same e es all clean stale)), rest.0), rest.1)
 
 no-free : (bases : Bases) (k : ℕ) (some : 1 ≤ k) (ys : List Entry) → Each (λ y. SetsFree bases k some NoKey y.op) ys
 no-free bases k some [] = tt
@@ -168,21 +167,59 @@ module _ (k : ℕ) (some : 1 ≤ k) (earlier sets later front rest : List Entry)
     item key None is (Untouched none untouched) = left key ((table_left k earlier).items key) refl none untouched
     item key None is (OfHeld h g was own_is flags value until cas) = absurd (cc (is, own_is))
 
+  behind-sets : IsLegalFrom clean rest × Joined (bases_of k earlier) k some NoKey (table_of clean rest) (table_of (table_left k sets) later)
+  behind-sets = legal-on (bases_of k earlier) k some NoKey clean (table_left k sets) later rest clean-joined (legal-behind (empty_table k) sets later legal) second (no-free (bases_of k earlier) k some rest)
+
+  stale-end : IsLegalFrom (table_of (table_left k earlier) front) rest × Stale [] (table_of (table_of (table_left k earlier) front) rest) (table_of clean rest)
+  stale-end = stale-legal rest (table_of (table_left k earlier) front) clean clean-stale behind-sets.0
+
   pub told-on : IsLegalFrom (table_left k earlier) (front ++ rest)
-  told-on = legal-append (table_left k earlier) front rest both.0
-      (stale-legal rest (table_of (table_left k earlier) front) clean clean-stale
-      (legal-on (bases_of k earlier) k some NoKey clean (table_left k sets) later rest clean-joined (legal-behind (empty_table k) sets later legal) second (no-free (bases_of k earlier) k some rest)).0)
+  told-on = legal-append (table_left k earlier) front rest both.0 stale-end.0
+
+  pub told-raised : IsRaised (bases_of k earlier) k (table_of (table_left k sets) later) (table_of (table_of (table_left k earlier) front) rest)
+  told-raised = record {
+    counts = λ d below.
+        sym (index-at (table_of (table_of (table_left k earlier) front) rest).counts d) ∙ ap (λ (cs : List ℕ). slice_index cs d) stale-end.1.counts ∙ behind-sets.1.counts d below
+        ∙ ap (with_base (bases_of k earlier) d) (index-at (table_of (table_left k sets) later).counts d);
+    items = λ key h own. item key h own (stale-end.1.items key) (behind-sets.1.items key);
+  } where
+    item : (key : List ℕ) (h : Holding) → (table_of (table_left k sets) later).items key ≡ Some h
+        → StaleAt [] key ((table_of (table_of (table_left k earlier) front) rest).items key) ((table_of clean rest).items key)
+        → Meets (bases_of k earlier) k some NoKey key ((table_of clean rest).items key) ((table_of (table_left k sets) later).items key)
+        → (table_of (table_of (table_left k earlier) front) rest).items key ≡ Some (raised (bases_of k earlier) (home_of key k) h)
+    item key h own (AsIs same) (inl (Alike is has)) = same ∙ is ∙ ap (shift (bases_of k earlier) (home_of key k)) own
+    item key h own (Ended x is none ended) (inl (Alike same has)) = absurd (cc (sym none ∙ same ∙ ap (shift (bases_of k earlier) (home_of key k)) own))
+    item key h own was (inl (Gone x is ends none)) = absurd (cc (none, own))
+    item key h own was (inr free) = absurd free.0
 
 -- so is that of a group over machines
-pub goes-on : (earlier told : List Entry) (s : Dimensions) (actions : List Action) → GoesOnFrom earlier s actions → IsTold earlier s actions told → IsLegalFrom (table_left s.k earlier) told
-goes-on earlier told s actions goes are =
-    let carried = goes.carried in
-    let split : ToldBoth (bases_of s.k earlier) s.k carried.sets carried.later told
-    = told-both (bases_of s.k earlier) s.k carried.sets carried.later told (subst (λ (log : List Entry). AreToldAs (bases_of s.k earlier) s.k log told) carried.is are) in
-    let legal : IsLegalFrom (empty_table s.k) (carried.sets ++ carried.later) = subst (IsLegalFrom (empty_table s.k)) carried.is (first_log_is_legal s actions goes.run) in
-    subst (IsLegalFrom (table_left s.k earlier)) (sym split.is)
-    (told-on s.k goes.run.0.k.0 earlier carried.sets carried.later split.front split.rest legal carried.only split.first split.second
-    (λ key h was. subst (λ (log : List Entry). HasKey carried.sets key ⊎ HasEnded log key h) carried.is (carried.all key h was)))
+module _ (earlier told : List Entry) (s : Dimensions) (actions : List Action) (goes : GoesOnFrom earlier s actions) (are : IsTold earlier s actions told) where
+  split : ToldBoth (bases_of s.k earlier) s.k goes.carried.sets goes.carried.later told
+  split = told-both (bases_of s.k earlier) s.k goes.carried.sets goes.carried.later told (subst (λ (log : List Entry). AreToldAs (bases_of s.k earlier) s.k log told) goes.carried.is are)
+
+  own-legal : IsLegalFrom (empty_table s.k) (goes.carried.sets ++ goes.carried.later)
+  own-legal = subst (IsLegalFrom (empty_table s.k)) goes.carried.is (first_log_is_legal s actions goes.run)
+
+  each-item : (key : List ℕ) (h : Holding) → (table_left s.k earlier).items key ≡ Some h → HasKey goes.carried.sets key ⊎ HasEnded (goes.carried.sets ++ goes.carried.later) key h
+  each-item key h was = subst (λ (log : List Entry). HasKey goes.carried.sets key ⊎ HasEnded log key h) goes.carried.is (goes.carried.all key h was)
+
+  pub goes-on : IsLegalFrom (table_left s.k earlier) told
+  goes-on = subst (IsLegalFrom (table_left s.k earlier)) (sym split.is)
+      (told-on s.k goes.run.0.k.0 earlier goes.carried.sets goes.carried.later split.front split.rest own-legal goes.carried.only split.first split.second each-item)
+
+  own-table : table_of (table_left s.k goes.carried.sets) goes.carried.later ≡ table_left s.k (log_made s actions)
+  own-table = sym (table-append (empty_table s.k) goes.carried.sets goes.carried.later) ∙ ap (table_left s.k) (sym goes.carried.is)
+
+  over-table : table_of (table_of (table_left s.k earlier) split.front) split.rest ≡ table_left s.k (earlier ++ told)
+  over-table = sym (table-append (table_left s.k earlier) split.front split.rest) ∙ ap (table_of (table_left s.k earlier)) (sym split.is) ∙ sym (table-append (empty_table s.k) earlier told)
+
+  raises : IsRaised (bases_of s.k earlier) s.k (table_left s.k (log_made s actions)) (table_left s.k (earlier ++ told))
+  raises = subst (λ (t : Contents). IsRaised (bases_of s.k earlier) s.k t (table_left s.k (earlier ++ told))) own-table
+      (subst (IsRaised (bases_of s.k earlier) s.k (table_of (table_left s.k goes.carried.sets) goes.carried.later)) over-table
+      (told-raised s.k goes.run.0.k.0 earlier goes.carried.sets goes.carried.later split.front split.rest own-legal goes.carried.only split.first split.second each-item))
 
 pub logs_are_one : LogsAreOne
 logs_are_one earlier told s actions goes are = legal-append (empty_table s.k) earlier told goes.legal (goes-on earlier told s actions goes are)
+
+pub tables_go_on : TablesGoOn
+tables_go_on earlier told s actions goes are = raises earlier told s actions goes are

@@ -5,6 +5,7 @@ pub mod Carrying
 pub mod Closed
 pub mod Joining
 pub mod Legal
+pub mod Listing
 pub mod Logged
 pub mod Reading
 pub mod Resting

@@ -1,5 +1,5 @@
 -- The log that members' actions made: it only grows, and each entry has an op that was asked.
-use Rattle.std.proofs.Common.{ℕ, ◌≡◌, List, [], ◌∷◌, ◌++◌, map, refl, sym, ap, ap₂, subst, ◌∙◌, Some}
+use Rattle.std.proofs.Common.{◌≡◌, List, [], ◌∷◌, ◌++◌, map, refl, sym, ap, subst, ◌∙◌, Some}
 use Rattle.std.specs.Prelude.{Contains, slice_get}
 use Rattle.std.proofs.lemmas.List.{append_assoc, append-nil}
 use Rattle.group_types.specs.Dimensions.{Dimensions}
@@ -23,7 +23,7 @@ use Rattle.group_wire.specs.Actions.{Action}
 use Rattle.group_wire.specs.Composed.{AreActions, AreActionsFrom, Composed, Made, composed, composed_from, composed_with, events_of, made_by, opening_composed}
 use Rattle.group_wire.proofs.Compositions.{runs_compose}
 use Rattle.group_wire.proofs.Honest as honest
-use Rattle.wire_eras.specs.Begun.{BeginsOnly, OnlyOpen}
+use Rattle.wire_eras.specs.Begun.{BeginsOnly}
 use Rattle.wire_eras.specs.Laws.{log_made}
 use Rattle.wire_eras.proofs.Begun.{EventAsks, MadeOnly, only-from, open-start}
 

@@ -1,11 +1,10 @@
 -- Behind a group at rest in which no change is asked nothing more is settled, whatever else happens.
-use Rattle.std.proofs.Common.{ℕ, ◌≡◌, ◌<◌, true, false, List, [], ◌∷◌, ◌++◌, ◌⊎◌, inl, inr, refl, sym, ap, subst, ◌∙◌, arith}
+use Rattle.std.proofs.Common.{ℕ, ◌≡◌, ◌<◌, true, false, List, [], ◌∷◌, ◌++◌, inl, inr, refl, sym, subst, ◌∙◌, arith}
 use Rattle.std.proofs.lemmas.List.{append_assoc, append-nil}
 use Rattle.std.specs.List.{range_with_len}
 use Rattle.group_types.specs.Dimensions.{Dimensions}
 use Rattle.group_types.specs.Each.{Each}
-use Rattle.group_types.specs.Lists.{at}
-use Rattle.group_types.specs.Names.{IsProcess, index_of}
+use Rattle.group_types.specs.Names.{IsProcess}
 use Rattle.group_types.specs.Shape.{IsShape}
 use Rattle.group_types.specs.declared.process.ProcessId.{ProcessId}
 use Rattle.memc_table.specs.declared.act.Act.{Act}
@@ -19,7 +18,7 @@ use Rattle.group_run.specs.Asking.{collect_from}
 use Rattle.group_run.specs.Deciding.{is_get}
 use Rattle.group_run.specs.Headline.{IsRun, MayCome}
 use Rattle.group_run.specs.History.{History, history, prolonged}
-use Rattle.group_run.specs.World.{after, flush_process, next_name, node_of}
+use Rattle.group_run.specs.World.{flush_process, next_name, node_of}
 use Rattle.law_moves.specs.State.{State, state_of}
 use Rattle.law_moves.proofs.Events.{FramedHistory}
 use Rattle.law_moves.proofs.Keeping.{keeps}

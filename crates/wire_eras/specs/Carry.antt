@@ -1,13 +1,14 @@
 -- How the log of a group begins into which the items of an earlier table were carried by clients.
-use Rattle.std.specs.Prelude.{ℕ, ℤ, ◌≡◌, ◌⊎◌, false, List, ◌++◌, Some, Contains}
+use Rattle.std.specs.Prelude.{ℕ, ℤ, ◌≡◌, ◌<◌, ◌⊎◌, false, List, ◌++◌, Option, Some, None, Contains, ⊤}
 use Rattle.group_types.specs.Each.{Each}
 use Rattle.memc_table.specs.Act.{key_of}
 use Rattle.memc_table.specs.Asked.{Asked}
 use Rattle.memc_table.specs.Contents.{Contents}
-use Rattle.memc_table.specs.Expiry.{is_live, until_of}
+use Rattle.memc_table.specs.Expiry.{is_live, longest_offset, until_of}
 use Rattle.memc_table.specs.declared.act.Act.TheVariants.{Set}
 use Rattle.memc_table.specs.declared.holding.Holding.{Holding}
 use Rattle.group_calls.specs.declared.entry.Entry.{Entry}
+use Rattle.group_eras.specs.Carry.{expiry_of}
 
 -- an op sets what a table holds of its key: flags and value, with an exptime by which it lives as long
 pub record SetsHeld (t : Contents) (op : Asked) : Type 0 where
@@ -32,3 +33,12 @@ pub record BeginsWithCarry (t : Contents) (log : List Entry) : Type 0 where
   pub is : log ≡ sets ++ later
   pub only : Each (λ e. SetsHeld t e.op) sets
   pub all : (key : List ℕ) (h : Holding) → t.items key ≡ Some h → HasKey sets key ⊎ HasEnded log key h
+
+-- an until that is no offset from the moment of a call
+abbrev pub IsLate : Option ℕ → Type 0
+IsLate None = ⊤
+IsLate (Some until) = longest_offset < until
+
+-- such an until is kept by the exptime that is its number, and none by 0, whenever the item is set
+abbrev pub ExptimesKeep : Type 0
+ExptimesKeep = (until : Option ℕ) (moment : ℕ) → IsLate until → until_of (expiry_of until) moment ≡ until

@@ -1,18 +1,19 @@
 -- What holds of a group over machines that goes on from an earlier log.
-use Rattle.std.specs.Prelude.{ℕ, ◌≡◌, ◌≤◌, List, ◌++◌, take, Some}
+use Rattle.std.specs.Prelude.{ℕ, ◌≡◌, ◌<◌, ◌≤◌, List, ◌++◌, take, Some}
 use Rattle.group_types.specs.Dimensions.{Dimensions}
 use Rattle.group_types.specs.Each.{Each}
 use Rattle.group_types.specs.Hash.{home_of}
+use Rattle.group_types.specs.Lists.{at}
 use Rattle.memc_table.specs.Act.{key_of}
 use Rattle.memc_table.specs.Asked.{Asked}
-use Rattle.memc_table.specs.Contents.{reply_of}
+use Rattle.memc_table.specs.Contents.{Contents, reply_of}
 use Rattle.memc_table.specs.declared.holding.Holding.{Holding}
 use Rattle.memc_table.specs.declared.reply.Reply.{Reply}
 use Rattle.group_calls.specs.Log.{IsLegal}
 use Rattle.group_calls.specs.declared.entry.Entry.{Entry}
 use Rattle.group_calls.specs.declared.event.Answer.TheVariants as says
 use Rattle.group_eras.specs.Promise.{IsKept}
-use Rattle.group_eras.specs.Told.{op_in, told_reply}
+use Rattle.group_eras.specs.Told.{Bases, op_in, told_reply, with_base}
 use Rattle.group_wire.specs.Actions.{Action, Show}
 use Rattle.group_wire.specs.Composed.{AreActions, Composed, composed}
 use Rattle.group_wire.specs.Composition.{machine}
@@ -41,6 +42,20 @@ IsTold earlier s actions told = AreToldAs (bases_of s.k earlier) s.k (log_made s
 abbrev pub LogsAreOne : Type 0
 LogsAreOne = (earlier told : List Entry) (s : Dimensions) (actions : List Action) → GoesOnFrom earlier s actions → IsTold earlier s actions told
     → IsLegal s.k (earlier ++ told)
+
+-- an item as it is told: with the base of its partition added to its cas number
+abbrev pub raised : Bases → ℕ → Holding → Holding
+raised bases d h = record { item = record { flags = h.item.flags; cas = with_base bases d h.item.cas; value = h.item.value }; until = h.until }
+
+-- a table is another, as it is told
+pub record IsRaised (bases : Bases) (k : ℕ) (own over : Contents) : Type 0 where
+  pub counts : (d : ℕ) → d < k → at 0 over.counts d ≡ with_base bases d (at 0 own.counts d)
+  pub items : (key : List ℕ) (h : Holding) → own.items key ≡ Some h → over.items key ≡ Some (raised bases (home_of key k) h)
+
+-- so is the table over both that of the later group: what is read there may be carried on, and the next bases are the sums
+abbrev pub TablesGoOn : Type 0
+TablesGoOn = (earlier told : List Entry) (s : Dimensions) (actions : List Action) → GoesOnFrom earlier s actions → IsTold earlier s actions told
+    → IsRaised (bases_of s.k earlier) s.k (table_left s.k (log_made s actions)) (table_left s.k (earlier ++ told))
 
 -- the log of a first group is one
 abbrev pub FirstLogIsLegal : Type 0

@@ -4,7 +4,6 @@ use Rattle.group_types.specs.Dimensions.{Dimensions}
 use Rattle.group_types.specs.Hash.{home_of}
 use Rattle.group_types.specs.Lists.{at}
 use Rattle.item_index.specs.declared.slot.Slot.{Slot}
-use Rattle.memc_table.specs.Act.{key_of}
 use Rattle.memc_table.specs.Asked.{Asked}
 use Rattle.memc_table.specs.Contents.{Contents, reply_of}
 use Rattle.memc_table.specs.Expiry.{is_live}
