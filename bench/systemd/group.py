@@ -34,7 +34,7 @@ class Group:
             machine.prepare()
             machine.begin()
         for name, machine in self.machines.items():
-            until(machine.is_up, 60, f"the machine {name} is up")
+            until(machine.is_up, 180, f"the machine {name} is up")
         self.begin_etcd()
         with open(f"{TOP}/examples/haproxy/haproxy.cfg", encoding="utf-8") as file:
             text = re.sub(r"127\.0\.0\.1:2120(\d)", lambda it: f"10.0.0.{int(it[1]) + 1}:11211", file.read())

@@ -42,6 +42,8 @@ class Machine:
             file.write(text)
 
     def begin(self):
+        # One that a killed container left.
+        subprocess.run(["ip", "link", "delete", f"vb-{self.name}"], check=False, capture_output=True)
         words = ["systemd-nspawn", "-q", "-D", self.path(""), "-M", self.name, "--boot", "--register=no", "--keep-unit"]
         words += [f"--network-bridge={BRIDGE}", f"--bind-ro={self.shared}:/root/clone"]
         quiet = {"stdin": subprocess.DEVNULL, "stdout": subprocess.DEVNULL, "stderr": subprocess.DEVNULL}

@@ -21,7 +21,8 @@ def losses(group):
     metrics = group["d0"].run("curl -s http://127.0.0.1:11411/metrics")
     for line in ("cocytus_losses_left 1", 'cocytus_member_condemned{peer="d1"} 1', 'cocytus_death_taken{peer="d1"} 1', 'cocytus_link_up{peer="d1"} 0'):
         assert f"{line}\n" in metrics, f"/metrics has no {line}"
-    assert group["d0"].run(page.line("curl -s http://127.0.0.1:11411/health")) == "serves", "/health"
+    health = group["d0"].run(page.line("curl -s http://127.0.0.1:11411/health")).strip()
+    assert health == "serves", f"/health says {health!r}"
     group["p0"].end()
     say(f"a machine ended: the longest set of 300 took {group.client('set', 'b')} s")
     group.expect_dead("d1", "p0")
