@@ -6,6 +6,7 @@
 
 mod commands;
 mod ending;
+mod finding;
 mod help;
 mod listing;
 mod member_line;
@@ -13,7 +14,6 @@ mod member_run;
 mod member_stop;
 mod notice;
 mod program;
-mod refusing;
 mod running;
 mod serving;
 mod serving_group;

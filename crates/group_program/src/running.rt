@@ -6,10 +6,10 @@ ghost use Rattle.scenario_play.specs.Outside.{outside};
 ghost use Rattle.group_program.specs.Member.{HasRunMember, IsGivenMemberOr, IsMember, status_of, status_of_text};
 ghost use Rattle.group_program.specs.declared.member_stop.MemberStop.TheVariants.{Unread};
 
+use crate::finding::settings_or_tell;
 use crate::member_line::tell_key;
 use crate::member_run::MemberRun;
 use crate::member_stop::MemberStop;
-use crate::refusing::settings_or_tell;
 use edge_io::{Sink, Source};
 use group_config::{MemberSettings, TextFault, read_text};
 use group_server::Notice;
