@@ -4,6 +4,7 @@ import re
 import shutil
 import subprocess
 import sys
+import time
 
 import page
 from machines import BRIDGE, Machine, bridges, until
@@ -78,6 +79,8 @@ ETCD_INITIAL_CLUSTER_STATE=new
         for name in NAMES:
             self[name].move(BRIDGE)
             self[name].run("systemctl stop 'cocytus-*' 'second' || true; systemctl reset-failed")
+        self.since = int(time.time()) + 1
+        time.sleep(1)
         for name in NAMES:
             machine = self[name]
             machine.write("/root/member.toml", text)
@@ -94,7 +97,7 @@ ETCD_INITIAL_CLUSTER_STATE=new
         return dict(line.split(" ", 1) for line in said.splitlines() if " " in line)
 
     def journal(self, name):
-        return self[name].run("journalctl -b --no-pager -o cat -u 'cocytus-*' -u second")
+        return self[name].run(f"journalctl -b --since @{self.since} --no-pager -o cat -u 'cocytus-*' -u second")
 
     def is_dead(self, *names):
         """All others go on without these, and nobody else."""

@@ -17,8 +17,8 @@ pub fn next_dead(k: usize, m: usize, members: &[Standing]) -> Option<usize>
     }
 }
 
-/// How many live.
-fn count_living(members: &[Standing]) -> usize
+/// How many live: they are there, and not dead for ever.
+pub fn count_living(members: &[Standing]) -> usize
     ensures { result ≡ count_living members.now }
 {
     members.iter().filter(|member| member.is_living()).count()

@@ -5,5 +5,5 @@
 mod judging;
 mod standing;
 
-pub use judging::next_dead;
+pub use judging::{count_living, next_dead};
 pub use standing::Standing;

@@ -1,19 +1,20 @@
 use crate::names::name_at;
 use crate::report::WatchReport;
 use crate::watching::Watching;
-use watch_rules::next_dead;
+use watch_rules::{count_living, next_dead};
 
 impl<R, W: WatchReport> Watching<'_, R, W> {
-    /// Sees who is to be dead next, where etcd has answered for long enough.
+    /// Sees who is to be dead next, where etcd has answered for long enough, and enough members have lived for as long:
+    /// those that were cut off with others come back one after another.
     pub(crate) fn judge(&mut self) {
         self.next = None;
+        let shape = self.settings.shape;
+        let (k, m) = (shape.k() as usize, shape.m() as usize);
+        if count_living(self.members.as_slice()) < k {
+            self.trust.begin_anew(self.now);
+        }
         if self.trust.is_settled(self.now) {
-            let shape = self.settings.shape;
-            self.next = next_dead(
-                shape.k() as usize,
-                shape.m() as usize,
-                self.members.as_slice(),
-            );
+            self.next = next_dead(k, m, self.members.as_slice());
         }
     }
 

@@ -29,6 +29,13 @@ impl Trust {
         if was_settled { Some(gap) } else { None }
     }
 
+    /// What it answers isn't to be trusted yet.
+    pub(crate) fn begin_anew(&mut self, now: u64) {
+        if self.since.is_some() {
+            self.since = Some(now);
+        }
+    }
+
     /// Whether it has answered for long enough.
     pub(crate) fn is_settled(self, now: u64) -> bool {
         match self.since {
