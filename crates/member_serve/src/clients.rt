@@ -6,7 +6,7 @@ use crate::report::Report;
 use crate::serving::Serving;
 use crate::telling::tell_serving;
 use mio::net::TcpStream;
-use ready_worker::{MOST_OPEN, Watch};
+use ready_worker::{CrowdChange, MOST_OPEN, Watch};
 use std::net::Net;
 
 /// The most clients that are accepted in a turn.
@@ -46,12 +46,23 @@ impl<R: Net, W: Report + Watch, G: Callers> Serving<'_, R, W, G> {
         if self.is_stuck {
             return self.turn_away(stream, TOO_FEW);
         }
-        if self.worker.len() as u64 >= MOST_OPEN {
+        let open = self.worker.len() as u64;
+        self.tell_crowd(open);
+        if open >= MOST_OPEN {
             return self.turn_away(stream, TOO_MANY);
         }
         if let Ok(stream) = ClientStream::new(self.alloc, stream) {
             let _ = self.worker.admit(stream);
             self.tally.accept();
+        }
+    }
+
+    // Tells once that clients are refused since so many are there, and once that they aren't any more.
+    fn tell_crowd(&mut self, open: u64) {
+        match self.crowd.note(open) {
+            CrowdChange::None => {}
+            CrowdChange::Fills => self.report.refuses(open),
+            CrowdChange::Thins => self.report.recovers(),
         }
     }
 

@@ -17,7 +17,7 @@ use member_gateway::MemberGateway;
 use member_links::{Greeting, MemberLinks, Port, process_of};
 use member_machine::{Machine, MemberEnd};
 use mio::Poll;
-use ready_worker::{Station, Watch, Worker};
+use ready_worker::{Crowd, Station, Watch, Worker};
 use std::alloc::{AllocError, Global};
 use std::net::Net;
 use std::random::RandomSource;
@@ -116,6 +116,7 @@ impl<R: Net + RandomSource, W: Report> NetMachine<'_, R, W> {
             now: 0,
             said: 0,
             tally: Tally::new(),
+            crowd: Crowd::new(),
             told: ToldDeaths::new(),
             told_space: ToldSpace::new(),
             few_since: None,

@@ -8,7 +8,7 @@ use crate::tally::Tally;
 use crate::turn_clock::TurnClock;
 use group_config::MemberSettings;
 use member_links::{LINK_PORT, MemberLinks};
-use ready_worker::Worker;
+use ready_worker::{Crowd, Worker};
 use std::alloc::Global;
 use std::io;
 
@@ -27,6 +27,7 @@ pub(crate) struct Serving<'s, R, W, G: Callers> {
     pub(crate) now: u64,
     pub(crate) said: u32,
     pub(crate) tally: Tally,
+    pub(crate) crowd: Crowd,
     pub(crate) told: ToldDeaths,
     pub(crate) told_space: ToldSpace,
     pub(crate) few_since: Option<u64>,

@@ -1,3 +1,4 @@
+use crate::crowd::MOST_OPEN;
 use crate::lane::Lane;
 use crate::poll_readiness::PollReadiness;
 use crate::readiness::Readiness;
@@ -8,9 +9,6 @@ use std::alloc::Global;
 use std::io;
 use std::io::Write;
 use std::sync::Wait;
-
-/// The most connections that are open at a time.
-pub const MOST_OPEN: u64 = 10_000;
 
 /// The lanes of all workers.
 #[derive(Drop)]

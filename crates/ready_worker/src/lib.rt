@@ -3,6 +3,7 @@
 //! `Client`, and that the system tells when streams are ready and nobody starves to tests.
 #![tactic(auto)]
 
+mod crowd;
 mod either;
 mod exchange;
 mod exchanging;
@@ -18,9 +19,9 @@ mod told_edge;
 mod watch;
 mod worker;
 
+pub use crowd::{Crowd, CrowdChange, MOST_OPEN};
 pub use either::serve_either;
 pub use exchange::Exchange;
-pub use hall::MOST_OPEN;
 pub use lane::Lane;
 pub use readiness::{Readiness, Wake};
 pub use ready_listener::ReadyListener;

@@ -35,6 +35,13 @@ pub trait ReadyListener: Listener {
 
     /// Whether the connection that came last took what the next one would need: it is to be told so and let go.
     fn is_full(&self) -> bool;
+
+    /// A connection comes when so many others are open.
+    fn note_open(&mut self, open: u64)
+        ensures ready { Self.ready self.new ≡ Self.ready self.old }
+        ensures accepted { Self.accepted self.new ≡ Self.accepted self.old }
+        ensures over { Self.over self.new ≡ Self.over self.old }
+        ensures faults { Self.faults self.new ≡ Self.faults self.old };
 }
 
 impl<N: Net> ReadyListener for TcpEdge<N> {
@@ -57,6 +64,8 @@ impl<N: Net> ReadyListener for TcpEdge<N> {
     fn is_full(&self) -> bool {
         TcpEdge::is_full(self)
     }
+
+    fn note_open(&mut self, _open: u64) {}
 }
 
 // Its connections are in memory: there is nothing to wait for.
@@ -80,4 +89,6 @@ impl ReadyListener for MemoryListener {
     fn is_full(&self) -> bool {
         false
     }
+
+    fn note_open(&mut self, _open: u64) {}
 }

@@ -214,6 +214,7 @@ fn accept_all<R: Wait, L: ReadyListener>(
         match listener.accept_stream() {
             Ok(stream) => {
                 accepted += 1;
+                listener.note_open(hall.open());
                 if listener.is_full() {
                     refuse(stream);
                 } else {

@@ -1,3 +1,4 @@
+use crate::crowd::{Crowd, CrowdChange};
 use crate::ready_listener::ReadyListener;
 use crate::watch::Watch;
 use edge_io::{Failed, Listener, ReadEdge, WriteEdge};
@@ -7,13 +8,14 @@ use std::net::{Net, TcpStream};
 use tcp_edge::TcpEdge;
 
 /// A port that tells which number the system chose for it, where its address leaves that open, and once when streams that
-/// it accepted can't be accepted any more and when they can again.
+/// it accepted can't be accepted any more, or are refused, and when they can come again.
 #[derive(Drop)]
 pub struct ToldEdge<'w, N, W> {
     port: TcpEdge<N>,
     watch: &'w W,
     accepted: bool,
     troubled: bool,
+    crowd: Crowd,
 }
 
 impl<'w, N, W: Watch> ToldEdge<'w, N, W> {
@@ -28,6 +30,7 @@ impl<'w, N, W: Watch> ToldEdge<'w, N, W> {
             watch,
             accepted: false,
             troubled: false,
+            crowd: Crowd::new(),
         }
     }
 
@@ -115,5 +118,13 @@ impl<N: Net, W: Watch> ReadyListener for ToldEdge<'_, N, W> {
 
     fn is_full(&self) -> bool {
         self.port.is_full()
+    }
+
+    fn note_open(&mut self, open: u64) {
+        match self.crowd.note(open) {
+            CrowdChange::None => {}
+            CrowdChange::Fills => self.watch.refuses(open),
+            CrowdChange::Thins => self.watch.recovers(),
+        }
     }
 }

@@ -12,6 +12,9 @@ pub trait Watch {
     /// No descriptor is left for a further connection.
     fn is_full(&self);
 
+    /// So many connections are open that further ones are refused.
+    fn refuses(&self, open: u64);
+
     /// It accepts connections again.
     fn recovers(&self);
 }

@@ -87,4 +87,6 @@ impl<N: Net> ReadyListener for Unsteady<N> {
     fn is_full(&self) -> bool {
         self.port.is_full()
     }
+
+    fn note_open(&mut self, _open: u64) {}
 }

@@ -127,6 +127,8 @@ impl ReadyListener for Door {
     fn is_full(&self) -> bool {
         false
     }
+
+    fn note_open(&mut self, _open: u64) {}
 }
 
 impl Listener for Door {
