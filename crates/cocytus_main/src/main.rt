@@ -4,11 +4,13 @@
 //! the system, and so is what a person reads on standard error.
 #![tactic(auto)]
 
+mod kept_source;
 mod person;
 mod system;
 
 use edge_io::{ReadEdge, SystemClock, WriteEdge};
 use group_program::{Status, exit_of, run_program, tell};
+use kept_source::KeptSource;
 use member_serve::NetMachine;
 use person::Person;
 use ready_worker::ToldEdge;
@@ -36,19 +38,20 @@ fn main(rt: HostRuntime) -> ExitCode {
         member: NetMachine::new(rt.alloc(), &rt, &person),
         watcher: NetWatcher::new(rt.alloc(), &rt, &person),
     };
+    let mut source = KeptSource::new(rt.alloc(), ReadEdge::new(rt.stdin()), plays(&words));
     let mut port = ToldEdge::new(TcpEdge::new(&rt), &person);
     let status = run_program(
         &rt,
         rt.alloc(),
         &words,
-        &mut ReadEdge::new(rt.stdin()),
+        &mut source,
         &mut WriteEdge::new(rt.stdout()),
         &mut port,
         &mut machine,
         &person,
         &clock,
     );
-    person.explain(&words, status, port.last_error());
+    person.explain(&words, status, source.kept(), port.last_error());
     exit_of(status)
 }
 
@@ -57,4 +60,12 @@ fn behind_name(alloc: Global, all: Args) -> Result<Vec<String>, AllocError> {
     let mut words = all;
     words.next();
     words.collect(alloc)
+}
+
+/// Whether these words name a command that reads a script.
+fn plays(words: &[String]) -> bool {
+    let commands = ["play", "play_groups", "play_regroup", "verify"];
+    words
+        .first()
+        .is_some_and(|word| commands.contains(&word.as_str()))
 }

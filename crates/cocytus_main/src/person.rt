@@ -1,5 +1,6 @@
 use edge_io::{WriteEdge, write_all};
-use group_program::{Finding, Notice, Settings, Status, help_at, notice_of};
+use group_program::{Finding, Notice, Settings, Status, help_at, loss_of, notice_of};
+use group_types::ProcessId;
 use member_serve::{Level, Report};
 use ready_worker::Watch;
 use std::net::SocketAddr;
@@ -23,9 +24,15 @@ impl Person {
         }
     }
 
-    /// Tells how a command with these words ended, and why no connection could be accepted.
-    pub(crate) fn explain(&self, words: &[String], status: Status, error: Option<&io::Error>) {
-        if let Ok(help) = help_at(self.rt.alloc(), words, status) {
+    /// Tells how a command with these words ended, which read this script, and why no connection could be accepted.
+    pub(crate) fn explain(
+        &self,
+        words: &[String],
+        status: Status,
+        script: &[u8],
+        error: Option<&io::Error>,
+    ) {
+        if let Ok(help) = help_at(self.rt.alloc(), words, status, script) {
             self.say(&help);
         }
         self.say_error(error);
@@ -61,6 +68,12 @@ impl Notice for Person {
     fn refuse(&self, finding: &Finding) {
         if let Ok(line) = format!(in self.rt.alloc(); "settings: {finding}") {
             self.say_at(Level::Warning, &line);
+        }
+    }
+
+    fn lose(&self, at: ProcessId, lost: u64, most: u32) {
+        if let Ok(text) = loss_of(self.rt.alloc(), at, lost, most) {
+            self.say_at(Level::Warning, &text);
         }
     }
 }
@@ -101,6 +114,14 @@ impl Watch for Person {
             Level::Warning,
             "no descriptor is left: further connections are told so and closed",
         );
+    }
+
+    fn refuses(&self, open: u64) {
+        if let Ok(line) = format!(in self.rt.alloc();
+            "{open} connections are open: further ones are told so and closed"
+        ) {
+            self.say_at(Level::Warning, &line);
+        }
     }
 
     fn recovers(&self) {

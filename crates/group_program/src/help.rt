@@ -1,4 +1,5 @@
 use crate::commands::usage_of;
+use crate::refused_line::refused_line;
 use group_types::{BadShape, ConfigKey};
 use scenario_play::Status;
 use scenario_play::status::Count;
@@ -57,14 +58,19 @@ stop
 const LONGEST_SETTINGS: &str = "settings have at most 65536 bytes\n";
 
 /// What a person is told beside the last line of a command with these words: what was expected there, or what went
-/// wrong.
-pub fn help_at(alloc: Global, words: &[String], status: Status) -> Result<String, AllocError> {
+/// wrong. The script is what was read, as far as it was kept.
+pub fn help_at(
+    alloc: Global,
+    words: &[String],
+    status: Status,
+    script: &[u8],
+) -> Result<String, AllocError> {
     match words.first() {
         _ if matches!(status, Status::BadWords) => usage_of(alloc, words),
         Some(word) if word.as_str() == "member" || word.as_str() == "watch" => {
             help_of_member(alloc, status)
         }
-        _ => help_of_others(alloc, words, status),
+        _ => help_of_others(alloc, words, status, script),
     }
 }
 
@@ -90,12 +96,18 @@ fn help_of_member(alloc: Global, status: Status) -> Result<String, AllocError> {
     }
 }
 
-fn help_of_others(alloc: Global, words: &[String], status: Status) -> Result<String, AllocError> {
+fn help_of_others(
+    alloc: Global,
+    words: &[String],
+    status: Status,
+    script: &[u8],
+) -> Result<String, AllocError> {
     match status {
         Status::BadLine(n) => format!(in alloc;
-            "line {n} of the script {}{}",
+            "line {n} of the script {}{}{}",
             lines(words),
-            behind_lines(words)
+            behind_lines(words),
+            refused_line(alloc, script, n)?
         ),
         Status::BadFrame(at) => {
             format!(in alloc; "the frame at byte {at} of the input is none of a message\n")

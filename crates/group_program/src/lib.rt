@@ -14,7 +14,9 @@ mod member_run;
 mod member_stop;
 mod notice;
 mod program;
+mod refused_line;
 mod running;
+mod script_line;
 mod serving;
 mod serving_group;
 mod verifying;
@@ -28,7 +30,7 @@ pub use member_machine::{
 };
 pub use member_run::MemberRun;
 pub use member_stop::MemberStop;
-pub use notice::notice_of;
+pub use notice::{loss_of, notice_of};
 pub use program::run_program;
 pub use scenario_play::Status;
 pub use scenario_play::tell::tell;

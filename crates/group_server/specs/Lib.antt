@@ -3,3 +3,4 @@ pub mod Faults
 pub mod Service
 pub mod Serving
 pub mod Steps
+pub mod Told

@@ -1,6 +1,9 @@
 ghost use Rattle.std.specs.Prelude.{◌≡◌};
 ghost use Rattle.group_stage.specs.Seated.{AreOf};
 
+use crate::losses::Losses;
+use crate::notice::Notice;
+use crate::told_caller::ToldCaller;
 use group_stage::{Seats, Stage};
 use node_worker::Port;
 use stage_caller::StageCaller;
@@ -9,12 +12,13 @@ use std::sync::{Mutex, Wait};
 
 /// Lends callers over one stage, each from a seat of its own.
 #[derive(Drop)]
-pub(crate) struct Desk<'d, 'a, R> {
+pub(crate) struct Desk<'d, 'a, 'n, R, N> {
     rt: &'d R,
+    losses: &'d Losses<'n, N>,
     callers: Mutex<Vec<StageCaller<'a>>>,
 }
 
-impl<'d, 'a, R: Wait> Desk<'d, 'a, R> {
+impl<'d, 'a, 'n, R: Wait, N: Notice> Desk<'d, 'a, 'n, R, N> {
     /// A caller for each of these seats.
     pub(crate) fn new(
         rt: &'d R,
@@ -22,7 +26,8 @@ impl<'d, 'a, R: Wait> Desk<'d, 'a, R> {
         stage: &'a Stage,
         seats: Seats,
         control: bool,
-    ) -> Result<Desk<'d, 'a, R>, AllocError>
+        losses: &'d Losses<'n, N>,
+    ) -> Result<Desk<'d, 'a, 'n, R, N>, AllocError>
         requires { AreOf stage.now seats.seats }
     {
         let mut rest = seats;
@@ -32,21 +37,23 @@ impl<'d, 'a, R: Wait> Desk<'d, 'a, R> {
         }
         Ok(Desk {
             rt,
+            losses,
             callers: Mutex::new(callers),
         })
     }
 }
 
-impl<'a, R: Wait + Sync> Port for Desk<'_, 'a, R> {
-    type Lent = StageCaller<'a>;
+impl<'d, 'a, 'n, R: Wait + Sync, N: Notice> Port for Desk<'d, 'a, 'n, R, N> {
+    type Lent = ToldCaller<'d, 'n, StageCaller<'a>, N>;
 
-    fn lend(&self) -> Option<StageCaller<'a>> {
-        self.callers.try_lock()?.pop()
+    fn lend(&self) -> Option<ToldCaller<'d, 'n, StageCaller<'a>, N>> {
+        let caller = self.callers.try_lock()?.pop()?;
+        Some(ToldCaller::new(caller, self.losses))
     }
 
     // There is room, since each caller came from here.
-    fn give_back(&self, lent: StageCaller<'a>) {
+    fn give_back(&self, lent: ToldCaller<'d, 'n, StageCaller<'a>, N>) {
         let mut callers = self.callers.lock(self.rt);
-        let _ = callers.push(lent);
+        let _ = callers.push(lent.into_caller());
     }
 }

@@ -8,13 +8,17 @@ mod bell;
 mod deliverer;
 mod desk;
 mod fault;
+mod losses;
 mod notice;
+mod orders;
 mod server;
 mod service;
+mod told_caller;
 
 pub use fault::ServiceFault;
 pub use group_config::{Finding, Settings};
 pub use notice::{Notice, Silent};
+pub use orders::Orders;
 pub use ready_worker::ReadyListener;
 pub use server::serve_group;
 pub use service::serve;

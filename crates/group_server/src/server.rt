@@ -7,6 +7,9 @@ ghost use Rattle.node_worker.specs.declared.fault.ServeFault.{ServeFault};
 use crate::bell::Bell;
 use crate::deliverer::Deliverer;
 use crate::desk::Desk;
+use crate::losses::Losses;
+use crate::notice::Notice;
+use crate::orders::Orders;
 use edge_io::Clock;
 use group_stage::{Seats, Stage};
 use node_worker::{Gate, ServeFault};
@@ -19,14 +22,14 @@ use std::thread::Threads;
 /// Serves the connections of a listener over a group, by so many workers as there are seats but two: until
 /// `connections` of them were accepted, where that isn't 0, or the listener says that none comes. It returns once all
 /// are served. There is want of memory only before the first is accepted.
-pub fn serve_group<R: Threads + Wait + Sync, L: ReadyListener, G: Gate, T: Clock>(
+pub fn serve_group<R: Threads + Wait + Sync, L: ReadyListener, G: Gate, N: Notice, T: Clock>(
     rt: &R,
     alloc: Global,
     listener: &mut L,
     gate: &G,
     stage: &Stage,
     seats: Seats,
-    control: bool,
+    orders: Orders<'_, N>,
     connections: u64,
     clock: &T,
 ) -> Result<u64, ServeFault>
@@ -48,7 +51,8 @@ where
     };
     let workers = rest.count() - 1;
     let mut deliverer = Deliverer::new(stage, own);
-    match Desk::new(rt, alloc, stage, rest, control) {
+    let losses = Losses::new(orders.notice, stage.shape().m());
+    match Desk::new(rt, alloc, stage, rest, orders.taken, &losses) {
         Ok(desk) => serve_beside(
             rt,
             alloc,
@@ -65,13 +69,13 @@ where
 }
 
 /// Serves the connections over the callers of a desk, while a thread of its own delivers.
-fn serve_beside<R: Threads + Wait + Sync, L: ReadyListener, G: Gate, T: Clock>(
+fn serve_beside<R: Threads + Wait + Sync, L: ReadyListener, G: Gate, N: Notice, T: Clock>(
     rt: &R,
     alloc: Global,
     listener: &mut L,
     gate: &G,
     deliverer: &mut Deliverer<'_>,
-    desk: &Desk<'_, '_, R>,
+    desk: &Desk<'_, '_, '_, R, N>,
     workers: u32,
     connections: u64,
     clock: &T,
@@ -110,13 +114,13 @@ where
 }
 
 /// Serves the connections over the callers of a desk, and rings the bell behind the last.
-fn serve_and_ring<R: Threads + Wait + Sync, L: ReadyListener, G: Gate, T: Clock>(
+fn serve_and_ring<R: Threads + Wait + Sync, L: ReadyListener, G: Gate, N: Notice, T: Clock>(
     rt: &R,
     alloc: Global,
     listener: &mut L,
     gate: &G,
     bell: &Bell,
-    desk: &Desk<'_, '_, R>,
+    desk: &Desk<'_, '_, '_, R, N>,
     workers: u32,
     connections: u64,
     clock: &T,

@@ -8,6 +8,7 @@ ghost use Rattle.group_server.specs.Steps.{HasNotOpened, HasReported, IsGivenOr}
 
 use crate::fault::ServiceFault;
 use crate::notice::Notice;
+use crate::orders::Orders;
 use crate::server::serve_group;
 use edge_io::{Clock, Sink, Source, write_all};
 use group_config::{ConfigFault, Settings, find_served, read_settings, read_text};
@@ -105,7 +106,10 @@ where
         &OpenGate,
         &stage,
         seats,
-        settings.control,
+        Orders {
+            taken: settings.control,
+            notice,
+        },
         settings.connections,
         clock,
     );

@@ -33,12 +33,12 @@ fn each_end_but_done_is_explained(rt: HostRuntime) -> Result<(), Fail> {
         (Status::Refused(7), "line 7 of the transcript is none "),
     ] {
         assert!(rt;
-            help_at(rt.alloc(), &[], status)?.starts_with(begin),
+            help_at(rt.alloc(), &[], status, &[])?.starts_with(begin),
             "{begin}"
         );
     }
-    assert!(rt; help_at(rt.alloc(), &[], Status::Done)?.is_empty());
-    assert!(rt; !help_at(rt.alloc(), &[], Status::BadShape(Field::Block))?.is_empty());
+    assert!(rt; help_at(rt.alloc(), &[], Status::Done, &[])?.is_empty());
+    assert!(rt; !help_at(rt.alloc(), &[], Status::BadShape(Field::Block), &[])?.is_empty());
     Ok(())
 }
 
@@ -54,7 +54,7 @@ fn help_is_told_of_a_command(rt: HostRuntime) -> Result<(), Fail> {
         ("--version", "cocytus_main 1, "),
     ] {
         let words = owned(rt.alloc(), &[word, "--help"])?;
-        let told = help_at(rt.alloc(), &words, Status::BadWords)?;
+        let told = help_at(rt.alloc(), &words, Status::BadWords, &[])?;
         assert!(rt; told.starts_with(begin), "{word}");
     }
     Ok(())
@@ -72,7 +72,7 @@ fn a_limit_is_told_of_its_command(rt: HostRuntime) -> Result<(), Fail> {
         ),
     ] {
         let words = owned(rt.alloc(), &[word])?;
-        let told = help_at(rt.alloc(), &words, Status::TooLong)?;
+        let told = help_at(rt.alloc(), &words, Status::TooLong, &[])?;
         assert_eq!(rt; told.as_str(), begin);
     }
     Ok(())
@@ -88,6 +88,41 @@ fn the_lines_of_a_command_are_told(rt: HostRuntime) -> Result<(), Fail> {
         let words = owned(rt.alloc(), &[word])?;
         let told = help_at(rt.alloc(), &words, Status::BadLine(1))?;
         assert!(rt; told.contains(line), "{word}");
+    }
+    Ok(())
+}
+
+#[test]
+fn a_refused_line_is_quoted(rt: HostRuntime) -> Result<(), Fail> {
+    for (script, number, end) in [
+        (
+            "group 2 1 64 1024\nask 0 d2 get k\n",
+            2,
+            "line 2 is: ask 0 d2 get k\nits word 3, d2, can't stand there\n",
+        ),
+        (
+            "group 2 1 64 1024\n\nask 0 d1 set k 0\n",
+            3,
+            "line 3 is: ask 0 d1 set k 0\na word is missing behind its last\n",
+        ),
+        (
+            "group 2 1 64 1024\ndrain 5\n",
+            2,
+            "line 2 is: drain 5\nits word 2, 5, can't stand there\n",
+        ),
+        (
+            "groups 2 3 2 1 64 1024\ng1 flush p1\n",
+            2,
+            "line 2 is: g1 flush p1\nits word 3, p1, can't stand there\n",
+        ),
+        (
+            "look\n",
+            1,
+            "line 1 is: look\nits word 1, look, can't stand there\n",
+        ),
+    ] {
+        let told = help_at(rt.alloc(), &[], Status::BadLine(number), script.as_bytes())?;
+        assert!(rt; told.ends_with(end), "{end}");
     }
     Ok(())
 }

@@ -4,7 +4,7 @@ ghost use Rattle.group_stage.specs.Seated.{IsOf};
 use crate::server::stages::listener;
 use edge_io::FixedClock;
 use group_calls::Answer;
-use group_server::serve_group;
+use group_server::{Orders, Silent, serve_group};
 use group_stage::{Seat, Stage, StageAnswer};
 use group_types::{Key, Payload, ProcessId, Shape, home};
 use memc_table::{Act, Op};
@@ -130,7 +130,10 @@ fn settles<R: Threads + Wait + Abort + Sync>(rt: &R, alloc: Global) -> bool {
         &gate,
         &stage,
         seats,
-        false,
+        Orders {
+            taken: false,
+            notice: &Silent,
+        },
         1,
         &FixedClock::new(0),
     );

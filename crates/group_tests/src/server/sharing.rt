@@ -4,7 +4,7 @@ ghost use Rattle.group_stage.specs.Seated.{IsOf};
 use crate::server::stages::{STORED, STORES, listener};
 use edge_io::{FixedClock, MemoryListener};
 use front_end::Caller;
-use group_server::serve_group;
+use group_server::{Orders, Silent, serve_group};
 use group_stage::{Seat, Stage};
 use group_types::{Key, Shape};
 use memc_proto::CallEnd;
@@ -60,7 +60,10 @@ fn serve_and_read<R: Threads + Wait + Abort + Sync>(
         &OpenGate,
         &stage,
         seats,
-        false,
+        Orders {
+            taken: false,
+            notice: &Silent,
+        },
         1,
         &FixedClock::new(0),
     );

@@ -2,7 +2,7 @@
 ghost use Rattle.std.specs.Prelude.{◌≤◌};
 
 use edge_io::{FixedClock, MemoryListener};
-use group_server::serve_group;
+use group_server::{Orders, Silent, serve_group};
 use group_stage::Stage;
 use group_types::Shape;
 use node_worker::{Gate, ServeFault};
@@ -51,7 +51,10 @@ pub fn serve<R: Threads + Wait + Sync, G: Gate>(
         gate,
         &stage,
         all,
-        false,
+        Orders {
+            taken: false,
+            notice: &Silent,
+        },
         connections,
         &FixedClock::new(0),
     )
