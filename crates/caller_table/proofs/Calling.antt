@@ -93,6 +93,7 @@ Came caller op log w (Ends (ends.Reply reply)) =
 Came caller op log w (Ends ends.NoSpace) = Idle log w
 Came caller op log w (Ends ends.Down) = Idle log w
 Came caller op log w (Ends ends.Worn) = ⊥
+Came caller op log w (Ends ends.Moves) = ⊥
 
 -- an event that asks nothing logs nothing where no op waits
 pub idle-quiet : (log : List Entry) (w : World) (e : Event) → call_of w e ≡ None → Idle log w → Idle log (step w e).world

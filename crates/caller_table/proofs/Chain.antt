@@ -72,6 +72,7 @@ module _ (s : Dimensions) (caller : ℕ) (op : Asked) (w v : World) (led : IsLed
   of-came places ends.NoSpace came = record { log = came.0; places = places came.0 }
   of-came places ends.Down came = record { log = came.0; places = places came.0 }
   of-came places ends.Worn came = tt
+  of-came places ends.Moves came = absurd came
 
 -- what calls leave the table
 table-same : (w v : World) → v.shape ≡ w.shape → v.log ≡ w.log → table_in v ≡ table_in w
@@ -155,6 +156,7 @@ none-behind caller op log v (ends.Reply reply) came = came.2
 none-behind caller op log v ends.NoSpace came = came.1
 none-behind caller op log v ends.Down came = came.1
 none-behind caller op log v ends.Worn came = absurd came
+none-behind caller op log v ends.Moves came = absurd came
 
 -- so the next call begins as this one did
 call-stays : (s : Dimensions) (c after : GroupCaller) (op : Asked) (end : CallEnd) → Stays s c.world → HasCalled c op end after → Stays s after.world
@@ -190,6 +192,7 @@ made-of-table c next after op calls shape leads rest (ends.Reply reply) it worn 
 made-of-table c next after op calls shape leads rest ends.NoSpace it worn = subst (λ (t : Contents). AreOfTable t calls) (table-same c.world next.world shape it.log) rest
 made-of-table c next after op calls shape leads rest ends.Down it worn = subst (λ (t : Contents). AreOfTable t calls) (table-same c.world next.world shape it.log) rest
 made-of-table c next after op calls shape leads rest ends.Worn it worn = worn-chain (table_in c.world) next after calls (worn refl) leads
+made-of-table c next after op calls shape leads rest ends.Moves it worn = absurd it
 
 -- calls that lead from such a group
 pub chain-of-table : (s : Dimensions) (calls : List Call) (c after : GroupCaller) → Stays s c.world → Leads group_ways c calls after → Stays s after.world × AreOfTable (table_in c.world) calls

@@ -41,12 +41,13 @@ pub record IsLeft (w v : World) : Type 0 where
   pub places : v.places ≡ w.places
 
 -- the end of a call beside the table: a reply is the table's; a call for which there was no space, or that met a group
--- that is down, leaves the table; of a group that is worn out nothing is said
+-- that is down, leaves the table; of a group that is worn out nothing is said; no call ends as that of a moved group
 abbrev pub IsOfTable : ℕ → World → Asked → CallEnd → World → Type 0
 IsOfTable caller w op (ends.Reply reply) v = IsReplied caller w op reply v
 IsOfTable caller w op ends.NoSpace v = IsLeft w v
 IsOfTable caller w op ends.Down v = IsLeft w v
 IsOfTable caller w op ends.Worn v = Unit {0}
+IsOfTable caller w op ends.Moves v = ⊥
 
 -- the ends of calls are those of one table, in order
 abbrev pub AreOfTable : Contents → List Call → Type 0

@@ -47,6 +47,7 @@ end_text key with_cas (call.Reply told) = reply_text key with_cas told
 end_text key with_cas call.NoSpace = line (codes "SERVER_ERROR out of memory storing object")
 end_text key with_cas call.Down = line (codes "SERVER_ERROR group down")
 end_text key with_cas call.Worn = line (codes "SERVER_ERROR group worn")
+end_text key with_cas call.Moves = line (codes "SERVER_ERROR group moves")
 
 -- the end of an order that a process fail
 abbrev pub fail_text : FailEnd → List ℕ

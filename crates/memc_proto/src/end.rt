@@ -10,6 +10,8 @@ pub enum CallEnd {
     Down,
     /// No further call can be counted.
     Worn,
+    /// No call that may change an item is taken: the group's items are being moved into another.
+    Moves,
 }
 
 /// How the order that a process fail ended.

@@ -22,6 +22,7 @@ pub fn write_reply(
         CallEnd::NoSpace => ByteList::of(alloc, b"SERVER_ERROR out of memory storing object\r\n"),
         CallEnd::Down => ByteList::of(alloc, b"SERVER_ERROR group down\r\n"),
         CallEnd::Worn => ByteList::of(alloc, b"SERVER_ERROR group worn\r\n"),
+        CallEnd::Moves => ByteList::of(alloc, b"SERVER_ERROR group moves\r\n"),
     }
 }
 
