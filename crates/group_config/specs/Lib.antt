@@ -1,3 +1,4 @@
+pub mod Bases
 pub mod Keys
 pub mod MemberKeys
 pub mod MemberReading

@@ -49,4 +49,4 @@ one_word_in shape ms = only (λ b. nat_lt shape.m shape.k || b) (or_else false t
 
 -- the keys of a member's settings
 abbrev pub settings_keys : List (List ℕ)
-settings_keys = codes "group" ∷ codes "k" ∷ codes "m" ∷ codes "blocks" ∷ codes "block" ∷ codes "members" ∷ codes "name" ∷ codes "order" ∷ codes "patience" ∷ codes "one_word" ∷ codes "watch" ∷ []
+settings_keys = codes "group" ∷ codes "k" ∷ codes "m" ∷ codes "blocks" ∷ codes "block" ∷ codes "members" ∷ codes "name" ∷ codes "order" ∷ codes "patience" ∷ codes "one_word" ∷ codes "base" ∷ codes "watch" ∷ []

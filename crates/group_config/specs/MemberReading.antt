@@ -3,6 +3,7 @@ use Rattle.std.specs.Prelude.{ℕ, ◌≡◌, ◌⊎◌, ◌<◌, List, length, 
 use Rattle.toml.specs.Data.{Members, get_member}
 use Rattle.group_types.specs.Dimensions.{Dimensions, processes_of}
 use Rattle.group_types.specs.declared.config_key.ConfigKey.{ConfigKey}
+use Rattle.group_config.specs.Bases.{bases_in}
 use Rattle.group_config.specs.Keys.{all_among}
 use Rattle.group_config.specs.MemberKeys.{group_in, one_word_in, order_in, patience_in, settings_keys}
 use Rattle.group_config.specs.MemberTable.{members_of, own_of}
@@ -26,9 +27,10 @@ behind_members word ms group shape members =
     check key.Order (order_in ms) (λ order.
     check key.Patience (patience_in ms) (λ patience.
     check key.OneWord (one_word_in shape ms) (λ one_word.
+    check key.Base (bases_in shape ms) (λ base.
     if all_among settings_keys ms
-    then Ok (record { group = group; shape = shape; members = members; own = own; order = order; patience = patience; one_word = one_word })
-    else Err key.Unknown))))
+    then Ok (record { group = group; shape = shape; members = members; own = own; order = order; patience = patience; one_word = one_word; base = base })
+    else Err key.Unknown)))))
 
 -- what a document gives: the first key whose check fails, or settings
 abbrev pub settings_of : Option (List ℕ) → Members → Result MemberSettings MemberKey

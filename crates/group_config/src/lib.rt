@@ -6,6 +6,8 @@
 
 mod address;
 mod address_list;
+mod base_list;
+mod base_values;
 mod fault;
 mod finding;
 mod finding_entry;
@@ -33,6 +35,7 @@ mod watch_values;
 
 pub use address::Address;
 pub use address_list::AddressList;
+pub use base_list::BaseList;
 pub use fault::{ConfigFault, TextFault};
 pub use finding::Finding;
 pub use finding_member::find_member;

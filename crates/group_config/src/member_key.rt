@@ -23,6 +23,8 @@ pub enum MemberKey {
     Order,
     Patience,
     OneWord,
+    /// The base of each partition.
+    Base,
     /// There is a key that settings don't have.
     Unknown,
     /// The table of how a member is watched isn't there, or is no table.
@@ -64,8 +66,11 @@ impl MemberKey {
                 "one_word is true or false, and false where it is left out: where k is not above m it has to be true, \
                 since two words that differ could split the group there"
             }
+            MemberKey::Base => {
+                "base is a list of k numbers of 0 to 2^62, one for each partition, and all 0 where it is left out"
+            }
             MemberKey::Unknown => {
-                "the keys are group, k, m, blocks, block, members, name, order, patience, one_word and watch"
+                "the keys are group, k, m, blocks, block, members, name, order, patience, one_word, base and watch"
             }
             MemberKey::Watch => "watch is a table of the keys etcd and seconds",
             MemberKey::WatchEtcd => {
@@ -93,6 +98,7 @@ impl fmt::Display for MemberKey {
             MemberKey::Order => f.write_str("order"),
             MemberKey::Patience => f.write_str("patience"),
             MemberKey::OneWord => f.write_str("one_word"),
+            MemberKey::Base => f.write_str("base"),
             MemberKey::Unknown => f.write_str("unknown"),
             MemberKey::Watch => f.write_str("watch"),
             MemberKey::WatchEtcd => f.write_str("watch.etcd"),

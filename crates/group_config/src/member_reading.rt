@@ -5,6 +5,7 @@ ghost use Rattle.group_config.specs.Keys.{data_of, only, or_else, truth};
 ghost use Rattle.group_config.specs.MemberReading.{Answers, HasMembers, MemberComesOf, behind_members, settings_of};
 ghost use Rattle.group_config.specs.MemberTable.{own_of};
 
+use crate::base_values::bases_or_none;
 use crate::known::all_known_in;
 use crate::member_entries::{bad, members_of};
 use crate::member_fault::MemberFault;
@@ -20,14 +21,14 @@ use std::alloc::Global;
 use toml::{Table, Value};
 
 /// The keys of a member's settings.
-pub(crate) const MEMBER_KEYS: [&str; 11] = [
+pub(crate) const MEMBER_KEYS: [&str; 12] = [
     "group", "k", "m", "blocks", "block", "members", "name", "order", "patience", "one_word",
-    "watch",
+    "base", "watch",
 ];
 
 /// Reads the settings of a member, whose name is the word where there is one. A key that is wrong is told by the first
-/// check that fails: the text is TOML; then group, k, m, block, blocks, members, name, order, patience and one_word, each
-/// there if it is required, of its kind and within its range; then no other key but watch, which another call reads.
+/// check that fails: the text is TOML; then group, k, m, block, blocks, members, name, order, patience, one_word and base,
+/// each there if it is required, of its kind and within its range; then no other key but watch, which another call reads.
 pub fn read_member_settings(
     alloc: Global,
     text: &[u8],
@@ -63,11 +64,12 @@ fn settings_in(
         value_at(table, "members"),
         (shape.k() + shape.m()) as usize,
     )?;
-    behind_members(table, word, group, shape, members)
+    behind_members(alloc, table, word, group, shape, members)
 }
 
 /// The settings of a table that gives these members.
 fn behind_members(
+    alloc: Global,
     table: &Table,
     word: Option<&str>,
     group: [u8; 16],
@@ -91,6 +93,9 @@ fn behind_members(
     let Some(one_word) = one_word_of(value_at(table, "one_word"), shape) else {
         return Err(bad(MemberKey::OneWord));
     };
+    let Some(base) = bases_or_none(alloc, value_at(table, "base"), shape.k())? else {
+        return Err(bad(MemberKey::Base));
+    };
     if !all_known_in(table, &MEMBER_KEYS) {
         return Err(bad(MemberKey::Unknown));
     }
@@ -102,6 +107,7 @@ fn behind_members(
         order,
         patience: patience as u32,
         one_word,
+        base,
     })
 }
 

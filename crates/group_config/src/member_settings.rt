@@ -1,3 +1,4 @@
+use crate::base_list::BaseList;
 use crate::member_table::MemberTable;
 use group_types::Shape;
 
@@ -25,4 +26,6 @@ pub struct MemberSettings {
     pub patience: u32,
     /// Whether all members are told the same of who is dead.
     pub one_word: bool,
+    /// The base of each partition, by which its numbers go on from those of an earlier group: all 0 where there are none.
+    pub base: BaseList,
 }

@@ -25,9 +25,23 @@ fn told_settings(alloc: Global, settings: &MemberSettings) -> Result<String, All
     let own = told_own(alloc, entries, settings.own)?;
     let CallOrder::Strict = settings.order;
     let (patience, one_word) = (settings.patience, settings.one_word);
+    let bases = bases_of(alloc, settings.base.as_slice())?;
     format!(in alloc;
-        "{group} {k} {m} {blocks} {block},{names}, {own}, strict, {patience}, {one_word}"
+        "{group} {k} {m} {blocks} {block},{names}, {own}, strict, {patience}, {one_word}{bases}"
     )
+}
+
+// The bases, where there are some, a space in front of each.
+fn bases_of(alloc: Global, bases: &[u64]) -> Result<String, AllocError> {
+    let mut text = String::new(alloc);
+    if !bases.is_empty() {
+        text.push(',')?;
+    }
+    for base in bases {
+        let one = format!(in alloc; " {base}")?;
+        text.push_str(one.as_str())?;
+    }
+    Ok(text)
 }
 
 // The names, a space in front of each.

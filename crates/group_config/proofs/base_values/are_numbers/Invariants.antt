@@ -1,0 +1,10 @@
+use Rattle.std.proofs.Common.{◌≡◌, length}
+use Rattle.toml.specs.View.{items_view}
+use Rattle.group_config.specs.Bases.{all_numbers}
+use Rattle.group_config.proofs.base_values.are_numbers.Given as goal
+
+abbrev pub invariant-left : goal.invariant-left
+invariant-left l = all_numbers (items_view l.left) ≡ all_numbers (items_view l.fn.items)
+
+abbrev pub decreases-left : goal.decreases-left
+decreases-left l = length l.left
