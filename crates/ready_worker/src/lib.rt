@@ -3,6 +3,7 @@
 //! `Client`, and that the system tells when streams are ready and nobody starves to tests.
 #![tactic(auto)]
 
+mod closing;
 mod crowd;
 mod either;
 mod exchange;
@@ -19,6 +20,7 @@ mod told_edge;
 mod watch;
 mod worker;
 
+pub use closing::Closing;
 pub use crowd::{Crowd, CrowdChange, MOST_OPEN};
 pub use either::serve_either;
 pub use exchange::Exchange;
