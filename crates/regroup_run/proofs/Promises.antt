@@ -11,6 +11,7 @@ use Rattle.group_run.specs.World.{opening}
 use Rattle.law_headline.proofs.Truth.{truth_always}
 use Rattle.scenario_text.specs.Meaning.{IsLineOf, line_of}
 use Rattle.scenario_text.specs.Texts.{shown_text}
+use Rattle.scenario_text.specs.Words.{words_of}
 use Rattle.scenario_text.specs.declared.line.Line.{Line}
 use Rattle.scenario_text.specs.declared.line.Line.TheVariants.{Skipped, Group, Ask, Collect, Deliver, Fail, Flush, Trace, Drain, Show, Places, Time, Stop}
 use Rattle.scenario_text.specs.declared.line.LineFault.{LineFault}
@@ -19,19 +20,26 @@ use Rattle.scenario_text.proofs.Lines.{line_of-within}
 use Rattle.scenario_run.specs.Course.{Ends, Goes, Refused, fault_in, named_in, turns_in}
 use Rattle.scenario_run.specs.Lines.{lines_of}
 use Rattle.scenario_run.proofs.Following.{fault_after, named-line, turns_after}
+use Rattle.scenario_run.proofs.Running.{parts}
 use Rattle.scenario_run.proofs.Truth.{up}
 use Rattle.group_eras.specs.Eras.{Eras, first_era, stamp_in}
 use Rattle.group_eras.specs.Promise.{Begins, Carries, Deed, Makes, MayAllBeDone, done}
 use Rattle.group_eras.proofs.Promises.{carries_keep}
-use Rattle.regroup_run.specs.Playing.{EraNext, EraPlay, look, next_of, shape_in}
+use Rattle.regroup_run.specs.Meaning.{regroup_line}
+use Rattle.regroup_run.specs.Playing.{EraNext, EraPlay, look, next_by, next_of, regroup_by, regroups, shape_in}
 use Rattle.regroup_run.specs.Promises.{AreTrueLines, IsTrueLine, KeepAll, Keeps, ScriptsKeepPromises, ShowsTruth}
 use Rattle.regroup_run.specs.Script.{deeds_of}
 use Rattle.regroup_run.proofs.Leading.{IsLedTo, Leads, is-led, leads-then, led-on, opened, promised, world-led}
+use Rattle.regroup_run.proofs.Regrouping.{reads-no-regroup}
 use Rattle.regroup_run.proofs.Running.{GoesOn, IsReady, Opens, line-leads, line-opens, never-ends}
 
 -- what follows a line, by what it does
-abbrev TrueAfter : EraNext → List (List ℕ) → Type 0
-TrueAfter next lines = elim next [ Goes play turns text ↦ AreTrueLines play lines | Ends ↦ Unit {0} | Refused fault ↦ Unit {0} ]
+abbrev TrueAfter : Option EraPlay → List ℕ → EraNext → List (List ℕ) → Type 0
+TrueAfter play line next lines = elim next [
+  | Goes next turns text ↦ IsTrueLine play (line_of (shape_in play) line) text × AreTrueLines next lines
+  | Ends ↦ Unit {0}
+  | Refused fault ↦ Unit {0}
+]
 
 -- deeds that may be done from some eras
 record Runs (e : Eras) (deeds : List Deed) : Type 0 where
@@ -48,9 +56,9 @@ ready-on s p next deeds ready on = record { led = led-on s p.eras on.play.eras d
 truth : (s : Dimensions) (e : Eras) → IsLedTo s e → HoldsTruth e.world
 truth s e led = let run = world-led s e led in subst HoldsTruth (sym run.is) (truth_always e.world.shape run.events run.run)
 
-shows-truth : (e : Eras) (p : ProcessId) (run : Run) → IsProcess e.world.shape p → HoldsTruth e.world → ShowsTruth e p run
-shows-truth e p run pin truth = by (is_down e.world) (is_dead e.world p) refl refl where
-  by : (down dead : Bool) → is_down e.world ≡ down → is_dead e.world p ≡ dead → ShowsTruth e p run
+shows-truth : (e : Eras) (p : ProcessId) (run : Run) → IsProcess e.world.shape p → HoldsTruth e.world → ShowsTruth e p run (look e p (held e.world p run) ++ 10 ∷ [])
+shows-truth e p run pin truth = ap (λ (text : List ℕ). text ++ 10 ∷ []) (by (is_down e.world) (is_dead e.world p) refl refl) where
+  by : (down dead : Bool) → is_down e.world ≡ down → is_dead e.world p ≡ dead → look e p (held e.world p run) ≡ look e p (told_bytes e.world p run)
   by true dead isdown isdead = rw isdown refl
   by false true isdown isdead =
       ap (λ (b : Bool). if b then codes "down" else (if is_dead e.world p then codes "lost" else shown_text (stamp_in e p) (held e.world p run))) isdown
@@ -75,33 +83,46 @@ module _ (s : Dimensions) where
               (subst (λ (q : Option EraPlay). Leads on.play.eras rest.f (turns_in next_of q lines)) (sym on.is) rest.leads);
         }
 
-  true-line : (p : EraPlay) (l : Result Line LineFault) → IsLedTo s p.eras → ((l' : Line) → l ≡ Ok l' → IsLineOf (Some p.eras.world.shape) l') → IsTrueLine (Some p) l
-  true-line p (Err fault) led within = tt
-  true-line p (Ok (Show from run)) led within = shows-truth p.eras from run (within (Show from run) refl).0 (truth s p.eras led)
-  true-line p (Ok Skipped) led within = tt
-  true-line p (Ok (Group shape)) led within = tt
-  true-line p (Ok (Ask caller from act)) led within = tt
-  true-line p (Ok (Collect caller call from)) led within = tt
-  true-line p (Ok (Deliver from to)) led within = tt
-  true-line p (Ok (Fail from keep)) led within = tt
-  true-line p (Ok (Flush from)) led within = tt
-  true-line p (Ok (Trace caller call d from)) led within = tt
-  true-line p (Ok Drain) led within = tt
-  true-line p (Ok Places) led within = tt
-  true-line p (Ok (Time moment)) led within = tt
-  true-line p (Ok Stop) led within = tt
+  true-read : (p : EraPlay) (l : Result Line LineFault) (next : Option EraPlay) (turns : List Deed) (text : List ℕ) → IsLedTo s p.eras → ((l' : Line) → l ≡ Ok l' → IsLineOf (Some p.eras.world.shape) l')
+      → next_by (Some p) l ≡ Goes next turns text → IsTrueLine (Some p) l text
+  true-read p (Err fault) next turns text led within is = tt
+  true-read p (Ok (Show from run)) next turns text led within is =
+      (parts (Some p) next [] turns (look p.eras from (held p.eras.world from run) ++ 10 ∷ []) text is).2 ∙ shows-truth p.eras from run (within (Show from run) refl).0 (truth s p.eras led)
+  true-read p (Ok Skipped) next turns text led within is = tt
+  true-read p (Ok (Group shape)) next turns text led within is = tt
+  true-read p (Ok (Ask caller from act)) next turns text led within is = tt
+  true-read p (Ok (Collect caller call from)) next turns text led within is = tt
+  true-read p (Ok (Deliver from to)) next turns text led within is = tt
+  true-read p (Ok (Fail from keep)) next turns text led within is = tt
+  true-read p (Ok (Flush from)) next turns text led within is = tt
+  true-read p (Ok (Trace caller call d from)) next turns text led within is = tt
+  true-read p (Ok Drain) next turns text led within is = tt
+  true-read p (Ok Places) next turns text led within is = tt
+  true-read p (Ok (Time moment)) next turns text led within is = tt
+  true-read p (Ok Stop) next turns text led within is = tt
+
+  -- a line `regroup` is none that shows bytes
+  true-line : (p : EraPlay) (line : List ℕ) (next : Option EraPlay) (turns : List Deed) (text : List ℕ) → IsLedTo s p.eras → next_of (Some p) line ≡ Goes next turns text
+      → IsTrueLine (Some p) (line_of (Some p.eras.world.shape) line) text
+  true-line p line next turns text led is = by (regroups line) refl is where
+    refused : (l : Result Line LineFault) → line_of (Some p.eras.world.shape) line ≡ l → regroups line ≡ true → IsTrueLine (Some p) l text
+    refused (Err fault) reads names = tt
+    refused (Ok l) reads names = absurd (reads-no-regroup p.eras.world.shape line l names reads)
+
+    by : (b : Bool) → regroups line ≡ b → (if b then regroup_by p (regroup_line p.eras.world.shape.k (words_of line)) else next_by (Some p) (line_of (Some p.eras.world.shape) line)) ≡ Goes next turns text
+        → IsTrueLine (Some p) (line_of (Some p.eras.world.shape) line) text
+    by true names goes = refused (line_of (Some p.eras.world.shape) line) refl names
+    by false names goes = true-read p (line_of (Some p.eras.world.shape) line) next turns text led (λ l reads. line_of-within (Some p.eras.world.shape) line l reads) goes
 
   true-lines : (p : EraPlay) (lines : List (List ℕ)) → IsReady s p → AreTrueLines (Some p) lines
   true-lines p [] ready = tt
-  true-lines p (line ∷ lines) ready =
-      (true-line p (line_of (Some p.eras.world.shape) line) ready.led (λ l reads. line_of-within (Some p.eras.world.shape) line l reads), by (next_of (Some p) line) refl (λ q. true-lines q lines))
-    where
-      by : (next : EraNext) → next_of (Some p) line ≡ next → ((q : EraPlay) → IsReady s q → AreTrueLines (Some q) lines) → TrueAfter next lines
-      by Ends is later = tt
-      by (Refused fault) is later = tt
-      by (Goes next turns text) is later =
-          let on : GoesOn p next turns = line-leads s p line next turns text ready is in
-          subst (λ (q : Option EraPlay). AreTrueLines q lines) (sym on.is) (later on.play (ready-on s p next turns ready on))
+  true-lines p (line ∷ lines) ready = by (next_of (Some p) line) refl (λ q. true-lines q lines) where
+    by : (next : EraNext) → next_of (Some p) line ≡ next → ((q : EraPlay) → IsReady s q → AreTrueLines (Some q) lines) → TrueAfter (Some p) line next lines
+    by Ends is later = tt
+    by (Refused fault) is later = tt
+    by (Goes next turns text) is later =
+        let on : GoesOn p next turns = line-leads s p line next turns text ready is in
+        (true-line p line next turns text ready.led is, subst (λ (q : Option EraPlay). AreTrueLines q lines) (sym on.is) (later on.play (ready-on s p next turns ready on)))
 
   -- the promise is kept before and after each deed
   keeps : (e : Eras) (deed : Deed) → IsLedTo s e → MayAllBeDone e (deed ∷ []) → Keeps e deed
@@ -138,7 +159,7 @@ begins n (line ∷ lines) ends = by (next_of None line) refl ends (begins (n + 1
     shape_is q same = ap shape_in (named-line next_of line lines (Goes next turns text) is ∙ ap (λ (x : Option EraPlay). named_in next_of x lines) same)
 
     true_then : (q : Option EraPlay) → next ≡ q → AreTrueLines q lines → AreTrueLines None (line ∷ lines)
-    true_then q same truth = (tt, subst (λ (x : EraNext). TrueAfter x lines) (sym is) (subst (λ (x : Option EraPlay). AreTrueLines x lines) (sym same) truth))
+    true_then q same truth = subst (λ (x : EraNext). TrueAfter None line x lines) (sym is) (tt, subst (λ (x : Option EraPlay). AreTrueLines x lines) (sym same) truth)
 
     either : (next ≡ None) ⊎ ((s : Dimensions) × IsShape s × (next ≡ Some (record { eras = first_era (opening s); moment = 0 }))) → Named (line ∷ lines)
     either (inl nothing) =

@@ -1,11 +1,11 @@
 -- What holds of every script over eras: its deeds may be done, so the laws of eras are about it; and the lines that show
 -- bytes show what the log tells.
-use Rattle.std.specs.Prelude.{ℕ, ◌≡◌, List, [], ◌∷◌, Option, Some, None, Result, Ok}
+use Rattle.std.specs.Prelude.{ℕ, ◌≡◌, List, [], ◌∷◌, ◌++◌, Option, Some, None, Result, Ok}
 use Rattle.group_types.specs.Dimensions.{Dimensions}
 use Rattle.group_types.specs.Shape.{IsShape}
 use Rattle.group_types.specs.declared.process.ProcessId.{ProcessId}
 use Rattle.group_types.specs.declared.run.Run.{Run}
-use Rattle.group_run.specs.Shown.{held, told_bytes}
+use Rattle.group_run.specs.Shown.{told_bytes}
 use Rattle.group_run.specs.World.{opening}
 use Rattle.scenario_text.specs.Meaning.{line_of}
 use Rattle.scenario_text.specs.declared.line.Line.{Line}
@@ -28,20 +28,23 @@ abbrev pub KeepAll : Eras → List Deed → Type 0
 KeepAll e [] = HasPromise e
 KeepAll e (deed ∷ deeds) = HasPromise e × Keeps e deed × KeepAll (done e deed) deeds
 
--- what is shown is what the log tells
-abbrev pub ShowsTruth : Eras → ProcessId → Run → Type 0
-ShowsTruth e p run = look e p (held e.world p run) ≡ look e p (told_bytes e.world p run)
+-- the text shows what the log tells
+abbrev pub ShowsTruth : Eras → ProcessId → Run → List ℕ → Type 0
+ShowsTruth e p run text = text ≡ look e p (told_bytes e.world p run) ++ 10 ∷ []
 
--- so it is with a line that shows bytes
-abbrev pub IsTrueLine : Option EraPlay → Result Line LineFault → Type 0
-IsTrueLine (Some p) (Ok (Show from run)) = ShowsTruth p.eras from run
-IsTrueLine _ _ = Unit {0}
+-- so it is with what is written for a line that shows bytes
+abbrev pub IsTrueLine : Option EraPlay → Result Line LineFault → List ℕ → Type 0
+IsTrueLine (Some p) (Ok (Show from run)) text = ShowsTruth p.eras from run text
+IsTrueLine _ _ text = Unit {0}
 
 -- and with all lines
 abbrev pub AreTrueLines : Option EraPlay → List (List ℕ) → Type 0
 AreTrueLines play [] = Unit {0}
-AreTrueLines play (line ∷ lines) = IsTrueLine play (line_of (shape_in play) line)
-    × elim (next_of play line) [ Goes next turns text ↦ AreTrueLines next lines | Ends ↦ Unit {0} | Refused fault ↦ Unit {0} ]
+AreTrueLines play (line ∷ lines) = elim (next_of play line) [
+  | Goes next turns text ↦ IsTrueLine play (line_of (shape_in play) line) text × AreTrueLines next lines
+  | Ends ↦ Unit {0}
+  | Refused fault ↦ Unit {0}
+]
 
 -- a script's eras keep their promises
 pub record KeepsPromises (text : List ℕ) : Type 0 where

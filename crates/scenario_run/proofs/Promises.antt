@@ -10,7 +10,7 @@ use Rattle.group_run.specs.Headline.{Headline, IsRun}
 use Rattle.group_run.specs.World as machine
 use Rattle.group_run.specs.World.{World, after, opening, step, world_after}
 use Rattle.law_headline.proofs.Headlines.{headline_always}
-use Rattle.group_run.specs.Shown.{HoldsTruth}
+use Rattle.group_run.specs.Shown.{HoldsTruth, held}
 use Rattle.law_headline.proofs.Truth.{truth_always}
 use Rattle.scenario_text.specs.Meaning.{IsLineOf, line_of}
 use Rattle.scenario_text.specs.declared.line.Line.{Line}
@@ -20,17 +20,21 @@ use Rattle.scenario_text.specs.declared.line.LineFault.TheVariants.{BadLine}
 use Rattle.scenario_text.proofs.Lines.{line_of-within}
 use Rattle.scenario_run.specs.Lines.{lines_of}
 use Rattle.scenario_run.specs.Course.{Ends, Goes, Refused, fault_in, named_in, turns_in}
-use Rattle.scenario_run.specs.Playing.{Play, PlayNext, next_of, shape_in}
+use Rattle.scenario_run.specs.Playing.{Play, PlayNext, look, next_by, next_of, shape_in}
 use Rattle.scenario_run.specs.Promises.{AreTrueLines, IsTrueLine, ScriptsKeepPromises}
 use Rattle.scenario_run.specs.Script.{events_of, turns_of}
 use Rattle.scenario_run.proofs.Following.{fault_after, named-line, turns_after}
 use Rattle.scenario_run.proofs.Leading.{IsLedTo, Leads, leads-then, led-on, opened}
-use Rattle.scenario_run.proofs.Running.{Opens, line-leads, line-opens, never-ends}
+use Rattle.scenario_run.proofs.Running.{Opens, line-leads, line-opens, never-ends, parts}
 use Rattle.scenario_run.proofs.Truth.{shows-truth}
 
 -- what follows a line, by what it does
-abbrev TrueAfter : PlayNext → List (List ℕ) → Type 0
-TrueAfter next lines = elim next [ Goes play turns text ↦ AreTrueLines play lines | Ends ↦ Unit {0} | Refused fault ↦ Unit {0} ]
+abbrev TrueAfter : Option Play → List ℕ → PlayNext → List (List ℕ) → Type 0
+TrueAfter play line next lines = elim next [
+  | Goes next turns text ↦ IsTrueLine play (line_of (shape_in play) line) text × AreTrueLines next lines
+  | Ends ↦ Unit {0}
+  | Refused fault ↦ Unit {0}
+]
 
 -- the lines behind the group line make a run
 record Runs (w : World) (turns : List Turn) : Type 0 where
@@ -60,33 +64,35 @@ module _ (s : Dimensions) where
   truth : (w : World) → IsLedTo s w → HoldsTruth w
   truth w led = subst HoldsTruth (sym led.is) (truth_always s led.events led.run)
 
-  true-line : (p : Play) (l : Result Line LineFault) → IsLedTo s p.world → ((l' : Line) → l ≡ Ok l' → IsLineOf (Some p.world.shape) l') → IsTrueLine (Some p) l
-  true-line p (Err fault) led within = tt
-  true-line p (Ok (Show from run)) led within = shows-truth p.world from run (within (Show from run) refl).0 (truth p.world led)
-  true-line p (Ok Skipped) led within = tt
-  true-line p (Ok (Group shape)) led within = tt
-  true-line p (Ok (Ask caller from act)) led within = tt
-  true-line p (Ok (Collect caller call from)) led within = tt
-  true-line p (Ok (Deliver from to)) led within = tt
-  true-line p (Ok (Fail from keep)) led within = tt
-  true-line p (Ok (Flush from)) led within = tt
-  true-line p (Ok (Trace caller call d from)) led within = tt
-  true-line p (Ok Drain) led within = tt
-  true-line p (Ok Places) led within = tt
-  true-line p (Ok (Time moment)) led within = tt
-  true-line p (Ok Stop) led within = tt
+  true-line : (p : Play) (l : Result Line LineFault) (next : Option Play) (turns : List Turn) (text : List ℕ) → IsLedTo s p.world → ((l' : Line) → l ≡ Ok l' → IsLineOf (Some p.world.shape) l')
+      → next_by (Some p) l ≡ Goes next turns text → IsTrueLine (Some p) l text
+  true-line p (Err fault) next turns text led within is = tt
+  true-line p (Ok (Show from run)) next turns text led within is =
+      (parts (Some p) next [] turns (look p.world from (held p.world from run) ++ 10 ∷ []) text is).2 ∙ shows-truth p.world from run (within (Show from run) refl).0 (truth p.world led)
+  true-line p (Ok Skipped) next turns text led within is = tt
+  true-line p (Ok (Group shape)) next turns text led within is = tt
+  true-line p (Ok (Ask caller from act)) next turns text led within is = tt
+  true-line p (Ok (Collect caller call from)) next turns text led within is = tt
+  true-line p (Ok (Deliver from to)) next turns text led within is = tt
+  true-line p (Ok (Fail from keep)) next turns text led within is = tt
+  true-line p (Ok (Flush from)) next turns text led within is = tt
+  true-line p (Ok (Trace caller call d from)) next turns text led within is = tt
+  true-line p (Ok Drain) next turns text led within is = tt
+  true-line p (Ok Places) next turns text led within is = tt
+  true-line p (Ok (Time moment)) next turns text led within is = tt
+  true-line p (Ok Stop) next turns text led within is = tt
 
   true-lines : (p : Play) (lines : List (List ℕ)) → IsLedTo s p.world → AreTrueLines (Some p) lines
   true-lines p [] led = tt
-  true-lines p (line ∷ lines) led =
-      (true-line p (line_of (Some p.world.shape) line) led (λ l reads. line_of-within (Some p.world.shape) line l reads), by (next_of (Some p) line) refl (λ q. true-lines q lines))
-    where
-      by : (next : PlayNext) → next_of (Some p) line ≡ next → ((q : Play) → IsLedTo s q.world → AreTrueLines (Some q) lines) → TrueAfter next lines
-      by Ends is later = tt
-      by (Refused fault) is later = tt
-      by (Goes next turns text) is later =
-          let on = line-leads s p line next turns text led is in
-          subst (λ (q : Option Play). AreTrueLines q lines) (sym on.is) (later on.play (led-on s p.world on.play.world turns led on.leads))
+  true-lines p (line ∷ lines) led = by (next_of (Some p) line) refl (λ q. true-lines q lines) where
+    by : (next : PlayNext) → next_of (Some p) line ≡ next → ((q : Play) → IsLedTo s q.world → AreTrueLines (Some q) lines) → TrueAfter (Some p) line next lines
+    by Ends is later = tt
+    by (Refused fault) is later = tt
+    by (Goes next turns text) is later =
+        let on = line-leads s p line next turns text led is in (
+          true-line p (line_of (Some p.world.shape) line) next turns text led (λ l reads. line_of-within (Some p.world.shape) line l reads) is,
+          subst (λ (q : Option Play). AreTrueLines q lines) (sym on.is) (later on.play (led-on s p.world on.play.world turns led on.leads)),
+        )
 
 -- a script with a group line
 record Named (lines : List (List ℕ)) : Type 0 where
@@ -109,7 +115,7 @@ begins n (line ∷ lines) ends = by (next_of None line) refl ends (begins (n + 1
     shape_is q same = ap shape_in (named-line next_of line lines (Goes next turns text) is ∙ ap (λ (x : Option Play). named_in next_of x lines) same)
 
     true_then : (q : Option Play) → next ≡ q → AreTrueLines q lines → AreTrueLines None (line ∷ lines)
-    true_then q same truth = (tt, subst (λ (x : PlayNext). TrueAfter x lines) (sym is) (subst (λ (x : Option Play). AreTrueLines x lines) (sym same) truth))
+    true_then q same truth = subst (λ (x : PlayNext). TrueAfter None line x lines) (sym is) (tt, subst (λ (x : Option Play). AreTrueLines x lines) (sym same) truth)
 
     either : (next ≡ None) ⊎ ((s : Dimensions) × IsShape s × (next ≡ Some (record { world = opening s; moment = 0 }))) → Named (line ∷ lines)
     either (inl none) =

@@ -1,6 +1,6 @@
 -- What holds of every script's group: its turns are a run of the machine, so the headline is about it; and
 -- the lines that show bytes show what the log tells.
-use Rattle.std.specs.Prelude.{ℕ, ◌≡◌, List, [], ◌∷◌, Option, Some, None, Result, Ok}
+use Rattle.std.specs.Prelude.{ℕ, ◌≡◌, List, [], ◌∷◌, ◌++◌, Option, Some, None, Result, Ok}
 use Rattle.group_types.specs.Dimensions.{Dimensions}
 use Rattle.group_types.specs.declared.process.ProcessId.{ProcessId}
 use Rattle.group_types.specs.declared.run.Run.{Run}
@@ -10,7 +10,7 @@ use Rattle.group_calls.specs.Within.{AnswersWithin}
 use Rattle.group_run.specs.Headline.{Headline, IsRun}
 use Rattle.group_run.specs.World as machine
 use Rattle.group_run.specs.World.{World}
-use Rattle.group_run.specs.Shown.{held, told_bytes}
+use Rattle.group_run.specs.Shown.{told_bytes}
 use Rattle.scenario_text.specs.Meaning.{line_of}
 use Rattle.scenario_text.specs.declared.line.Line.{Line}
 use Rattle.scenario_text.specs.declared.line.Line.TheVariants.{Show}
@@ -20,20 +20,23 @@ use Rattle.scenario_run.specs.Course.{Goes, Ends, Refused}
 use Rattle.scenario_run.specs.Playing.{Play, look, next_of, shape_in}
 use Rattle.scenario_run.specs.Script.{events_of, first_fault, shape_of, turns_of}
 
--- what is shown is what the log tells
-abbrev pub ShowsTruth : World → ProcessId → Run → Type 0
-ShowsTruth w p run = look w p (held w p run) ≡ look w p (told_bytes w p run)
+-- the text shows what the log tells
+abbrev pub ShowsTruth : World → ProcessId → Run → List ℕ → Type 0
+ShowsTruth w p run text = text ≡ look w p (told_bytes w p run) ++ 10 ∷ []
 
--- so it is with a line that shows bytes
-abbrev pub IsTrueLine : Option Play → Result Line LineFault → Type 0
-IsTrueLine (Some p) (Ok (Show from run)) = ShowsTruth p.world from run
-IsTrueLine _ _ = Unit {0}
+-- so it is with what is written for a line that shows bytes
+abbrev pub IsTrueLine : Option Play → Result Line LineFault → List ℕ → Type 0
+IsTrueLine (Some p) (Ok (Show from run)) text = ShowsTruth p.world from run text
+IsTrueLine _ _ text = Unit {0}
 
 -- and with all lines
 abbrev pub AreTrueLines : Option Play → List (List ℕ) → Type 0
 AreTrueLines play [] = Unit {0}
-AreTrueLines play (line ∷ lines) = IsTrueLine play (line_of (shape_in play) line)
-    × elim (next_of play line) [ Goes next turns text ↦ AreTrueLines next lines | Ends ↦ Unit {0} | Refused fault ↦ Unit {0} ]
+AreTrueLines play (line ∷ lines) = elim (next_of play line) [
+  | Goes next turns text ↦ IsTrueLine play (line_of (shape_in play) line) text × AreTrueLines next lines
+  | Ends ↦ Unit {0}
+  | Refused fault ↦ Unit {0}
+]
 
 -- a script's group keeps its promises
 pub record KeepsPromises (text : List ℕ) : Type 0 where
