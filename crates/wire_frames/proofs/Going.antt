@@ -1,6 +1,6 @@
 -- A stream that goes on, and how it ends from there.
-use Rattle.std.proofs.Common.{◌≡◌, ℕ, ◌+◌, ◌<◌, ◌≤◌, ◌⊎◌, inl, inr, Bool, true, false, List, [], ◌++◌, length, take, Result, Ok, Err, refl, sym, ap, ◌∙◌, subst, arith}
-use Rattle.std.proofs.lemmas.List.{append-nil, append_assoc, length-append}
+use Rattle.std.proofs.Common.{◌≡◌, ℕ, ◌+◌, ◌<◌, ◌≤◌, ◌⊎◌, inl, inr, Bool, true, false, List, [], ◌++◌, length, take, Result, Ok, Err, refl, sym, ◌∙◌, subst, arith}
+use Rattle.std.proofs.lemmas.List.{append-nil, length-append}
 use Rattle.std.specs.Result.{IsErrAnd}
 use Rattle.std.proofs.lemmas.Grind.{flat_map-append}
 use Rattle.edge_io.specs.Moving.{Appends, Input, IsEnded, Takes}
@@ -8,7 +8,7 @@ use Rattle.edge_io.specs.Writing.{HasWritten}
 use Rattle.edge_io.proofs.Moving.{Appends-nil, Appends-trans, Takes-none, Takes-trans}
 use Rattle.group_message.specs.declared.message.Message.{Message}
 use Rattle.wire_codec.specs.Stream.{HasRead, IsBad, IsPartial, Kept, Reads}
-use Rattle.wire_frames.specs.Framed.{HasCome, HasFramed, HasHalted, HasListed, IsBadOnlyNow, IsBehind}
+use Rattle.wire_frames.specs.Framed.{HasCome, HasFramed, HasHalted, HasListed, IsBadOnlyNow}
 use Rattle.wire_frames.specs.Line.{line_of, lines_of}
 use Rattle.wire_frames.specs.Pieces.{EndsAs, HasGiven, IsPieceListed, status_in}
 use Rattle.wire_frames.specs.declared.status.FramesStatus.{FramesStatus}
@@ -22,7 +22,7 @@ pub record GoesOn (input input_now : Input) (held held_now : List ℕ) (kept : K
   pub messages : List Message
   pub has_read : HasRead kept read messages
   pub written : Appends held held_now (lines_of messages)
-  pub late : kept.bad ≡ true → IsBadOnlyNow 65536 read
+  pub good : kept.bad ≡ false
   pub counted : length read ≡ count
 
 pub goes-none : (input : Input) (held : List ℕ) (kept : Kept) → HasRead kept [] [] → kept.bad ≡ false → GoesOn input input held held kept 0
@@ -32,16 +32,9 @@ goes-none input held kept h good = record {
   messages = [];
   has_read = h;
   written = Appends-nil held;
-  late = λ bad. absurd (cc (sym good ∙ bad));
+  good = good;
   counted = refl;
 }
-
--- what stands behind the frames
-behind : (kept : Kept) (read : List ℕ) (messages : List Message) (h : HasRead kept read messages) → (kept.bad ≡ true → IsBadOnlyNow 65536 read) → IsBehind read h.rest
-behind kept read messages h late = by kept.bad refl where
-  by : (b : Bool) → kept.bad ≡ b → IsBehind read h.rest
-  by true is = inr (rest-bad kept read messages h is, late is)
-  by false is = inl (rest-good kept read messages h is).1
 
 either : (kept : Kept) (read : List ℕ) (messages : List Message) (h : HasRead kept read messages) → IsPartial h.rest ⊎ IsBad h.rest
 either kept read messages h = by kept.bad refl where
@@ -49,21 +42,9 @@ either kept read messages h = by kept.bad refl where
   by true is = inr (rest-bad kept read messages h is)
   by false is = inl (rest-good kept read messages h is).1
 
--- a frame was bad only with a piece more
-only-more : (read piece : List ℕ) → length piece ≤ 65536 → IsBadOnlyNow 65536 read → IsBadOnlyNow 131072 (read ++ piece)
-only-more read piece short now = record {
-  front = now.front;
-  last = now.last ++ piece;
-  split = ap (λ (bytes : List ℕ). bytes ++ piece) now.split ∙ append_assoc now.front now.last piece;
-  few = let few = now.few in omega (arith, short, few, length-append now.last piece);
-  messages = now.messages;
-  rest = now.rest;
-  reads = now.reads;
-  partial = now.partial;
-}
-
-only-now : (kept : Kept) (read piece : List ℕ) (messages : List Message) (most : ℕ) (h : HasRead kept read messages) → kept.bad ≡ false → length piece ≤ most → IsBadOnlyNow most (read ++ piece)
-only-now kept read piece messages most h good short = record {
+-- a frame is bad only with a piece more
+only-now : (kept : Kept) (read piece : List ℕ) (messages : List Message) (h : HasRead kept read messages) → kept.bad ≡ false → length piece ≤ 65536 → IsBadOnlyNow (read ++ piece)
+only-now kept read piece messages h good short = record {
   front = read;
   last = piece;
   split = refl;
@@ -73,13 +54,6 @@ only-now kept read piece messages most h good short = record {
   reads = h.reads;
   partial = (rest-good kept read messages h good).1;
 }
-
-only : (kept : Kept) (read piece : List ℕ) (messages : List Message) → HasRead kept read messages → (kept.bad ≡ true → IsBadOnlyNow 65536 read) → length piece ≤ 65536
-    → IsBadOnlyNow 131072 (read ++ piece)
-only kept read piece messages h late short = by kept.bad refl where
-  by : (b : Bool) → kept.bad ≡ b → IsBadOnlyNow 131072 (read ++ piece)
-  by true is = only-more read piece short (late is)
-  by false is = only-now kept read piece messages 131072 h is (omega (arith, short))
 
 lines-append : (messages given : List Message) → lines_of (messages ++ given) ≡ lines_of messages ++ lines_of given
 lines-append messages given = flat_map-append line_of messages given
@@ -96,7 +70,7 @@ module _ (input middle input_now : Input) (held held_now : List ℕ) (old : Kept
       reads = goes.has_read.reads;
       written = goes.written;
     },
-    behind old goes.read goes.messages goes.has_read goes.late,
+    (rest-good old goes.read goes.messages goes.has_read goes.good).1,
   )
 
   -- the input ended
@@ -116,36 +90,23 @@ module _ (input middle input_now : Input) (held held_now : List ℕ) (old : Kept
     fewer : length goes.read < 4611686018427387904
     fewer = let counted = goes.counted in omega (arith, counted, within)
 
-    by-end : (result : Result (Unit {0}) FramesStatus) → EndsAs old goes.read goes.messages result → HasFramed input input_now held held_now (status_in result)
+    by-end : (result : Result (Unit {0}) FramesStatus) → EndsAs goes.read goes.messages result → HasFramed input input_now held held_now (status_in result)
     by-end (Ok _) reads = (listed [] reads, fewer, ended)
     by-end (Err Cut) (rest, reads, partial, some) = (rest, listed rest reads, fewer, ended, partial, some)
-    by-end (Err (BadFrame at)) (rest, reads, bad, place) =
-        (rest, listed rest reads, bad, subst (IsBadOnlyNow 131072) (append-nil goes.read) (only old goes.read [] goes.messages goes.has_read goes.late (omega arith)), place)
-    by-end (Err Want) good = inr (record {
-      come = record {
-        read = goes.read;
-        last = [];
-        consumed = all;
-        short = omega arith;
-        messages = goes.messages;
-        rest = goes.has_read.rest;
-        reads = goes.has_read.reads;
-        partial = (rest-good old goes.read goes.messages goes.has_read good).1;
-      };
-      written = goes.written;
-    })
+    by-end (Err (BadFrame at)) ends = absurd ends
+    by-end (Err Want) ends = absurd ends
     by-end (Err Done) ends = absurd ends
     by-end (Err Worn) ends = absurd ends
     by-end (Err ReadFault) ends = absurd ends
     by-end (Err WriteFault) ends = absurd ends
 
-    pub framed-end : (result : Result (Unit {0}) FramesStatus) → EndsAs old goes.read goes.messages result → HasFramed input input_now held held_now (status_in result)
+    pub framed-end : (result : Result (Unit {0}) FramesStatus) → EndsAs goes.read goes.messages result → HasFramed input input_now held held_now (status_in result)
     framed-end = by-end
 
   -- a piece came
   module _ (new : Kept) (piece written_now : List ℕ) (short : length piece ≤ 65536) (takes : Takes middle input_now piece) where
-    abbrev come : old.bad ≡ false → HasCome input input_now
-    come good = record {
+    abbrev come : HasCome input input_now
+    come = record {
       read = goes.read;
       last = piece;
       consumed = Takes-trans input middle input_now goes.read piece goes.consumed takes;
@@ -153,12 +114,12 @@ module _ (input middle input_now : Input) (held held_now : List ℕ) (old : Kept
       messages = goes.messages;
       rest = goes.has_read.rest;
       reads = goes.has_read.reads;
-      partial = (rest-good old goes.read goes.messages goes.has_read good).1;
+      partial = (rest-good old goes.read goes.messages goes.has_read goes.good).1;
     }
 
     halted : (has : HasGiven old new goes.read piece goes.messages) → HasWritten held_now written_now (lines_of has.given) → HasHalted input input_now held written_now
     halted has written = record {
-      come = come has.good;
+      come = come;
       middle = held_now;
       first = goes.written;
       given = has.given;
@@ -179,29 +140,55 @@ module _ (input middle input_now : Input) (held held_now : List ℕ) (old : Kept
         written = subst (λ (bytes : List ℕ). Appends held bytes (lines_of goes.messages)) (sym same) goes.written;
       },
       rest-bad new (goes.read ++ piece) goes.messages h bad,
-      only old goes.read piece goes.messages goes.has_read goes.late short,
+      only-now old goes.read piece goes.messages goes.has_read goes.good short,
       sym begun ∙ place-is new (goes.read ++ piece) goes.messages h,
     )
     framed-piece WriteFault (has, written) = halted has written
-    framed-piece Want (inl (good, same)) = inr (record { come = come good; written = subst (λ (bytes : List ℕ). Appends held bytes (lines_of goes.messages)) (sym same) goes.written })
+    framed-piece Want (inl (good, same)) = inr (record { come = come; written = subst (λ (bytes : List ℕ). Appends held bytes (lines_of goes.messages)) (sym same) goes.written })
     framed-piece Want (inr (has, written)) = inl (halted has written)
     framed-piece Done ends = absurd ends
     framed-piece Cut ends = absurd ends
     framed-piece Worn ends = absurd ends
     framed-piece ReadFault ends = absurd ends
 
-    pub goes-more : (n : ℕ) (done : Unit {0}) → length piece ≡ n → IsPieceListed old new goes.read goes.messages piece held_now written_now (Ok done)
-        → GoesOn input input_now held written_now new (count + n)
-    goes-more n done len (has, written) = record {
-      read = goes.read ++ piece;
-      consumed = Takes-trans input middle input_now goes.read piece goes.consumed takes;
-      messages = goes.messages ++ has.given;
-      has_read = has.has_read;
-      written = subst (Appends held written_now) (sym (lines-append goes.messages has.given))
-          (Appends-trans held held_now written_now (lines_of goes.messages) (lines_of has.given) goes.written written);
-      late = λ bad. only-now old goes.read piece goes.messages 65536 goes.has_read has.good short;
-      counted = let counted = goes.counted in omega (arith, counted, len, length-append goes.read piece);
-    }
+    -- its messages were listed
+    module _ (done : Unit {0}) (has : IsPieceListed old new goes.read goes.messages piece held_now written_now (Ok done)) where
+      all-written : Appends held written_now (lines_of (goes.messages ++ has.0.given))
+      all-written = subst (Appends held written_now) (sym (lines-append goes.messages has.0.given))
+          (Appends-trans held held_now written_now (lines_of goes.messages) (lines_of has.0.given) goes.written has.1)
+
+      -- and behind them stands a bad frame
+      bad-now : new.bad ≡ true → HasFramed input input_now held written_now (BadFrame new.begun)
+      bad-now bad = (
+        has.0.has_read.rest,
+        record {
+          read = goes.read ++ piece;
+          consumed = Takes-trans input middle input_now goes.read piece goes.consumed takes;
+          messages = goes.messages ++ has.0.given;
+          reads = has.0.has_read.reads;
+          written = all-written;
+        },
+        rest-bad new (goes.read ++ piece) (goes.messages ++ has.0.given) has.0.has_read bad,
+        only-now old goes.read piece goes.messages goes.has_read goes.good short,
+        place-is new (goes.read ++ piece) (goes.messages ++ has.0.given) has.0.has_read,
+      )
+
+      pub framed-bad : (status : FramesStatus) → (new.bad ≡ true) × (status ≡ BadFrame new.begun) → HasFramed input input_now held written_now status
+      framed-bad status (bad, is) = subst (HasFramed input input_now held written_now) (sym is) (bad-now bad)
+
+      goes-now : (n : ℕ) → length piece ≡ n → new.bad ≡ false → GoesOn input input_now held written_now new (count + n)
+      goes-now n len good = record {
+        read = goes.read ++ piece;
+        consumed = Takes-trans input middle input_now goes.read piece goes.consumed takes;
+        messages = goes.messages ++ has.0.given;
+        has_read = has.0.has_read;
+        written = all-written;
+        good = good;
+        counted = let counted = goes.counted in omega (arith, counted, len, length-append goes.read piece);
+      }
+
+      pub goes-more : (kept : Kept) (n : ℕ) → kept ≡ new → length piece ≡ n → new.bad ≡ false → GoesOn input input_now held written_now kept (count + n)
+      goes-more kept n same len good = subst (λ (k : Kept). GoesOn input input_now held written_now k (count + n)) (sym same) (goes-now n len good)
 
 -- as many bytes were read as a stream may have
 pub framed-worn : (input input_now : Input) (held held_now : List ℕ) (kept : Kept) (count : ℕ) → GoesOn input input_now held held_now kept count → count ≡ 4611686018427387904
@@ -209,7 +196,7 @@ pub framed-worn : (input input_now : Input) (held held_now : List ℕ) (kept : K
 framed-worn input input_now held held_now kept count goes all = (
   goes.has_read.rest,
   record { read = goes.read; consumed = goes.consumed; messages = goes.messages; reads = goes.has_read.reads; written = goes.written },
-  behind kept goes.read goes.messages goes.has_read goes.late,
+  (rest-good kept goes.read goes.messages goes.has_read goes.good).1,
   goes.counted ∙ all,
 )
 
@@ -244,9 +231,9 @@ abbrev err : FramesStatus → Result (Unit {0}) FramesStatus
 err status = Err status
 
 -- who tells no fault of the source or of the sink
-pub end-tells : (old : Kept) (input : List ℕ) (messages : List Message) (result : Result (Unit {0}) FramesStatus) → EndsAs old input messages result
+pub end-tells : (input : List ℕ) (messages : List Message) (result : Result (Unit {0}) FramesStatus) → EndsAs input messages result
     → (result ≡ Err ReadFault → ⊥) × (result ≡ Err WriteFault → ⊥)
-end-tells old input messages result ends = (λ is. subst (EndsAs old input messages) is ends, λ is. subst (EndsAs old input messages) is ends)
+end-tells input messages result ends = (λ is. subst (EndsAs input messages) is ends, λ is. subst (EndsAs input messages) is ends)
 
 pub piece-tells : (old new : Kept) (input : List ℕ) (messages : List Message) (piece held now : List ℕ) (status : FramesStatus) (result : Result (Unit {0}) FramesStatus)
     → IsPieceListed old new input messages piece held now (Err status) → IsErrAnd result (λ s. s ≡ status)

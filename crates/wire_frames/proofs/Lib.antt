@@ -1,4 +1,3 @@
-mod Endings
 mod Going
 mod Lines
 mod Piecing

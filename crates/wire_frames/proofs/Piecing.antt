@@ -12,8 +12,13 @@ use Rattle.wire_frames.specs.Faults.{status_of_decoder, status_of_sink}
 use Rattle.wire_frames.specs.Line.{lines_of}
 use Rattle.wire_frames.specs.Pieces.{HasGiven, IsPieceListed}
 use Rattle.wire_frames.specs.declared.status.FramesStatus.{FramesStatus}
-use Rattle.wire_frames.proofs.Endings.{failed}
 use Rattle.wire_frames.proofs.Stands.{never-true}
+
+abbrev pub Answer : Type 0
+Answer = Result (List Message) DecodeFault
+
+abbrev pub failed : DecodeFault → Answer
+failed f = Err f
 
 module _ (old new : Kept) (input : List ℕ) (messages : List Message) (piece held now : List ℕ) where
   -- a decoder answered a fault

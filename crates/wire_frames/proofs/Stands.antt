@@ -1,5 +1,5 @@
 -- What a decoder keeps of a stream.
-use Rattle.std.proofs.Common.{◌≡◌, ℕ, ◌+◌, ◌≤◌, Bool, true, false, List, [], ◌∷◌, ◌++◌, length, MatchBool, refl, ap, subst, append-nil, length-append, arith}
+use Rattle.std.proofs.Common.{◌≡◌, ℕ, ◌+◌, ◌≤◌, Bool, true, false, List, length, MatchBool, refl, ap, length-append, arith}
 use Rattle.group_message.specs.declared.message.Message.{Message}
 use Rattle.wire_codec.specs.Stream.{HasRead, IsBad, IsPartial, IsTaken, Kept, stream_of}
 
@@ -14,10 +14,6 @@ bad_stands P Q false is given = cc
 pub never-true : (b : Bool) → (b ≡ true → ⊥) → b ≡ false
 never-true true never = absurd (never refl)
 never-true false never = refl
-
-pub no-length : {A : Type 0} (xs : List A) → length xs ≡ 0 → xs ≡ []
-no-length [] none = refl
-no-length (x ∷ xs) none = absurd (omega (arith, none))
 
 -- a decoder that has met no bad frame keeps the rest, which is less than a frame
 pub rest-good : (kept : Kept) (input : List ℕ) (messages : List Message) (h : HasRead kept input messages) → kept.bad ≡ false → (h.rest ≡ kept.front) × IsPartial h.rest
@@ -36,9 +32,3 @@ taken-within kept input messages n h within good =
     let place = h.place in
     let front = (rest-good kept input messages h good).0 in
     omega (arith, place, ap length front, within)
-
--- nothing was fed, and nothing given
-pub fed-nothing : (kept : Kept) (input : List ℕ) (messages given : List Message) → given ≡ [] → HasRead kept (input ++ []) (messages ++ given) → HasRead kept input messages
-fed-nothing kept input messages given none h =
-    subst (λ (bytes : List ℕ). HasRead kept bytes messages) (append-nil input)
-    (subst (HasRead kept (input ++ [])) (append-nil messages) (subst (λ (ms : List Message). HasRead kept (input ++ []) (messages ++ ms)) none h))

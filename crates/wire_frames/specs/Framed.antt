@@ -1,5 +1,5 @@
 -- What comes of a stream of frames.
-use Rattle.std.specs.Prelude.{ℕ, ◌≡◌, ◌≢◌, ◌<◌, ◌≤◌, ◌*◌, ◌^◌, ◌⊎◌, List, [], ◌++◌, length}
+use Rattle.std.specs.Prelude.{ℕ, ◌≡◌, ◌≢◌, ◌<◌, ◌≤◌, ◌^◌, ◌⊎◌, List, [], ◌++◌, length}
 use Rattle.edge_io.specs.Moving.{Appends, Input, IsEnded, Takes}
 use Rattle.edge_io.specs.Writing.{HasWritten}
 use Rattle.group_message.specs.declared.message.Message.{Message}
@@ -24,20 +24,16 @@ pub record HasListed (input input_now : Input) (held held_now rest : List ℕ) :
   pub reads : Reads read messages rest
   pub written : Appends held held_now (lines_of messages)
 
--- no frame was bad before the last bytes, at most so many
-pub record IsBadOnlyNow (most : ℕ) (read : List ℕ) : Type 0 where
+-- no frame was bad before the last bytes, no more than one read takes
+pub record IsBadOnlyNow (read : List ℕ) : Type 0 where
   pub front : List ℕ
   pub last : List ℕ
   pub split : read ≡ front ++ last
-  pub few : length last ≤ most
+  pub few : length last ≤ piece
   pub messages : List Message
   pub rest : List ℕ
   pub reads : Reads front messages rest
   pub partial : IsPartial rest
-
--- what is behind the frames is less than one, or a bad one, which the last piece brought
-abbrev pub IsBehind : List ℕ → List ℕ → Type 0
-IsBehind read rest = IsPartial rest ⊎ (IsBad rest × IsBadOnlyNow piece read)
 
 -- a piece came behind what was read, of which no frame is bad
 pub record HasCome (input input_now : Input) : Type 0 where
@@ -75,12 +71,12 @@ HasFramed input input_now held held_now Cut =
     × IsEnded input_now × IsPartial rest × (rest ≢ [])
 HasFramed input input_now held held_now (BadFrame at) =
     (rest : List ℕ) × (listed : HasListed input input_now held held_now rest) × IsBad rest
-    × IsBadOnlyNow (2 * piece) listed.read × (at ≡ length (stream_of listed.messages))
+    × IsBadOnlyNow listed.read × (at ≡ length (stream_of listed.messages))
 HasFramed input input_now held held_now Worn =
-    (rest : List ℕ) × (listed : HasListed input input_now held held_now rest) × IsBehind listed.read rest
+    (rest : List ℕ) × (listed : HasListed input input_now held held_now rest) × IsPartial rest
     × (length listed.read ≡ longest_input)
 HasFramed input input_now held held_now ReadFault =
-    (rest : List ℕ) × (listed : HasListed input input_now held held_now rest) × IsBehind listed.read rest
+    (rest : List ℕ) × HasListed input input_now held held_now rest × IsPartial rest
 HasFramed input input_now held held_now WriteFault = HasHalted input input_now held held_now
 HasFramed input input_now held held_now Want =
     HasHalted input input_now held held_now ⊎ HasUnread input input_now held held_now

@@ -1,9 +1,9 @@
 -- What comes of the next piece of a stream, and of its end.
-use Rattle.std.specs.Prelude.{ℕ, ◌≡◌, ◌≢◌, ◌⊎◌, true, false, List, [], ◌++◌, length, Result, Ok, Err}
+use Rattle.std.specs.Prelude.{ℕ, ◌≡◌, ◌≢◌, ◌⊎◌, true, false, List, [], ◌++◌, Result, Ok, Err}
 use Rattle.edge_io.specs.Moving.{Appends}
 use Rattle.edge_io.specs.Writing.{HasWritten}
 use Rattle.group_message.specs.declared.message.Message.{Message}
-use Rattle.wire_codec.specs.Stream.{HasRead, IsBad, IsPartial, Kept, Reads, stream_of}
+use Rattle.wire_codec.specs.Stream.{HasRead, IsPartial, Kept, Reads}
 use Rattle.wire_frames.specs.Line.{lines_of}
 use Rattle.wire_frames.specs.declared.status.FramesStatus.{FramesStatus}
 use Rattle.wire_frames.specs.declared.status.FramesStatus.TheVariants.{Done, Cut, BadFrame, WriteFault, Want}
@@ -37,11 +37,8 @@ IsPieceListed before after input messages piece held now (Err Want) =
     ⊎ ((has : HasGiven before after input piece messages) × HasWritten held now (lines_of has.given))
 IsPieceListed before after input messages piece held now (Err _) = ⊥
 
--- how a stream ends that has these messages: with no rest, inside a frame, or with a frame that is bad
-abbrev pub EndsAs : Kept → List ℕ → List Message → Result (Unit {0}) FramesStatus → Type 0
-EndsAs before input messages (Ok _) = Reads input messages []
-EndsAs before input messages (Err Cut) = (rest : List ℕ) × Reads input messages rest × IsPartial rest × (rest ≢ [])
-EndsAs before input messages (Err (BadFrame at)) =
-    (rest : List ℕ) × Reads input messages rest × IsBad rest × (at ≡ length (stream_of messages))
-EndsAs before input messages (Err Want) = before.bad ≡ false
-EndsAs before input messages (Err _) = ⊥
+-- how a stream ends that has these messages: with no rest, or inside a frame
+abbrev pub EndsAs : List ℕ → List Message → Result (Unit {0}) FramesStatus → Type 0
+EndsAs input messages (Ok _) = Reads input messages []
+EndsAs input messages (Err Cut) = (rest : List ℕ) × Reads input messages rest × IsPartial rest × (rest ≢ [])
+EndsAs input messages (Err _) = ⊥

@@ -5,7 +5,7 @@ ghost use Rattle.wire_codec.specs.Stream.{HasRead, IsTaken};
 ghost use Rattle.wire_frames.specs.Framed.{HasFramed};
 ghost use Rattle.wire_frames.specs.Pieces.{IsPieceListed, WasFed, status_in};
 
-use crate::ending::end_stream;
+use crate::ending::{end_stream, tell_bad};
 use crate::line::lines_of;
 use crate::status::FramesStatus;
 use edge_io::{Sink, Source, write_all};
@@ -72,6 +72,7 @@ fn list_pieces<S: Source, K: Sink>(
             return end_stream(decoder);
         }
         list_piece(alloc, sink, decoder, &into[..n])?;
+        tell_bad(decoder)?;
         count += n as u64;
     }
     Err(FramesStatus::Worn)

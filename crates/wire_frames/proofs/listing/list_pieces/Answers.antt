@@ -1,5 +1,5 @@
 use Rattle.std.proofs.Common.{rules, ◌≡◌, length, take, arith}
-use Rattle.wire_frames.proofs.Going.{end-tells, framed-end, framed-piece, framed-read_fault, framed-worn, goes-more, goes-none, handed-on, piece-tells, takes-none}
+use Rattle.wire_frames.proofs.Going.{end-tells, framed-bad, framed-end, framed-piece, framed-read_fault, framed-worn, goes-more, goes-none, handed-on, piece-tells, takes-none}
 use Rattle.wire_frames.proofs.Stands.{taken-within}
 use Rattle.wire_frames.proofs.listing.list_pieces.Goals as goal
 
@@ -15,9 +15,7 @@ pub returns-in_err-n-clause-framed : goal.returns-in_err-n-clause-framed
 returns-in_err-n-clause-framed g c = handed-on _ _ _ _ _ c.from_residual.result (framed-read_fault _ _ _ _ _ _ _ c.pieces.invariant.goes c.in_err-n.ensures.bytes.0) c.from_residual.ensures.1
 
 pub end_stream-requires : goal.end_stream-requires
-end_stream-requires g c =
-    let goes = c.pieces.invariant.goes in
-    taken-within _ goes.read goes.messages 0 goes.has_read (omega (arith, goes.counted, c.pieces-test.true))
+end_stream-requires g c = c.pieces.invariant.goes.good
 
 pub returns-then-n-eq0-clause-framed : goal.returns-then-n-eq0-clause-framed
 returns-then-n-eq0-clause-framed g c =
@@ -32,7 +30,7 @@ returns-then-n-eq0-clause-read g c =
     let goes = c.pieces.invariant.goes in
     record {
       later = omega (arith, c.pieces.invariant.read_later, c.in_ok-n.ensures.cause.later);
-      failed = λ is. absurd ((end-tells c.pieces.decoder goes.read goes.messages c.end_stream.result (c.end_stream.ensures goes.read goes.messages goes.has_read)).0 is);
+      failed = λ is. absurd ((end-tells goes.read goes.messages c.end_stream.result (c.end_stream.ensures goes.read goes.messages goes.has_read)).0 is);
     }
 
 pub returns-then-n-eq0-clause-write : goal.returns-then-n-eq0-clause-write
@@ -40,7 +38,7 @@ returns-then-n-eq0-clause-write g c =
     let goes = c.pieces.invariant.goes in
     record {
       later = c.pieces.invariant.written_later;
-      failed = λ is. absurd ((end-tells c.pieces.decoder goes.read goes.messages c.end_stream.result (c.end_stream.ensures goes.read goes.messages goes.has_read)).1 is);
+      failed = λ is. absurd ((end-tells goes.read goes.messages c.end_stream.result (c.end_stream.ensures goes.read goes.messages goes.has_read)).1 is);
     }
 
 pub list_piece-requires-clause-taken : goal.list_piece-requires-clause-taken
@@ -71,14 +69,24 @@ returns-in_err-list_piece-clause-read g c =
           c.from_residual-in_err-list_piece.result (c.in_err-list_piece.ensures.listed goes.read goes.messages goes.has_read) c.from_residual-in_err-list_piece.ensures.1 is);
     }
 
+pub returns-in_err-tell_bad-clause-framed : goal.returns-in_err-tell_bad-clause-framed
+returns-in_err-tell_bad-clause-framed g c =
+    let goes = c.pieces.invariant.goes in
+    let size : length c.read.new.into ≡ c.min-most.result = search rules in
+    handed-on _ _ _ _ _ c.from_residual-in_err-tell_bad.result
+    (framed-bad _ _ _ _ _ _ _ goes c.list_piece.new.decoder (take c.in_ok-n.n c.read.new.into) _
+    (omega (arith, size, c.in_ok-n.ensures.bound.0, c.in_ok-n.ensures.bound.1, c.min-most.ensures)) c.in_ok-n.ensures.bytes.takes _
+    (c.in_ok-list_piece.ensures.listed goes.read goes.messages goes.has_read) c.in_err-tell_bad.field-0.0 c.in_err-tell_bad.ensures.bad) c.from_residual-in_err-tell_bad.ensures.1
+
 pub pieces-preserved : goal.pieces-preserved
 pieces-preserved g c =
     let goes = c.pieces.invariant.goes in
     let size : length c.read.new.into ≡ c.min-most.result = search rules in
     record {
       goes = goes-more _ _ _ _ _ _ _ goes c.list_piece.new.decoder (take c.in_ok-n.n c.read.new.into) _
-          (omega (arith, size, c.in_ok-n.ensures.bound.0, c.in_ok-n.ensures.bound.1, c.min-most.ensures)) c.in_ok-n.ensures.bytes.takes c.in_ok-n.n _
-          (omega (arith, c.in_ok-n.ensures.bound.1)) (c.in_ok-list_piece.ensures.listed goes.read goes.messages goes.has_read);
+          (omega (arith, size, c.in_ok-n.ensures.bound.0, c.in_ok-n.ensures.bound.1, c.min-most.ensures)) c.in_ok-n.ensures.bytes.takes _
+          (c.in_ok-list_piece.ensures.listed goes.read goes.messages goes.has_read) c.tell_bad.new.decoder c.in_ok-n.n c.tell_bad.ensures.same
+          (omega (arith, c.in_ok-n.ensures.bound.1)) c.in_ok-tell_bad.ensures.good;
       within = omega (arith, size, c.in_ok-n.ensures.bound.0, c.min-most.ensures, c.pieces-test.true);
       read_later = omega (arith, c.pieces.invariant.read_later, c.in_ok-n.ensures.cause.later);
       written_later = omega (arith, c.pieces.invariant.written_later, c.list_piece.ensures.cause.later);
