@@ -8,3 +8,4 @@ mod Follows
 mod Deciding
 pub mod Machine
 pub mod Paging
+mod Wanting

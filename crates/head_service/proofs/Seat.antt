@@ -1,5 +1,5 @@
 -- What stands on bytes stands on them where nothing that it needs has changed.
-use Rattle.std.proofs.Common.{ℕ, ◌≡◌, ◌<◌, List, length, All, sym, subst, ◌∙◌}
+use Rattle.std.proofs.Common.{ℕ, ◌≡◌, ◌<◌, length, All, sym, subst, ◌∙◌}
 use Rattle.std.proofs.lemmas.List.Elements.{All-push}
 use Rattle.group_types.specs.Dimensions.{Dimensions}
 use Rattle.group_message.specs.declared.update.Update.{Update}

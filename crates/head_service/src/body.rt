@@ -1,4 +1,4 @@
-ghost use Rattle.std.specs.Prelude.{◌≡◌, ◌<◌, length, IfOk, IfSome, IsSome, OnErr};
+ghost use Rattle.std.specs.Prelude.{◌≡◌, ◌<◌, length, IfOk, IfSome, OnErr};
 ghost use Rattle.field_byte.specs.Vectors.{add_bytes};
 ghost use Rattle.group_types.specs.Dimensions.{space_of};
 ghost use Rattle.group_run.specs.Deciding.{decide_left, decide_placed, decide_written};
@@ -6,6 +6,7 @@ ghost use Rattle.group_run.specs.Fitting.{IsRunOf};
 ghost use Rattle.group_run.specs.Free.{place_for};
 ghost use Rattle.head_service.specs.Beneath.{found_by};
 ghost use Rattle.head_service.specs.Issuing.{IsWhole};
+ghost use Rattle.head_service.specs.Wanting.{IsIssued};
 
 use crate::beneath::Beneath;
 use group_calls::{Decision, Found};
@@ -30,7 +31,8 @@ pub fn decide_left<B: Beneath>(
     ensures decision { IfOk result (λ d. d ≡ decide_left (space_of replica.now.shape) replica.now.replica
         (found_by partition.0 (B.storage below.now)) outcome touch leaves) }
     ensures whole { IfOk result (IsWhole replica.now.shape) }
-    ensures wanted { OnErr result (IsSome leaves) }
+    ensures wanted { OnErr result (IsIssued (decide_left (space_of replica.now.shape) replica.now.replica
+        (found_by partition.0 (B.storage below.now)) outcome touch leaves)) }
 {
     let body = match leaves {
         None => Body::Remove,
@@ -54,6 +56,8 @@ fn decide_placed<B: Beneath>(
     ensures decision { IfOk result (λ d. d ≡ decide_placed (found_by partition.0 (B.storage below.now)) outcome holding
         (place_for (space_of replica.now.shape) replica.now.replica (length holding.item.value))) }
     ensures whole { IfOk result (IsWhole replica.now.shape) }
+    ensures wanted { OnErr result (IsIssued (decide_placed (found_by partition.0 (B.storage below.now)) outcome holding
+        (place_for (space_of replica.now.shape) replica.now.replica (length holding.item.value)))) }
 {
     match place(replica, below.space(), holding.item.value.len()) {
         None => Ok(Decision::NoSpace),
@@ -62,7 +66,7 @@ fn decide_placed<B: Beneath>(
 }
 
 // Where a value of so many bytes is placed; one that is longer than the space finds no place.
-fn place(replica: &Replica, space: u32, len: usize) -> Option<Run>
+pub(crate) fn place(replica: &Replica, space: u32, len: usize) -> Option<Run>
     requires space { space ≡ space_of replica.now.shape }
     ensures place { result ≡ place_for space replica.now.replica len }
     ensures run { IfSome result (λ run. IsRunOf space len run) }
@@ -85,6 +89,8 @@ fn decide_written<B: Beneath>(
     ensures decision { IfOk result (λ d. d ≡ decide_written outcome holding.now run
         (found_by partition.0 (B.storage below.now) run)) }
     ensures whole { IfOk result (IsWhole (B.storage below.now).shape) }
+    ensures wanted { OnErr result (IsIssued (decide_written outcome holding.now run
+        (found_by partition.0 (B.storage below.now) run))) }
 {
     match below.find(partition, run)? {
         Found::Missing(block) => Ok(Decision::NeedBlock(block)),

@@ -1,16 +1,18 @@
-ghost use Rattle.std.specs.Prelude.{◌≡◌, ◌+◌, ◌<◌, ◌≤◌, ◌^◌, ℕ, List, IfOk, IfSome, OnErr, None, Some};
+ghost use Rattle.std.specs.Prelude.{◌≡◌, ◌⊎◌, ◌+◌, ◌<◌, ◌≤◌, ◌^◌, IfOk, IfSome, OnErr, None, Some};
 ghost use Rattle.group_types.specs.Dimensions.{space_of};
 ghost use Rattle.memc_table.specs.Act.{key_of};
-ghost use Rattle.memc_table.specs.Ruling.{HoldsItem};
-ghost use Rattle.group_run.specs.Deciding.{decide, decide_ruled, decide_waiting, ruling_with, run_needed, waits_for};
-ghost use Rattle.group_run.specs.Replica.{last_of, number_on, run_in, slot_in};
+ghost use Rattle.group_run.specs.Deciding.{decide, decide_found, decide_ruled, decide_waiting, run_needed};
+ghost use Rattle.group_run.specs.Replica.{last_of, run_in, slot_in};
 ghost use Rattle.head_service.specs.Beneath.{found_by};
 ghost use Rattle.head_service.specs.Issuing.{CanFollow, IsWhole};
-ghost use Rattle.head_service.specs.Wanting.{IsThere, MayTake, TakesItem};
+ghost use Rattle.head_service.specs.Wanting.{IsIssued, IsThere, MayWant, ReadsItem, TakesMemory};
 
 use crate::beneath::Beneath;
 use crate::body::decide_left;
-use crate::ruling::{blind_reply, is_touch, needs_bytes, outcome_of, ruling_with, waits_for};
+use crate::put_off::{awaited, put_off};
+use crate::ruling::{
+    blind_reply, is_get, is_touch, needs_bytes, outcome_of, ruling_with, waits_for,
+};
 use group_calls::{Decision, Found};
 use group_types::{Partition, Payload, Run};
 use item_index::Slot;
@@ -18,9 +20,6 @@ use memc_table::Op;
 use memc_table::ruling::Ruling;
 use partition_replica::Replica;
 use std::alloc::{AllocError, Global};
-
-/// How many updates of a partition may be unfinished.
-const WINDOW: u64 = 256;
 
 /// What the head of a partition, which inherited updates up to a number, decides of a call.
 pub fn decide<B: Beneath>(
@@ -37,10 +36,8 @@ pub fn decide<B: Beneath>(
     ensures decision { IfOk result (λ d. d ≡ decide (space_of replica.now.shape) inherited replica.now.replica op.now
         (found_by partition.0 (B.storage below.now))) }
     ensures follows { IfOk result (λ d. CanFollow replica.now.shape replica.now.replica (key_of op.now.act) d) }
-    ensures wanted { OnErr result (MayTake replica.now.replica op.now
-        (slot_in replica.now.replica.items (key_of op.now.act))
-        (found_by partition.0 (B.storage below.now))
-        (waits_for inherited op.now.act (number_on replica.now.replica.log (key_of op.now.act)))) }
+    ensures wanted { OnErr result (MayWant (space_of replica.now.shape) inherited replica.now.replica op.now
+        (found_by partition.0 (B.storage below.now))) }
 {
     let last = replica.unfinished(op.act().key());
     match waits_for(inherited, op.act(), last) {
@@ -63,9 +60,10 @@ fn decide_settled<B: Beneath>(
     ensures decision { IfOk result (λ d. d ≡ decide_waiting (space_of replica.now.shape) replica.now.replica op.now
         (found_by partition.0 (B.storage below.now)) (slot_in replica.now.replica.items (key_of op.now.act)) None) }
     ensures whole { IfOk result (IsWhole replica.now.shape) }
-    ensures wanted { OnErr result (TakesItem replica.now.replica op.now
-        (slot_in replica.now.replica.items (key_of op.now.act))
-        (found_by partition.0 (B.storage below.now))) }
+    ensures wanted { OnErr result (ReadsItem replica.now.replica op.now
+        (slot_in replica.now.replica.items (key_of op.now.act)) (found_by partition.0 (B.storage below.now))
+        ⊎ TakesMemory (decide_waiting (space_of replica.now.shape) replica.now.replica op.now
+        (found_by partition.0 (B.storage below.now)) (slot_in replica.now.replica.items (key_of op.now.act)) None)) }
 {
     let slot = item(replica, op);
     match slot {
@@ -100,10 +98,14 @@ fn decide_unread<B: Beneath>(
     ensures decision { IfOk result (λ d. d ≡ decide_waiting (space_of replica.now.shape) replica.now.replica op.now
         (found_by partition.0 (B.storage below.now)) slot None) }
     ensures whole { IfOk result (IsWhole replica.now.shape) }
-    ensures wanted { OnErr result ((bytes : List ℕ) × HoldsItem (ruling_with replica.now.replica op.now slot bytes)) }
+    ensures wanted { OnErr result (TakesMemory (decide_waiting (space_of replica.now.shape) replica.now.replica op.now
+        (found_by partition.0 (B.storage below.now)) slot None)) }
 {
-    let ruling = ruling_with(alloc, replica, op, slot, Payload::empty())?;
-    decide_ruled(partition, replica, op, below, ruling)
+    match ruling_with(alloc, replica, op, slot, Payload::empty()) {
+        Ok(ruling) => decide_ruled(partition, replica, op, below, ruling),
+        Err(error) if is_get(op.act()) => Err(error),
+        Err(_) => put_off(partition, replica, op, below),
+    }
 }
 
 // The op needs the bytes of the item, unless their number alone says what comes of it.
@@ -123,12 +125,34 @@ fn decide_read<B: Beneath>(
     ensures decision { IfOk result (λ d. d ≡ decide_waiting (space_of replica.now.shape) replica.now.replica op.now
         (found_by partition.0 (B.storage below.now)) (Some slot) None) }
     ensures whole { IfOk result (IsWhole replica.now.shape) }
-    ensures wanted { OnErr result (IsThere (found_by partition.0 (B.storage below.now)
-        (run_in slot))) }
+    ensures wanted { OnErr result (ReadsItem replica.now.replica op.now (Some slot)
+        (found_by partition.0 (B.storage below.now))) }
 {
-    if let Some(reply) = blind_reply(op, slot) {
-        return Ok(Decision::Answer(reply));
+    match blind_reply(op, slot) {
+        Some(reply) => Ok(Decision::Answer(reply)),
+        None => decide_found(alloc, partition, replica, op, below, slot),
     }
+}
+
+// What comes of the bytes of the item.
+fn decide_found<B: Beneath>(
+    alloc: Global,
+    partition: Partition,
+    replica: &Replica,
+    op: &Op,
+    below: &B,
+    slot: Slot,
+) -> Result<Decision, AllocError>
+    requires partition { partition.0 < (B.storage below.now).shape.k }
+    requires numbers { last_of replica.now.replica < 2 ^ 62 }
+    requires shape { (B.storage below.now).shape ≡ replica.now.shape }
+    requires inside { slot.at + slot.len ≤ space_of replica.now.shape }
+    ensures decision { IfOk result (λ d. d ≡ decide_found (space_of replica.now.shape) replica.now.replica op.now
+        (found_by partition.0 (B.storage below.now)) (Some slot)
+        (found_by partition.0 (B.storage below.now) (run_in slot))) }
+    ensures whole { IfOk result (IsWhole replica.now.shape) }
+    ensures wanted { OnErr result (IsThere (found_by partition.0 (B.storage below.now) (run_in slot))) }
+{
     let run = Run {
         at: slot.at,
         len: slot.len,
@@ -155,16 +179,20 @@ fn decide_ruled<B: Beneath>(
     ensures decision { IfOk result (λ d. d ≡ decide_ruled (space_of replica.now.shape) replica.now.replica op.now
         (found_by partition.0 (B.storage below.now)) ruling) }
     ensures whole { IfOk result (IsWhole replica.now.shape) }
-    ensures wanted { OnErr result (HoldsItem ruling) }
+    ensures wanted { OnErr result (IsIssued (decide_ruled (space_of replica.now.shape) replica.now.replica op.now
+        (found_by partition.0 (B.storage below.now)) ruling)) }
 {
     match ruling {
         Ruling::Refused(reply) => Ok(Decision::Answer(reply)),
         Ruling::Accepted { reply, leaves } => {
-            if WINDOW <= replica.last() - replica.applied() {
-                return Ok(Decision::Retry(replica.applied() + 1));
+            match awaited(replica) {
+                Some(number) => Ok(Decision::Retry(number)),
+                None => {
+                    let outcome = outcome_of(&reply);
+                    let touch = is_touch(op.act());
+                    decide_left(partition, replica, below, outcome, touch, leaves)
+                }
             }
-            let touch = is_touch(op.act());
-            decide_left(partition, replica, below, outcome_of(&reply), touch, leaves)
         }
     }
 }

@@ -17,6 +17,7 @@ pub mod judge;
 pub mod laws;
 pub mod news;
 pub mod peers;
+mod put_off;
 mod ruling;
 pub mod settle;
 pub mod step;

@@ -1,7 +1,7 @@
 ghost use Rattle.std.specs.Prelude.{◌≡◌, ◌&&◌, ◌<◌, ◌^◌, nat_lt, IfOk, OnErr, Some};
 ghost use Rattle.memc_table.specs.Expiry.{is_live, live_at};
 ghost use Rattle.memc_table.specs.Ruling.{HoldsItem, ruling_of};
-ghost use Rattle.group_run.specs.Deciding.{blind_reply, held_as, is_touch, outcome_of, reads_bytes, ruling_with, run_needed, unseen, waits_for};
+ghost use Rattle.group_run.specs.Deciding.{blind_reply, held_as, is_get, is_touch, outcome_of, reads_bytes, ruling_with, run_needed, unseen, waits_for};
 ghost use Rattle.group_run.specs.Replica as machine;
 ghost use Rattle.group_run.specs.Replica.{last_of, run_in};
 
@@ -27,6 +27,13 @@ pub fn waits_for(inherited: u64, act: &Act, last: Option<u64>) -> Option<u64>
         Act::Get { .. } => last.filter(|number| *number <= inherited),
         _ => last,
     }
+}
+
+/// Whether the act is a get.
+pub fn is_get(act: &Act) -> bool
+    ensures { result ≡ is_get act.now }
+{
+    matches!(act, Act::Get { .. })
 }
 
 /// Whether the act is a touch.
