@@ -1,0 +1,7 @@
+pub mod Answers
+pub mod Carrying
+pub mod Courses
+pub mod Done
+pub mod Pages
+pub mod Texts
+pub mod Words
