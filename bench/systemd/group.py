@@ -43,16 +43,8 @@ class Group:
         self["proxy"].run("haproxy -c -f /etc/haproxy/haproxy.cfg")
 
     def begin_etcd(self):
-        cluster = ",".join(f"{name}=http://{at}:2380" for name, at in ETCDS.items())
         for name, at in ETCDS.items():
-            self[name].write("/etc/default/etcd", f"""ETCD_NAME={name}
-ETCD_LISTEN_PEER_URLS=http://{at}:2380
-ETCD_LISTEN_CLIENT_URLS=http://{at}:2379,http://127.0.0.1:2379
-ETCD_INITIAL_ADVERTISE_PEER_URLS=http://{at}:2380
-ETCD_ADVERTISE_CLIENT_URLS=http://{at}:2379
-ETCD_INITIAL_CLUSTER={cluster}
-ETCD_INITIAL_CLUSTER_STATE=new
-""")
+            self[name].write("/etc/default/etcd", page.block("ETCD_NAME=e1").replace("ETCD_NAME=e1", f"ETCD_NAME={name}").replace("10.0.1.1", at).replace(f"e1=http://{at}", "e1=http://10.0.1.1") + "\n")
         self.each_etcd("start")
 
     def each_etcd(self, verb):
@@ -64,14 +56,11 @@ ETCD_INITIAL_CLUSTER_STATE=new
             until(lambda name=name: self[name].run("systemctl is-active etcd || true").strip() == wanted, 60, f"etcd of {name} is {wanted}")
 
     def settings(self):
-        """Those of the example, of a group that is drawn anew, with the machines' addresses and where etcd is."""
-        with open(f"{TOP}/examples/machines/member.toml", encoding="utf-8") as file:
+        """Those of the example, of a group that is drawn anew."""
+        with open(f"{TOP}/examples/machines/machines.toml", encoding="utf-8") as file:
             text = file.read()
         drawn = subprocess.run(["sh", "-c", page.block("od -An")], check=True, capture_output=True, text=True).stdout
-        text = re.sub(r'group = "\w+"', f'group = "{drawn}"', text)
-        for ours, theirs in (("213", "11311"), ("212", "11211")):
-            text = re.sub(rf"127\.0\.0\.1:{ours}0(\d)", lambda it, port=theirs: f"10.0.0.{int(it[1]) + 1}:{port}", text)
-        return re.sub(r"127\.0\.0\.1:2140\d", "127.0.0.1:11411", text) + "\n" + "\n".join(page.block("[watch]").split("\n")) + "\n"
+        return re.sub(r'group = "\w+"', f'group = "{drawn}"', text)
 
     def fresh(self, with_scripts=False):
         """A fresh group, by what the page says, over what is left of an earlier one."""
@@ -84,7 +73,7 @@ ETCD_INITIAL_CLUSTER_STATE=new
         for name in NAMES:
             machine = self[name]
             machine.write("/root/member.toml", text)
-            machine.run(page.block("install -D -m 755 crates", name).replace(" member.toml ", " /root/member.toml "))
+            machine.run(page.block("install -D -m 755 crates", name))
             machine.run(page.block("install -D -m 755 -t /usr/local/lib/cocytus" if with_scripts else "install -m 644 -t", name))
         for name in NAMES:
             until(lambda name=name: self.status(name).get("serves") == "yes", 60, f"{name} serves")
