@@ -2,7 +2,7 @@
 use Rattle.std.proofs.Common.{ℕ, zero, suc, ◌≡◌, ◌<◌, ◌+◌, ◌⊎◌, inl, inr, List, [], ◌∷◌, ◌++◌, length, map, take, All, Option, Some, None, Result, Ok, Err, refl, sym, ap, subst, ◌∙◌, append_assoc}
 use Rattle.group_types.specs.Dimensions.{Dimensions}
 use Rattle.group_types.specs.Shape.{IsShape}
-use Rattle.group_run.specs.Shown.{HoldsTruth}
+use Rattle.group_run.specs.Shown.{HoldsTruth, held}
 use Rattle.group_layout.specs.Cluster.{Cluster, ClusterEntry, GroupTurn, IsLayout, MayAllHappen, cluster_step, cluster_turns, logged_in, tagged, world_in}
 use Rattle.group_layout.specs.Legal.{IsClusterLegal}
 use Rattle.group_layout.specs.Promise.{IsOwn}
@@ -18,14 +18,17 @@ use Rattle.scenario_text.specs.Meaning.{IsLineOf, line_of}
 use Rattle.scenario_text.specs.declared.line.Line.{Line}
 use Rattle.scenario_text.specs.declared.line.Line.TheVariants.{Skipped, Group, Ask, Collect, Deliver, Fail, Flush, Trace, Drain, Show, Places, Time, Stop}
 use Rattle.scenario_text.specs.declared.line.LineFault.{LineFault}
+use Rattle.scenario_text.specs.Words.{words_of}
 use Rattle.scenario_text.proofs.Lines.{line_of-within}
 use Rattle.scenario_run.specs.Course.{Ends, Goes, Refused, fault_in, named_in, turns_in}
 use Rattle.scenario_run.specs.Lines.{lines_of}
 use Rattle.scenario_run.proofs.Following.{fault_after, named-line, turns_after}
+use Rattle.scenario_run.specs.Playing.{look}
+use Rattle.scenario_run.proofs.Running.{parts}
 use Rattle.scenario_run.proofs.Truth.{shows-truth}
 use Rattle.cluster_run.specs.Led.{IsLedTo}
-use Rattle.cluster_run.specs.Playing.{ClusterNext, ClusterPlay, ClusterTurn, group_in, log_of, next_of, opening_of, turns_from}
-use Rattle.cluster_run.specs.Meaning.{in_group}
+use Rattle.cluster_run.specs.Playing.{ClusterNext, ClusterPlay, ClusterTurn, by_line, by_words, group_in, log_of, next_of, opening_of, then_in, turns_from}
+use Rattle.cluster_run.specs.Meaning.{failure_line, in_group}
 use Rattle.cluster_run.specs.Promises.{AreTrueLines, HoldsAfter, IsTrueIn, IsTrueLine, IsTrueNamed, ScriptsKeepPromises, end_of}
 use Rattle.cluster_run.specs.Script.{events_of, plan_in, turns_of}
 use Rattle.cluster_run.specs.declared.fault.ClusterFault.TheVariants.{BadLine}
@@ -34,8 +37,12 @@ use Rattle.cluster_run.proofs.Meaning.{in_group-below}
 use Rattle.cluster_run.proofs.Running.{GoesOn, Opens, line-leads, line-opens, never-ends}
 
 -- what follows a line, by what it does
-abbrev TrueAfter : ClusterNext → List (List ℕ) → Type 0
-TrueAfter next lines = elim next [ Goes play turns text ↦ AreTrueLines play lines | Ends ↦ Unit {0} | Refused fault ↦ Unit {0} ]
+abbrev TrueAfter : Option ClusterPlay → List ℕ → ClusterNext → List (List ℕ) → Type 0
+TrueAfter play line next lines = elim next [
+  | Goes next turns text ↦ IsTrueLine play line text × AreTrueLines next lines
+  | Ends ↦ Unit {0}
+  | Refused fault ↦ Unit {0}
+]
 
 -- the lines behind the one that names the groups are events that may happen
 record Runs (c : Cluster) (turns : List ClusterTurn) : Type 0 where
@@ -65,43 +72,47 @@ module _ (plan : Plan) where
   truth : (c : Cluster) (j : ℕ) → IsLedTo plan c → j < plan.groups → HoldsTruth (world_in c.groups j)
   truth c j led low = let own = led-group plan c j led low in subst HoldsTruth (sym own.is) (truth_always plan.shape own.events own.run)
 
-  true-in : (p : ClusterPlay) (j : ℕ) (l : Result Line LineFault) → IsLedTo plan p.cluster → j < plan.groups → ((l' : Line) → l ≡ Ok l' → IsLineOf (Some (group_in p j).shape) l') → IsTrueIn p j l
-  true-in p j (Err fault) led low within = tt
-  true-in p j (Ok (Show from run)) led low within = shows-truth (group_in p j) from run (within (Show from run) refl).0 (truth p.cluster j led low)
-  true-in p j (Ok Skipped) led low within = tt
-  true-in p j (Ok (Group shape)) led low within = tt
-  true-in p j (Ok (Ask caller from act)) led low within = tt
-  true-in p j (Ok (Collect caller call from)) led low within = tt
-  true-in p j (Ok (Deliver from to)) led low within = tt
-  true-in p j (Ok (Fail from keep)) led low within = tt
-  true-in p j (Ok (Flush from)) led low within = tt
-  true-in p j (Ok (Trace caller call d from)) led low within = tt
-  true-in p j (Ok Drain) led low within = tt
-  true-in p j (Ok Places) led low within = tt
-  true-in p j (Ok (Time moment)) led low within = tt
-  true-in p j (Ok Stop) led low within = tt
+  true-in : (p : ClusterPlay) (j : ℕ) (l : Result Line LineFault) (next : Option ClusterPlay) (turns : List ClusterTurn) (text : List ℕ) → IsLedTo plan p.cluster → j < plan.groups
+      → ((l' : Line) → l ≡ Ok l' → IsLineOf (Some (group_in p j).shape) l') → by_line (then_in p j) l ≡ Goes next turns text → IsTrueIn p j l text
+  true-in p j (Err fault) next turns text led low within is = tt
+  true-in p j (Ok (Show from run)) next turns text led low within is =
+      (parts (Some p) next [] turns (look (group_in p j) from (held (group_in p j) from run) ++ 10 ∷ []) text is).2
+      ∙ shows-truth (group_in p j) from run (within (Show from run) refl).0 (truth p.cluster j led low)
+  true-in p j (Ok Skipped) next turns text led low within is = tt
+  true-in p j (Ok (Group shape)) next turns text led low within is = tt
+  true-in p j (Ok (Ask caller from act)) next turns text led low within is = tt
+  true-in p j (Ok (Collect caller call from)) next turns text led low within is = tt
+  true-in p j (Ok (Deliver from to)) next turns text led low within is = tt
+  true-in p j (Ok (Fail from keep)) next turns text led low within is = tt
+  true-in p j (Ok (Flush from)) next turns text led low within is = tt
+  true-in p j (Ok (Trace caller call d from)) next turns text led low within is = tt
+  true-in p j (Ok Drain) next turns text led low within is = tt
+  true-in p j (Ok Places) next turns text led low within is = tt
+  true-in p j (Ok (Time moment)) next turns text led low within is = tt
+  true-in p j (Ok Stop) next turns text led low within is = tt
 
-  true-named : (p : ClusterPlay) (named : Option (ℕ × List ℕ)) → IsLedTo plan p.cluster → ((x : ℕ × List ℕ) → named ≡ Some x → x.0 < plan.groups) → IsTrueNamed p named
-  true-named p None led there = tt
-  true-named p (Some x) led there =
+  true-named : (p : ClusterPlay) (line : List ℕ) (named : Option (ℕ × List ℕ)) (failure : Option ClusterEvent) (next : Option ClusterPlay) (turns : List ClusterTurn) (text : List ℕ) → IsLedTo plan p.cluster
+      → ((x : ℕ × List ℕ) → named ≡ Some x → x.0 < plan.groups) → by_words p line named failure ≡ Goes next turns text → IsTrueNamed p named text
+  true-named p line None failure next turns text led there is = tt
+  true-named p line (Some x) failure next turns text led there is =
       let even = led-even plan p.cluster led in
-      true-in p x.0 (line_of (Some p.cluster.groups.shape) x.1) led (there x refl)
-      (λ l reads. subst (λ (s : Dimensions). IsLineOf (Some s) l) (even.shape ∙ sym (even.worlds x.0)) (line_of-within (Some p.cluster.groups.shape) x.1 l reads))
+      true-in p x.0 (line_of (Some p.cluster.groups.shape) x.1) next turns text led (there x refl)
+      (λ l reads. subst (λ (s : Dimensions). IsLineOf (Some s) l) (even.shape ∙ sym (even.worlds x.0)) (line_of-within (Some p.cluster.groups.shape) x.1 l reads)) is
 
   true-lines : (p : ClusterPlay) (lines : List (List ℕ)) → IsLedTo plan p.cluster → AreTrueLines (Some p) lines
   true-lines p [] led = tt
-  true-lines p (line ∷ lines) led = (here, by (next_of (Some p) line) refl (λ q. true-lines q lines)) where
-    here : IsTrueLine (Some p) line
-    here = let many = (led-even plan p.cluster led).many in
-        true-named p (in_group (length p.cluster.groups.worlds) line) led
-        (λ x names. subst (λ (n : ℕ). x.0 < n) many (in_group-below (length p.cluster.groups.worlds) line x names))
+  true-lines p (line ∷ lines) led = by (next_of (Some p) line) refl (λ q. true-lines q lines) where
+    here : (next : Option ClusterPlay) (turns : List ClusterTurn) (text : List ℕ) → next_of (Some p) line ≡ Goes next turns text → IsTrueLine (Some p) line text
+    here next turns text is = let many = (led-even plan p.cluster led).many in
+        true-named p line (in_group (length p.cluster.groups.worlds) line) (failure_line (length p.cluster.failed) (words_of line)) next turns text led
+        (λ x names. subst (λ (n : ℕ). x.0 < n) many (in_group-below (length p.cluster.groups.worlds) line x names)) is
 
-    by : (next : ClusterNext) → next_of (Some p) line ≡ next → ((q : ClusterPlay) → IsLedTo plan q.cluster → AreTrueLines (Some q) lines) → TrueAfter next lines
+    by : (next : ClusterNext) → next_of (Some p) line ≡ next → ((q : ClusterPlay) → IsLedTo plan q.cluster → AreTrueLines (Some q) lines) → TrueAfter (Some p) line next lines
     by Ends is later = tt
     by (Refused fault) is later = tt
     by (Goes next turns text) is later =
         let on = line-leads plan p line next turns text led is in
-        subst (λ (q : Option ClusterPlay). AreTrueLines q lines) (sym on.is) (later on.play (led-on plan p.cluster on.play.cluster turns led on.leads))
+        (here next turns text is, subst (λ (q : Option ClusterPlay). AreTrueLines q lines) (sym on.is) (later on.play (led-on plan p.cluster on.play.cluster turns led on.leads)))
 
 -- a script that names its groups
 record Named (lines : List (List ℕ)) : Type 0 where
@@ -133,7 +144,7 @@ begins n (line ∷ lines) ends = by (next_of None line) refl ends (begins (n + 1
     plan_is q same = ap plan_in (named-line next_of line lines (Goes next turns text) is ∙ ap (λ (x : Option ClusterPlay). named_in next_of x lines) same)
 
     true_then : (q : Option ClusterPlay) → next ≡ q → AreTrueLines q lines → AreTrueLines None (line ∷ lines)
-    true_then q same truth = (tt, subst (λ (x : ClusterNext). TrueAfter x lines) (sym is) (subst (λ (x : Option ClusterPlay). AreTrueLines x lines) (sym same) truth))
+    true_then q same truth = subst (λ (x : ClusterNext). TrueAfter None line x lines) (sym is) (tt, subst (λ (x : Option ClusterPlay). AreTrueLines x lines) (sym same) truth)
 
     either : (next ≡ None) ⊎ ((plan : Plan) × IsPlan plan × (next ≡ Some (record { cluster = opening_of plan; moment = 0 }))) → Named (line ∷ lines)
     either (inl nothing) =

@@ -24,24 +24,27 @@ use Rattle.cluster_run.specs.Script.{events_of, first_fault, plan_of, turns_of}
 abbrev pub end_of : Plan → List ClusterEvent → Cluster
 end_of plan events = cluster_after (opening_of plan) events
 
--- a line of a group that shows bytes shows what its log tells
-abbrev pub IsTrueIn : ClusterPlay → ℕ → Result Line LineFault → Type 0
-IsTrueIn p j (Ok (Show from run)) = ShowsTruth (group_in p j) from run
-IsTrueIn p j _ = Unit {0}
+-- what is written for a line of a group that shows bytes is what its log tells
+abbrev pub IsTrueIn : ClusterPlay → ℕ → Result Line LineFault → List ℕ → Type 0
+IsTrueIn p j (Ok (Show from run)) text = ShowsTruth (group_in p j) from run text
+IsTrueIn p j _ text = Unit {0}
 
-abbrev pub IsTrueNamed : ClusterPlay → Option (ℕ × List ℕ) → Type 0
-IsTrueNamed p None = Unit {0}
-IsTrueNamed p (Some named) = IsTrueIn p named.0 (line_of (Some p.cluster.groups.shape) named.1)
+abbrev pub IsTrueNamed : ClusterPlay → Option (ℕ × List ℕ) → List ℕ → Type 0
+IsTrueNamed p None text = Unit {0}
+IsTrueNamed p (Some named) text = IsTrueIn p named.0 (line_of (Some p.cluster.groups.shape) named.1) text
 
-abbrev pub IsTrueLine : Option ClusterPlay → List ℕ → Type 0
-IsTrueLine None line = Unit {0}
-IsTrueLine (Some p) line = IsTrueNamed p (in_group (length p.cluster.groups.worlds) line)
+abbrev pub IsTrueLine : Option ClusterPlay → List ℕ → List ℕ → Type 0
+IsTrueLine None line text = Unit {0}
+IsTrueLine (Some p) line text = IsTrueNamed p (in_group (length p.cluster.groups.worlds) line) text
 
 -- and so it is with all lines
 abbrev pub AreTrueLines : Option ClusterPlay → List (List ℕ) → Type 0
 AreTrueLines play [] = Unit {0}
-AreTrueLines play (line ∷ lines) = IsTrueLine play line
-    × elim (next_of play line) [ Goes next turns text ↦ AreTrueLines next lines | Ends ↦ Unit {0} | Refused fault ↦ Unit {0} ]
+AreTrueLines play (line ∷ lines) = elim (next_of play line) [
+  | Goes next turns text ↦ IsTrueLine play line text × AreTrueLines next lines
+  | Ends ↦ Unit {0}
+  | Refused fault ↦ Unit {0}
+]
 
 -- after events each group makes a run of its own, with the whole headline, and while at most m nodes have failed none is down
 pub record HoldsAfter (plan : Plan) (events : List ClusterEvent) : Type 0 where
