@@ -1,11 +1,15 @@
 -- What a result that the checks give says of its text.
 use Rattle.std.proofs.Common.{◌≡◌, inl, inr, List, ℕ, Option, Result, Ok, Err, refl, sym, subst}
 use Rattle.toml.specs.Data.{Members}
+use Rattle.group_config.specs.Carrying.{CarryComesOf, Settles, carry_of}
 use Rattle.group_config.specs.MemberReading as member
 use Rattle.group_config.specs.MemberReading.{Answers, MemberComesOf}
 use Rattle.group_config.specs.Watching.{WatchComesOf, watch_of}
 use Rattle.group_config.specs.declared.watch_settings.WatchSettings.{WatchSettings}
 use Rattle.group_config.specs.Reading.{ComesOf, IsDocument, Tells, settings_of}
+use Rattle.group_config.specs.declared.carry_fault.CarryKeyFault.{CarryKeyFault}
+use Rattle.group_config.specs.declared.carry_key.CarryKey.{CarryKey}
+use Rattle.group_config.specs.declared.carry_settings.CarrySettings.{CarrySettings}
 use Rattle.group_config.specs.declared.fault.ConfigFault.{ConfigFault}
 use Rattle.group_config.specs.declared.member_fault.MemberFault.{MemberFault}
 use Rattle.group_config.specs.declared.member_key.MemberKey.{MemberKey}
@@ -38,3 +42,12 @@ watch_comes text ms result document = by (watch_of ms) refl where
   by (Ok settings) are (inr is) = subst (WatchComesOf text) (sym is) tt
   by (Err key) are (inl is) = subst (WatchComesOf text) (sym is) (inr (ms, document, are))
   by (Err key) are (inr is) = subst (WatchComesOf text) (sym is) tt
+
+-- and of how items are carried
+pub carry_comes : (text : List ℕ) (ms : Members) (result : Result CarrySettings CarryKeyFault) → IsDocument text ms → Settles (carry_of ms) result → CarryComesOf text result
+carry_comes text ms result document = by (carry_of ms) refl where
+  by : (checked : Result CarrySettings CarryKey) → carry_of ms ≡ checked → Settles checked result → CarryComesOf text result
+  by (Ok settings) are (inl is) = subst (CarryComesOf text) (sym is) (record { members = ms; document = document; are = are })
+  by (Ok settings) are (inr is) = subst (CarryComesOf text) (sym is) tt
+  by (Err key) are (inl is) = subst (CarryComesOf text) (sym is) (inr (ms, document, are))
+  by (Err key) are (inr is) = subst (CarryComesOf text) (sym is) tt

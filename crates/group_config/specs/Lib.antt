@@ -1,4 +1,5 @@
 pub mod Bases
+pub mod Carrying
 pub mod Keys
 pub mod MemberKeys
 pub mod MemberReading

@@ -9,9 +9,9 @@ use std::alloc::{AllocError, Global};
 use toml::{Table, Value};
 
 /// What is wrong with the list: that it is none, which value of it is no table, or how many there are.
-pub(crate) fn find_list(alloc: Global, table: &Table) -> Result<Finding, AllocError> {
-    let Some(items) = items_of(value_at(table, "members")) else {
-        return Finding::at_key(alloc, table, "members", "");
+pub(crate) fn find_list(alloc: Global, table: &Table, list: &str) -> Result<Finding, AllocError> {
+    let Some(items) = items_of(value_at(table, list)) else {
+        return Finding::at_key(alloc, table, list, "");
     };
     let count = items.len();
     let tables = items.iter().take_while(|item| item.is_table()).count();
@@ -19,7 +19,7 @@ pub(crate) fn find_list(alloc: Global, table: &Table) -> Result<Finding, AllocEr
         let number = tables.saturating_add(1);
         format!(in alloc; "member {number} is no table")?
     } else {
-        format!(in alloc; "members has {count} tables")?
+        format!(in alloc; "{list} has {count} tables")?
     }))
 }
 
@@ -27,9 +27,10 @@ pub(crate) fn find_list(alloc: Global, table: &Table) -> Result<Finding, AllocEr
 pub(crate) fn find_entry(
     alloc: Global,
     table: &Table,
+    list: &str,
     key: MemberKey,
 ) -> Result<Finding, AllocError> {
-    if let Some(items) = items_of(value_at(table, "members")) {
+    if let Some(items) = items_of(value_at(table, list)) {
         for (at, item) in items.iter().enumerate() {
             match item.as_table() {
                 Some(entry) if is_refused(entry, key) => {
@@ -40,7 +41,7 @@ pub(crate) fn find_entry(
         }
         return find_twice(alloc, items.as_slice());
     }
-    Finding::at_key(alloc, table, "members", "")
+    Finding::at_key(alloc, table, list, "")
 }
 
 fn is_refused(entry: &Table, key: MemberKey) -> bool {

@@ -35,12 +35,12 @@ fn find_in(
         MemberKey::Shape(key) => find_at(alloc, table, key),
         MemberKey::Unknown => Finding::unknown(alloc, table, &MEMBER_KEYS, ""),
         MemberKey::Name => find_name(alloc, table, word),
-        MemberKey::Members => find_list(alloc, table),
+        MemberKey::Members => find_list(alloc, table, "members"),
         MemberKey::MemberName
         | MemberKey::MemberLink
         | MemberKey::MemberClient
         | MemberKey::MemberControl
-        | MemberKey::MemberUnknown => find_entry(alloc, table, key),
+        | MemberKey::MemberUnknown => find_entry(alloc, table, "members", key),
         MemberKey::WatchEtcd | MemberKey::WatchSeconds | MemberKey::WatchUnknown => {
             find_watch(alloc, table, key)
         }

@@ -60,7 +60,7 @@ fn counted(members: MemberTable, count: usize) -> Result<MemberTable, MemberFaul
 }
 
 /// A member for each value.
-fn entries_of(alloc: Global, items: &[Value]) -> Result<MemberTable, MemberFault>
+pub(crate) fn entries_of(alloc: Global, items: &[Value]) -> Result<MemberTable, MemberFault>
     ensures { Answers (entries_of (items_view items.now)) result }
 {
     let mut members = MemberTable::new(alloc);
