@@ -4,13 +4,17 @@
 //! Links, clients and the member itself are left to those who implement it.
 #![tactic(auto)]
 
+mod carrier;
+mod carry_end;
 mod end;
 mod machine;
 mod memory_machine;
 mod watcher;
 
+pub use carrier::Carrier;
+pub use carry_end::CarryEnd;
 pub use end::MemberEnd;
-pub use group_config::{MemberKey, MemberSettings, WatchSettings};
+pub use group_config::{CarryKey, CarrySettings, MemberKey, MemberSettings, WatchSettings};
 pub use machine::Machine;
 pub use memory_machine::MemoryMachine;
 pub use watcher::Watcher;
