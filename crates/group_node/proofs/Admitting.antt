@@ -6,7 +6,8 @@ use Rattle.group_types.specs.declared.process.ProcessId.TheVariants.{DataNode, P
 use Rattle.group_message.specs.declared.message.Message.{Message}
 use Rattle.group_message.specs.declared.message.Message.TheVariants as tells
 use Rattle.group_run.specs.Process.{Process}
-use Rattle.law_answers.specs.Deliveries.{IsFor}
+use Rattle.law_answers.specs.Deliveries.{IsFor, IsForData}
+use Rattle.process_service.specs.Current.{IsNoMark}
 use Rattle.process_service.specs.Standing.{Standing}
 use Rattle.data_process.specs.Coming as to_data
 use Rattle.parity_process.specs.Coming as to_parity
@@ -44,6 +45,24 @@ module _ (s : Dimensions) (from : ProcessId) (p : Process) (d : ℕ) (name : p.n
   comes-data (tells.Row session bytes stamp) comes = absurd (subst (λ (x : ProcessId). IsFor x (tells.Row session bytes stamp)) name comes.kind)
   comes-data (tells.Cease upto) comes = absurd (subst (λ (x : ProcessId). IsFor x (tells.Cease upto)) name comes.kind)
   comes-data (tells.Notice dead) comes = record { fits = comes.fits; kind = tt; few = comes.group }
+
+-- no mark is for a data process
+unmarked : (m : Message) → IsForData m → IsNoMark m
+unmarked (tells.Update r d u stable) kind = tt
+unmarked (tells.Ack r d n) kind = tt
+unmarked (tells.Stable r d n) kind = tt
+unmarked (tells.Adopt r d base list) kind = tt
+unmarked (tells.ReadBlock session block rows) kind = tt
+unmarked (tells.Block session bytes n) kind = tt
+unmarked (tells.Mark session r block d n) kind = absurd kind
+unmarked (tells.Row session bytes stamp) kind = tt
+unmarked (tells.Cease upto) kind = tt
+unmarked (tells.Notice dead) kind = tt
+
+pub data-unmarked : (role : Role) (q seen : Standing) (m : Message) → standing_in role ≡ seen → IsNamed role → role ≡ Data q → IsFor seen.process.name m → IsNoMark m
+data-unmarked role q seen m view named is kind =
+    let name = subst IsNamed is named in
+    unmarked m (subst (λ (x : ProcessId). IsFor x m) (ap (λ (v : Standing). v.process.name) (sym view ∙ ap standing_in is) ∙ name.1) kind)
 
 -- a kind is for a parity process by either word
 for-parity : (name : ProcessId) (i : ℕ) (m : Message) → name ≡ ParityNode i → IsForParity name m ↔ IsFor name m

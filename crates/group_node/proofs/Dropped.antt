@@ -1,4 +1,4 @@
--- A message that is dropped for its rank makes nothing.
+-- A message that is dropped for its rank, and a mark that a row doesn't take, makes nothing.
 use Rattle.std.proofs.Common.{ℕ, ◌≡◌, ◌≢◌, ◌+◌, ◌==◌, Bool, true, false, List, [], length, Option, Some, None, refl, ap, ◌∙◌}
 use Rattle.group_types.specs.Dimensions.{Dimensions}
 use Rattle.group_types.specs.declared.process.ProcessId.{ProcessId}
@@ -36,7 +36,7 @@ module _ (s : Dimensions) (p : Process) where
   drops (ParityNode i) (tells.Ack r d n) stale = not-headed i r.0 d.0 n (head_at p d.0) stale
   drops from (tells.ReadBlock session block rows) stale = absurd (cc stale)
   drops from (tells.Block session bytes n) stale = absurd (cc stale)
-  drops from (tells.Mark session r block d n) stale = absurd (cc stale)
+  drops from (tells.Mark session r block d n) stale = not-when _ _ stale
   drops from (tells.Row session bytes stamp) stale = absurd (cc stale)
   drops from (tells.Cease upto) stale = absurd (cc stale)
   drops from (tells.Notice dead) stale = absurd (cc stale)

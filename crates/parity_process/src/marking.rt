@@ -54,6 +54,8 @@ pub fn receive_mark(
     ensures step { IfOk result (λ step. mark_comes service.old.shape (parity_number mark.session.leader)
         mark.session.number mark.rank.0 mark.block
         mark.partition.0 mark.number (serving service.old bytes.old.process) ≡ stepped (serving service.new bytes.new.process) step) }
+    ensures wanted { OnErr result (accepts_mark (serving service.old bytes.old.process)
+        (parity_number mark.session.leader) mark.session.number mark.rank.0 mark.partition.0 ≡ true) }
     ensures service_err { OnErr result (service.new ≡ service.old) }
     ensures bytes_err { OnErr result (bytes.new.process ≡ bytes.old.process) }
 {

@@ -1,6 +1,6 @@
 ghost use Rattle.std.specs.Prelude.{◌≡◌, ◌↔◌, IsTrue};
 ghost use Rattle.group_run.specs.Fitting.{ReadFits};
-ghost use Rattle.process_service.specs.Current.{is_current};
+ghost use Rattle.process_service.specs.Current.{IsNoMark, is_current};
 ghost use Rattle.data_process.specs.Coming.{FitsData};
 
 use super::DataProcess;
@@ -34,6 +34,7 @@ impl DataProcess {
 
     /// Whether a message is acted on, and not dropped for its rank. It takes no memory.
     pub fn acts_on(&self, message: &Message) -> bool
+        requires { IsNoMark message.now }
         ensures { result ≡ is_current self.now.process message.now }
     {
         self.service.acts_on(message)

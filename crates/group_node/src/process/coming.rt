@@ -1,5 +1,6 @@
 ghost use Rattle.std.specs.Prelude.{◌≡◌, ◌↔◌, ℕ, IsTrue};
 ghost use Rattle.group_types.specs.declared.process.ProcessId.TheVariants.{DataNode, ParityNode};
+ghost use Rattle.law_answers.specs.Deliveries.{IsFor};
 ghost use Rattle.process_service.specs.Current.{is_current};
 ghost use Rattle.group_node.specs.Asking.{HasNumbers};
 ghost use Rattle.group_node.specs.Delivering.{Comes};
@@ -19,8 +20,10 @@ impl Process {
         }
     }
 
-    /// Whether a message is acted on, and not dropped for its rank. It takes no memory.
+    /// Whether a message is acted on, and not dropped for its rank, nor as a mark that the row doesn't take.
+    /// It takes no memory.
     pub fn acts_on(&self, message: &Message) -> bool
+        requires { IsFor self.now.process.name message.now }
         ensures { result ≡ is_current self.now.process message.now }
     {
         match &self.role {

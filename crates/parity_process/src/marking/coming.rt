@@ -34,8 +34,8 @@ fn is_started(session: Session, bytes: &ParityBytes) -> bool
     number_of(session.leader) != bytes.number() || session.number <= bytes.last()
 }
 
-// Whether the row takes a mark, be it of the group or not.
-fn takes(mark: Mark, service: &Service, bytes: &ParityBytes) -> bool
+/// Whether the row takes a mark, be it of the group or not. It takes no memory.
+pub(crate) fn takes(mark: Mark, service: &Service, bytes: &ParityBytes) -> bool
     ensures { result ≡ accepts_mark (serving service.now bytes.now.process) (parity_number mark.session.leader)
         mark.session.number mark.rank.0 mark.partition.0 }
 {

@@ -4,7 +4,7 @@ ghost use Rattle.parity_process.specs.Coming.{FitsParity};
 
 use super::ParityProcess;
 use crate::marking::Mark;
-use crate::marking::coming::may_mark;
+use crate::marking::coming::{may_mark, takes};
 use group_message::{Message, Session};
 use group_types::ProcessId;
 
@@ -69,11 +69,30 @@ impl ParityProcess {
         }
     }
 
-    /// Whether a message is acted on, and not dropped for its rank. It takes no memory.
+    /// Whether a message is acted on, and not dropped for its rank, nor as a mark that the row doesn't take.
+    /// It takes no memory.
     pub fn acts_on(&self, message: &Message) -> bool
         ensures { result ≡ is_current self.now.process message.now }
     {
-        self.service.acts_on(message)
+        match message {
+            Message::Mark {
+                session,
+                rank,
+                block,
+                partition,
+                number,
+            } => {
+                let mark = Mark {
+                    session: *session,
+                    rank: *rank,
+                    block: *block,
+                    partition: *partition,
+                    number: *number,
+                };
+                takes(mark, &self.service, &self.bytes)
+            }
+            _ => self.service.acts_on(message),
+        }
     }
 
     // Whether a session is one of its own.

@@ -1,6 +1,7 @@
 use Rattle.std.proofs.Common.{◌≡◌, false, ap, refl, sym, subst, ◌∙◌}
 use Rattle.group_run.specs.Fitting.{Fits}
 use Rattle.group_run.specs.World.{receive_node}
+use Rattle.law_answers.specs.Deliveries.{IsFor}
 use Rattle.group_calls.specs.declared.event.Answer.TheVariants as says
 use Rattle.group_node.specs.declared.node.NodeOut.{NodeOut}
 use Rattle.group_node.specs.Standing.{NodeStanding, node_standing}
@@ -10,6 +11,9 @@ use Rattle.group_node.proofs.Dropped.{nothing-received}
 use Rattle.group_node.proofs.Treated.{few-received}
 use Rattle.group_node.proofs.node.Node.receive.Goals as goal
 use Rattle.group_node.proofs.node.Node.receive.Goals.{in-Notice, in_default}
+
+pub acts_on-requires : goal.acts_on-requires
+acts_on-requires c = subst (λ (v : NodeStanding). IsFor v.node.process.name c.args.message.now) (sym c.self.view_is) c.requires.comes.kind
 
 pub returns-then-not-acts_on-clause-step : goal.returns-then-not-acts_on-clause-step
 returns-then-not-acts_on-clause-step c =
