@@ -1,7 +1,6 @@
 -- A line `regroup` is no line of a script of one group.
-use Rattle.std.proofs.Common.{ℕ, ◌≡◌, Bool, true, false, List, [], ◌∷◌, codes, Option, Some, None, Result, Ok, Err, if◌then◌else◌, refl, sym, ap, ◌∙◌}
+use Rattle.std.proofs.Common.{ℕ, ◌≡◌, Bool, true, false, List, [], ◌∷◌, codes, Option, Some, None, Ok, if◌then◌else◌, refl, sym, ap, ◌∙◌}
 use Rattle.std.proofs.lemmas.Slice.Eq.{bytes_eq-Decides}
-use Rattle.std.specs.Str.{bytes_eq}
 use Rattle.group_types.specs.Dimensions.{Dimensions}
 use Rattle.scenario_text.specs.Meaning.{event_line, is_skipped, keyword_of, line_by, line_of, or_bad_line}
 use Rattle.scenario_text.specs.Words.{◌>>=◌, words_of}

@@ -26,18 +26,18 @@ use Rattle.scenario_text.proofs.Limits.{shape-of}
 use Rattle.scenario_text.proofs.Lines.{line_of-within}
 use Rattle.scenario_run.specs.Course.{Ends, Goes, Refused}
 use Rattle.scenario_run.specs.Playing.{draining}
-use Rattle.scenario_run.proofs.Leading as world
 use Rattle.scenario_run.proofs.Running.{parts}
 use Rattle.scenario_run.proofs.Truth.{up}
 use Rattle.group_eras.specs.Carry.{carried}
 use Rattle.group_eras.specs.Eras.{Eras, MayMake, carrier, era_step, eras_after, first_era}
 use Rattle.group_eras.specs.Items.{bytes_in}
-use Rattle.group_eras.specs.Promise.{Deed, Carries, Makes}
+use Rattle.group_eras.specs.Promise.{Deed, Carries, IsLed, Makes}
 use Rattle.group_eras.specs.Refusal.{CanCarry}
+use Rattle.group_eras.proofs.Promises.{eras_are_runs}
 use Rattle.regroup_run.specs.Meaning.{IsLowLine, regroup_line, shape_of_numbers, shape_unless, shape_within}
 use Rattle.regroup_run.specs.Playing.{EraNext, EraPlay, by_call, by_carry, by_event, by_regroup, by_trace, first_by, has_space, next_by, next_of, refuses, regroup_by, regroups, then_by}
 use Rattle.regroup_run.proofs.Draining.{drains}
-use Rattle.regroup_run.proofs.Leading.{IsLedTo, Leads, makes-lead, world-led}
+use Rattle.regroup_run.proofs.Leading.{IsLedTo, Leads, is-led, makes-lead, world-led}
 use Rattle.regroup_run.proofs.Ranges.{line_of-low}
 
 -- a script may go on from here
@@ -140,7 +140,7 @@ all-hold f a (suc n) d all low high = by (this-or-later a d low) (λ later. all-
   by (inr above) later = later above
 
 -- the group is at rest and there is space
-all-fit : (w : World) (s : Dimensions) (d : ℕ) → has_space w s ≡ true → d < w.shape.k → bytes_in w d ≤ space_of s
+pub all-fit : (w : World) (s : Dimensions) (d : ℕ) → has_space w s ≡ true → d < w.shape.k → bytes_in w d ≤ space_of s
 all-fit w s d all below =
     let fits : nat_le (bytes_in w d) (space_of s) ≡ true = all-hold (λ x. nat_le (bytes_in w x) (space_of s)) 0 w.shape.k d all (omega arith) (omega (arith, below)) in
     at_most (bytes_in w d) (space_of s) fits
@@ -148,23 +148,21 @@ all-fit w s d all below =
     at_most : (a b : ℕ) → nat_le a b ≡ true → a ≤ b
     at_most a b fits = grind (arith, nat_tests)
 
+-- no delivery is next exactly where the era's world is drained
+pub next-tells : (e : Eras) → IsLed e → NextTellsDrained e.world
+next-tells e led = let era = (eras_are_runs e led).era in subst NextTellsDrained (sym era.stands) (next_always e.world.shape era.events era.run)
+
 can-carry : (s : Dimensions) (p : EraPlay) (t : Dimensions) → IsReady s p → is_down p.eras.world ≡ false → is_some (next_delivery p.eras.world) ≡ false → has_space p.eras.world t ≡ true → CanCarry p.eras.world t
 can-carry s p t ready down waits space = record {
   rest = record { up = up p.eras.world down; drained = drained };
   space = λ d below. all-fit p.eras.world t d space below;
 } where
-  led : world.IsLedTo p.eras.world.shape p.eras.world
-  led = world-led s p.eras ready.led
-
-  tells : NextTellsDrained p.eras.world
-  tells = subst NextTellsDrained (sym led.is) (next_always p.eras.world.shape led.events led.run)
-
   none : (o : Option Event) → is_some o ≡ false → o ≡ None
   none None is = refl
   none (Some e) is = absurd (cc is)
 
   drained : IsDrained p.eras.world
-  drained = tells.0 (none (next_delivery p.eras.world) waits)
+  drained = (next-tells p.eras (is-led s p.eras ready.led)).0 (none (next_delivery p.eras.world) waits)
 
 carries : (s : Dimensions) (p : EraPlay) (t : Dimensions) (next : Option EraPlay) (deeds : List Deed) (text : List ℕ) → IsReady s p → IsShape t → t.k ≡ p.eras.world.shape.k
     → by_regroup p t ≡ Goes next deeds text → GoesOn p next deeds
