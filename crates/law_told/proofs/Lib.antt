@@ -7,4 +7,5 @@ pub mod EraTexts
 pub mod Going
 pub mod Lines
 pub mod Others
+pub mod Regroups
 pub mod Verified

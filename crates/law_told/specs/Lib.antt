@@ -3,4 +3,5 @@ pub mod Clusters
 pub mod EraTexts
 pub mod Eras
 pub mod Lines
+pub mod Regroups
 pub mod Verified
