@@ -18,35 +18,36 @@ some-same : (a b : ℕ) → Some a ≡ Some b → a ≡ b
 some-same a b same = cc
 
 module _ (before after : Gateway) (call : OwnCall) (end : CallEnd) (shown : IsShown call.caller end before.member after.member)
-    (lent : at None before.slots call.caller ≡ Some call.serial) (closed : after.slots ≡ put None before.slots call.caller None) where
+    (lent : at None before.slots call.caller ≡ Some call) (closed : after.slots ≡ put None before.slots call.caller None) where
   is-closed : at None after.slots call.caller ≡ None
-  is-closed = ap (λ (s : List (Option ℕ)). at None s call.caller) closed ∙ at-put None None before.slots call.caller None
+  is-closed = ap (λ (s : List (Option OwnCall)). at None s call.caller) closed ∙ at-put None None before.slots call.caller None
 
   elsewhere : (other : OwnCall) → other.caller ≢ call.caller → at None after.slots other.caller ≡ at None before.slots other.caller
-  elsewhere other apart = ap (λ (s : List (Option ℕ)). at None s other.caller) closed ∙ at-put-other None before.slots call.caller other.caller None apart
+  elsewhere other apart = ap (λ (s : List (Option OwnCall)). at None s other.caller) closed ∙ at-put-other None before.slots call.caller other.caller None apart
 
   pub shows_ended : HasEnded member_rules before call end after
   shows_ended asked began opened = record { caller = call.caller; before = before.member; begun = opened.begun; shown = shown }
 
   pub shows_free : ¬ (IsLent after call)
-  shows_free now = none-some (at None after.slots call.caller) call.serial is-closed now
+  shows_free now = none-some (at None after.slots call.caller) call is-closed now
 
   pub shows_over : IsFree member_rules after call
   shows_over asked began opened = shows_free opened.lent
 
   pub shows_keeps : KeepsOthers member_rules call before after
   shows_keeps other asked began differs opened =
-      let apart : other.caller ≢ call.caller = λ same. differs (same-call other call same
-      (some-same other.serial call.serial (sym opened.lent ∙ ap (λ (n : ℕ). at None before.slots n) same ∙ lent))) in
+      let apart : other.caller ≢ call.caller = λ same. differs (same-call other call
+      (sym opened.lent ∙ ap (λ (n : ℕ). at None before.slots n) same ∙ lent)) in
       record {
         lent = elsewhere other apart ∙ opened.lent;
+        hash = opened.hash;
         begun = one-more other.caller asked began.member before.member after.member (Shows call.caller shown.ping) shown.shows
             (λ same. apart (sym (some-same call.caller other.caller same))) opened.begun;
       }
 
   pub shows_lends : LendsNone member_rules before after
   shows_lends other now = elim (cases_eq other.caller call.caller) [
-    | inl same ↦ absurd (none-some (at None after.slots other.caller) other.serial (ap (λ (n : ℕ). at None after.slots n) same ∙ is-closed) now)
+    | inl same ↦ absurd (none-some (at None after.slots other.caller) other (ap (λ (n : ℕ). at None after.slots n) same ∙ is-closed) now)
     | inr apart ↦ sym (elsewhere other apart) ∙ now
   ]
 
@@ -56,11 +57,11 @@ module _ (before after : Gateway) (call : OwnCall) (end : CallEnd) (shown : IsSh
 -- the call of a caller ended, and the caller is lent no more
 pub record HasShut (before after : Gateway) (call : OwnCall) (end : CallEnd) : Type 0 where
   pub shown : IsShown call.caller end before.member after.member
-  pub lent : at None before.slots call.caller ≡ Some call.serial
+  pub lent : at None before.slots call.caller ≡ Some call
   pub closed : after.slots ≡ put None before.slots call.caller None
 
 pub has-shut : (inside before after : Gateway) (caller : ℕ) (call : OwnCall) (end : CallEnd) → inside ≡ before → caller ≡ call.caller
-    → IsShown caller end inside.member after.member → at None inside.slots call.caller ≡ Some call.serial
+    → IsShown caller end inside.member after.member → at None inside.slots call.caller ≡ Some call
     → after.slots ≡ put None inside.slots caller None → HasShut before after call end
 has-shut inside before after caller call end is same shown lent closed = subst (λ (g : Gateway). HasShut g after call end) is (record {
   shown = subst (λ (n : ℕ). IsShown n end inside.member after.member) same shown;

@@ -3,8 +3,10 @@ use Rattle.std.proofs.Common.{ℕ, ◌≡◌, ◌≢◌, List, [], ◌∷◌, �
 use Rattle.std.specs.Prelude.{Option, Some, None}
 use Rattle.std.proofs.lemmas.Bool.{cases_eq}
 use Rattle.std.proofs.lemmas.List.Elements.{All-append, All-nil, All-push, All-weaker}
+use Rattle.group_types.specs.Hash.{fnv1a}
 use Rattle.group_types.specs.Lists.{at, put}
 use Rattle.group_types.proofs.Lists.{at-put, at-put-other}
+use Rattle.memc_table.specs.Act.{key_of}
 use Rattle.memc_table.specs.Asked.{Asked}
 use Rattle.front_end.specs.Gateway.{IsFree, KeepsOpen, LendsNone, LendsOnly}
 use Rattle.group_member.specs.Standing.{Member}
@@ -20,14 +22,11 @@ none-some o x none some = cc
 some-same : (a b : ℕ) → Some a ≡ Some b → a ≡ b
 some-same a b same = cc
 
-abbrev call-of : ℕ → ℕ → OwnCall
-call-of caller serial = record { caller = caller; serial = serial }
+pub same-call : (a b : OwnCall) → Some a ≡ Some b → a ≡ b
+same-call a b same = cc
 
-abbrev pub gateway-of : Member → List (Option ℕ) → Gateway
+abbrev pub gateway-of : Member → List (Option OwnCall) → Gateway
 gateway-of member slots = record { member = member; slots = slots }
-
-pub same-call : (a b : OwnCall) → a.caller ≡ b.caller → a.serial ≡ b.serial → a ≡ b
-same-call a b caller serial = ap (λ (n : ℕ). call-of n a.serial) caller ∙ ap (λ (n : ℕ). call-of b.caller n) serial
 
 module _ (a b : Member) (goes : GoesQuietly a b) where
   pub quiet-way : ComesQuietly a b
@@ -49,12 +48,13 @@ module _ (a b : Member) (goes : GoesQuietly a b) where
 -- calls that leave all open calls open
 pub quiet_keeps : (before after : Gateway) → GoesQuietly before.member after.member → after.slots ≡ before.slots → KeepsOpen member_rules before after
 quiet_keeps before after goes slots call op began opened = record {
-  lent = ap (λ (s : List (Option ℕ)). at None s call.caller) slots ∙ opened.lent;
+  lent = ap (λ (s : List (Option OwnCall)). at None s call.caller) slots ∙ opened.lent;
+  hash = opened.hash;
   begun = quiet-begun before.member after.member goes call.caller op began.member opened.begun;
 }
 
 pub quiet_lends : (before after : Gateway) → after.slots ≡ before.slots → LendsNone member_rules before after
-quiet_lends before after slots call lent = ap (λ (s : List (Option ℕ)). at None s call.caller) (sym slots) ∙ lent
+quiet_lends before after slots call lent = ap (λ (s : List (Option OwnCall)). at None s call.caller) (sym slots) ∙ lent
 
 pub quiet_later : (before after : Gateway) → GoesQuietly before.member after.member → IsLater before after
 quiet_later before after goes = quiet-comes before.member after.member goes
@@ -82,36 +82,38 @@ one-more caller op began before after call called leaves begun =
     }
 
 module _ (before after : Gateway) (call : OwnCall) (op : Asked) (begins : HasCalled (Begins call.caller op) before.member after.member)
-    (free : at None before.slots call.caller ≡ None) (lent : after.slots ≡ put None before.slots call.caller (Some call.serial)) where
+    (free : at None before.slots call.caller ≡ None) (hash : call.hash ≡ fnv1a (key_of op.act))
+    (lent : after.slots ≡ put None before.slots call.caller (Some call)) where
   is-lent : IsLent after call
-  is-lent = ap (λ (s : List (Option ℕ)). at None s call.caller) lent ∙ at-put None None before.slots call.caller (Some call.serial)
+  is-lent = ap (λ (s : List (Option OwnCall)). at None s call.caller) lent ∙ at-put None None before.slots call.caller (Some call)
 
   pub begins_open : IsOpen after call op before
   begins_open = record {
     lent = is-lent;
+    hash = hash;
     begun = record { first = after.member; begins = begins; calls = []; made = refl; leave = All-nil (LeavesOpen call.caller) };
   }
 
   pub begins_fresh : IsFree member_rules before call
-  begins_fresh asked began opened = none-some (at None before.slots call.caller) call.serial free opened.lent
+  begins_fresh asked began opened = none-some (at None before.slots call.caller) call free opened.lent
 
   elsewhere : (other : OwnCall) → other.caller ≢ call.caller → at None after.slots other.caller ≡ at None before.slots other.caller
-  elsewhere other apart = ap (λ (s : List (Option ℕ)). at None s other.caller) lent
-      ∙ at-put-other None before.slots call.caller other.caller (Some call.serial) apart
+  elsewhere other apart = ap (λ (s : List (Option OwnCall)). at None s other.caller) lent
+      ∙ at-put-other None before.slots call.caller other.caller (Some call) apart
 
   pub begins_keeps : KeepsOpen member_rules before after
   begins_keeps other asked began opened =
-      let apart : other.caller ≢ call.caller = λ same. none-some (at None before.slots other.caller) other.serial (ap (λ (n : ℕ). at None before.slots n) same ∙ free) opened.lent in
+      let apart : other.caller ≢ call.caller = λ same. none-some (at None before.slots other.caller) other (ap (λ (n : ℕ). at None before.slots n) same ∙ free) opened.lent in
       record {
         lent = elsewhere other apart ∙ opened.lent;
+        hash = opened.hash;
         begun = one-more other.caller asked began.member before.member after.member (Begins call.caller op) begins
             (λ same. apart (sym (some-same call.caller other.caller same))) opened.begun;
       }
 
   pub begins_lends : LendsOnly member_rules (Some call) before after
   begins_lends other now = elim (cases_eq other.caller call.caller) [
-    | inl same ↦ inr (ap Some (sym (same-call other call same
-        (some-same other.serial call.serial (sym now ∙ ap (λ (n : ℕ). at None after.slots n) same ∙ is-lent)))))
+    | inl same ↦ inr (ap Some (sym (same-call other call (sym now ∙ ap (λ (n : ℕ). at None after.slots n) same ∙ is-lent))))
     | inr apart ↦ inl (sym (elsewhere other apart) ∙ now)
   ]
 
@@ -122,15 +124,17 @@ module _ (before after : Gateway) (call : OwnCall) (op : Asked) (begins : HasCal
 pub record HasLent (before after : Gateway) (call : OwnCall) (op : Asked) : Type 0 where
   pub begins : HasCalled (Begins call.caller op) before.member after.member
   pub free : at None before.slots call.caller ≡ None
-  pub lent : after.slots ≡ put None before.slots call.caller (Some call.serial)
+  pub hash : call.hash ≡ fnv1a (key_of op.act)
+  pub lent : after.slots ≡ put None before.slots call.caller (Some call)
 
 pub has-lent : (inside before after : Gateway) (caller : ℕ) (call : OwnCall) (op : Asked) → inside ≡ before → call.caller ≡ caller
-    → HasCalled (Begins caller op) inside.member after.member → at None inside.slots caller ≡ None
-    → after.slots ≡ put None inside.slots caller (Some call.serial) → HasLent before after call op
-has-lent inside before after caller call op is same begins free lent = subst (λ (g : Gateway). HasLent g after call op) is (record {
+    → HasCalled (Begins caller op) inside.member after.member → at None inside.slots caller ≡ None → call.hash ≡ fnv1a (key_of op.act)
+    → after.slots ≡ put None inside.slots caller (Some call) → HasLent before after call op
+has-lent inside before after caller call op is same begins free hash lent = subst (λ (g : Gateway). HasLent g after call op) is (record {
   begins = subst (λ (n : ℕ). HasCalled (Begins n op) inside.member after.member) (sym same) begins;
   free = subst (λ (n : ℕ). at None inside.slots n ≡ None) (sym same) free;
-  lent = subst (λ (n : ℕ). after.slots ≡ put None inside.slots n (Some call.serial)) (sym same) lent;
+  hash = hash;
+  lent = subst (λ (n : ℕ). after.slots ≡ put None inside.slots n (Some call)) (sym same) lent;
 })
 
 -- nothing happened

@@ -1,4 +1,5 @@
 pub mod Calls
+pub mod Changing
 pub mod Rules
 pub mod Order
 pub mod Laws

@@ -1,6 +1,8 @@
 -- What the calls of a member's clients come to.
 use Rattle.std.specs.Prelude.{ℕ, ◌≡◌, List, Option, Some, None, All}
+use Rattle.group_types.specs.Hash.{fnv1a}
 use Rattle.group_types.specs.Lists.{at}
+use Rattle.memc_table.specs.Act.{key_of}
 use Rattle.memc_table.specs.Asked.{Asked}
 use Rattle.group_calls.specs.declared.event.Answer.{Answer}
 use Rattle.group_calls.specs.declared.event.Answer.TheVariants as says
@@ -18,11 +20,11 @@ use Rattle.member_gateway.specs.declared.slots.OwnCall.{OwnCall}
 -- a member, and which call each caller is lent to, by the caller's number
 pub record Gateway : Type 0 where
   pub member : Member
-  pub slots : List (Option ℕ)
+  pub slots : List (Option OwnCall)
 
 -- a caller is lent to a call
 abbrev pub IsLent : Gateway → OwnCall → Type 0
-IsLent now call = at None now.slots call.caller ≡ Some call.serial
+IsLent now call = at None now.slots call.caller ≡ Some call
 
 -- a call of the op began at a caller, and the member's calls since leave it open
 pub record HasBegun (caller : ℕ) (op : Asked) (before now : Member) : Type 0 where
@@ -49,6 +51,7 @@ pub record IsShown (caller : ℕ) (end : CallEnd) (before after : Member) : Type
 -- a call that began there is open
 pub record IsOpen (now : Gateway) (call : OwnCall) (op : Asked) (began : Gateway) : Type 0 where
   pub lent : IsLent now call
+  pub hash : call.hash ≡ fnv1a (key_of op.act)
   pub begun : HasBegun call.caller op began.member now.member
 
 -- a call of the op began there, and ended so

@@ -4,7 +4,7 @@ ghost use Rattle.member_gateway.specs.Calls.{GoesQuietly};
 use crate::links::Links;
 use crate::sets::{has, place_of, with};
 use crate::work::MemberWork;
-use group_types::{ProcessId, Shape, home};
+use group_types::{Partition, ProcessId, Shape, home};
 use link_frames::Frame;
 
 impl MemberWork {
@@ -58,11 +58,15 @@ impl MemberWork {
         }
         let call = self.member.caller(caller).call()?;
         let shape = self.member.shape();
-        let home = home(call.op().act().key(), shape.k());
-        if !has(self.taken, home.0) {
-            return Some(ProcessId::DataNode(home.0));
+        self.head_of(home(call.op().act().key(), shape.k()))
+    }
+
+    /// The process of lowest rank of a partition whose death isn't taken.
+    pub(crate) fn head_of(&self, partition: Partition) -> Option<ProcessId> {
+        if !has(self.taken, partition.0) {
+            return Some(ProcessId::DataNode(partition.0));
         }
-        first_parity(shape, self.taken)
+        first_parity(self.member.shape(), self.taken)
     }
 
     fn ask_here<L: Links>(&mut self, links: &mut L, caller: u32)

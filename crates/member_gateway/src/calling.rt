@@ -10,7 +10,6 @@ use crate::command::Command;
 use crate::work::MemberWork;
 use group_calls::Answer;
 use group_member::{CallStage, Member};
-use group_types::hash::fnv1a_of;
 use link_frames::Told;
 use memc_proto::CallEnd;
 use memc_table::Op;
@@ -23,13 +22,12 @@ impl MemberWork {
         self.member.may_begin(caller)
     }
 
-    /// A call of a connection begins at a caller.
+    /// A call of a connection begins at a caller, which asks a key of this hash.
     #[tactic(auto, using(crate::proofs::Called::begun_so))]
-    pub(crate) fn begin(&mut self, caller: u32, op: Op, key: usize)
+    pub(crate) fn begin(&mut self, caller: u32, op: Op, key: usize, hash: u32)
         requires { IsFree self.old.callers caller }
         ensures { HasCalled (Begins caller op) self.old self.new }
     {
-        let hash = fnv1a_of(op.act().key().bytes());
         self.member.begin(caller, op);
         self.calls.begin(caller, key, hash);
     }

@@ -13,9 +13,11 @@ use crate::work::MemberWork;
 use front_end::Gateway;
 use group_member::callers_each;
 use group_node::index_of;
+use group_types::hash::fnv1a_of;
 use group_types::{ProcessId, Shape};
 use memc_proto::{CallEnd, FailEnd};
 use memc_table::Op;
+use moving_gateway::Keyed;
 use ready_worker::Exchange;
 use std::alloc::{AllocError, Global};
 use std::marker::Model;
@@ -80,8 +82,9 @@ impl Gateway for MemberGateway {
             return Ok(None);
         }
         let turn = self.waiting.turn();
-        self.work.begin(caller, op, turn);
-        Ok(Some(self.slots.lend(caller)))
+        let hash = fnv1a_of(op.act().key().bytes());
+        self.work.begin(caller, op, turn, hash);
+        Ok(Some(self.slots.lend(caller, hash)))
     }
 
     #[tactic(auto, using(crate::proofs::Ending::shows_ended, crate::proofs::Ending::shows_over, crate::proofs::Ending::shows_free, crate::proofs::Ending::shows_keeps, crate::proofs::Ending::shows_lends, crate::proofs::Ending::shows_later, crate::proofs::Opening::same_keeps, crate::proofs::Opening::same_lends, crate::proofs::Opening::same_later))]
@@ -101,6 +104,12 @@ impl Gateway for MemberGateway {
     #[tactic(auto, using(crate::proofs::Opening::same_keeps, crate::proofs::Opening::same_lends, crate::proofs::Opening::same_later))]
     fn fail(&mut self, _at: ProcessId, _keep: u32) -> Result<FailEnd, AllocError> {
         Ok(FailEnd::Off)
+    }
+}
+
+impl Keyed for MemberGateway {
+    fn hash(&self, call: &OwnCall) -> u32 {
+        call.hash()
     }
 }
 

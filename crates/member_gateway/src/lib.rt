@@ -17,6 +17,7 @@ mod gateway;
 mod kind;
 pub mod laws;
 mod links;
+mod listing;
 mod outcome;
 mod outgoing;
 mod parking;

@@ -1,7 +1,8 @@
 // What the program of a member sees of it.
-ghost use Rattle.std.specs.Prelude.{◌≡◌, ℕ, length};
+ghost use Rattle.std.specs.Prelude.{◌≡◌, ℕ, length, false};
 ghost use Rattle.group_types.specs.declared.process.ProcessId.TheVariants.{DataNode, ParityNode};
 ghost use Rattle.membership.specs.Members.{knows_dead};
+ghost use Rattle.member_gateway.specs.Changing.{AsksGet, OnlyGets};
 
 use crate::command::Command;
 use crate::gateway::MemberGateway;
@@ -10,6 +11,7 @@ use crate::sending::FLUSH;
 use crate::sets::{has, place_of};
 use crate::work::MemberWork;
 use group_types::{ProcessId, Shape};
+use memc_table::Act;
 
 /// How long the program may wait while answers are to be shown, in milliseconds.
 const SHOW: u64 = 2;
@@ -51,6 +53,13 @@ impl MemberGateway {
     /// How many calls are open.
     pub fn open_calls(&self) -> usize {
         self.work.open_calls()
+    }
+
+    /// How many calls are open that may change an item.
+    pub fn changing(&self) -> u32
+        ensures { result ≡ 0 → OnlyGets self.now.member }
+    {
+        self.work.changing()
     }
 
     /// How many answers wait to be shown.
@@ -102,6 +111,32 @@ impl MemberWork {
     // Whether something can be done at once.
     fn has_more(&self) -> bool {
         self.parking.some_can() || self.calls.asks() > 0 || self.calls.can_go_on()
+    }
+
+    // How many open calls may change an item.
+    fn changing(&self) -> u32
+        ensures { result ≡ 0 → OnlyGets self.now }
+    {
+        let mut changing: u32 = 0;
+        'callers: for caller in 0..group_types::CALLERS {
+            if self.may_change(caller) {
+                changing = changing.saturating_add(1);
+            }
+        }
+        changing
+    }
+
+    // Whether the open call of a caller may change an item.
+    fn may_change(&self, caller: u32) -> bool
+        ensures { result ≡ false → AsksGet self.now caller }
+    {
+        if !self.member.has_caller(caller) {
+            return false;
+        }
+        match self.member.caller(caller).call() {
+            Some(call) => !matches!(call.op().act(), Act::Get { .. }),
+            None => false,
+        }
     }
 
     fn open_calls(&self) -> usize {

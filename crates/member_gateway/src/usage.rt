@@ -1,6 +1,7 @@
 // How full the member's process is.
 ghost use Rattle.std.specs.Prelude.{◌≡◌, ◌↔◌, ◌<◌, IfSome, IsSome, length};
 ghost use Rattle.group_run.specs.Applying.{replica_of};
+ghost use Rattle.group_run.specs.Replica.{last_of};
 
 use crate::gateway::MemberGateway;
 use group_types::Partition;
@@ -14,6 +15,8 @@ pub struct Usage {
     pub unfinished: usize,
     /// How many bytes the longest value has that there is space for.
     pub longest: u32,
+    /// The number of the last update, applied or not.
+    pub last: u64,
 }
 
 impl MemberGateway {
@@ -24,6 +27,8 @@ impl MemberGateway {
             ≡ length (replica_of self.now.member.node.process partition.0).items) }
         ensures unfinished { IfSome result (λ usage. usage.unfinished
             ≡ length (replica_of self.now.member.node.process partition.0).log) }
+        ensures last { IfSome result (λ usage. usage.last
+            ≡ last_of (replica_of self.now.member.node.process partition.0)) }
     {
         if self.work.shape().k() <= partition.0 {
             return None;
@@ -33,6 +38,7 @@ impl MemberGateway {
             items: replica.item_count(),
             unfinished: replica.waiting_count(),
             longest: replica.longest(),
+            last: replica.last(),
         })
     }
 }
