@@ -11,6 +11,14 @@ pub(crate) enum Word {
     Unknown,
     /// What the member knows.
     Status,
+    /// No change is taken from now on.
+    Close,
+    /// Changes are taken again.
+    Open,
+    /// The group's clients belong to another group from now on.
+    Moved,
+    /// The items of a partition, from a place of their list on.
+    Items(u32, usize),
     /// None of these.
     Other,
 }
@@ -25,12 +33,31 @@ pub(crate) fn word_of(settings: &MemberSettings, line: &[u8]) -> Word {
 
 /// What a text says.
 fn word_in(settings: &MemberSettings, text: &str) -> Word {
-    if text == "status" {
-        return Word::Status;
+    match text {
+        "status" => Word::Status,
+        "close" => Word::Close,
+        "open" => Word::Open,
+        "moved" => Word::Moved,
+        _ => word_behind(settings, text),
     }
-    match text.strip_prefix("dead ") {
-        Some(names) => names_in(settings, names),
+}
+
+/// What a text says whose first word has others behind it.
+fn word_behind(settings: &MemberSettings, text: &str) -> Word {
+    if let Some(names) = text.strip_prefix("dead ") {
+        return names_in(settings, names);
+    }
+    match text.strip_prefix("items ") {
+        Some(numbers) => items_in(numbers).unwrap_or(Word::Other),
         None => Word::Other,
+    }
+}
+
+/// The partition, and the place in its list, 0 where none is given.
+fn items_in(numbers: &str) -> Option<Word> {
+    match numbers.split_once(' ') {
+        Some((partition, from)) => Some(Word::Items(partition.parse().ok()?, from.parse().ok()?)),
+        None => Some(Word::Items(numbers.parse().ok()?, 0)),
     }
 }
 

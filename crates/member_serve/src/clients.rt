@@ -14,6 +14,8 @@ const MOST_ACCEPTED: u32 = 64;
 
 const TOO_MANY: &[u8] = b"SERVER_ERROR too many connections\r\n";
 
+const MOVED: &[u8] = b"SERVER_ERROR group moved\r\n";
+
 const TOO_FEW: &[u8] = b"SERVER_ERROR too few members answer\r\n";
 
 impl<R: Net, W: Report + Watch, G: Callers> Serving<'_, R, W, G> {
@@ -43,6 +45,9 @@ impl<R: Net, W: Report + Watch, G: Callers> Serving<'_, R, W, G> {
 
     // Serves a client, or tells it why it isn't served.
     fn admit(&mut self, stream: TcpStream) {
+        if self.is_moved {
+            return self.turn_away(stream, MOVED);
+        }
         if self.is_stuck {
             return self.turn_away(stream, TOO_FEW);
         }

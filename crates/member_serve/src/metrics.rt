@@ -16,6 +16,12 @@ const PARKED: &str = "Requests that came early, and wait at the process of this 
 
 const UNSHOWN: &str = "Answers that the others have yet to confirm.";
 
+const CLOSED: &str = "Whether calls are refused that may change an item.";
+
+const MOVED: &str = "Whether clients are let go, since the items are in another group.";
+
+const CHANGING: &str = "Calls of clients that may change an item, and have not ended.";
+
 const ACCEPTED: &str = "Clients that were accepted.";
 
 const REFUSED: &str = "Clients that were refused.";
@@ -77,7 +83,7 @@ impl<R, W, G: Callers> Serving<'_, R, W, G> {
     }
 
     // What goes up and down.
-    fn gauges(&self) -> [Metric; 6] {
+    fn gauges(&self) -> [Metric; 9] {
         let gateway = self.worker.gateway();
         let dead = count_of(self.condemned());
         let left = self.settings.shape.m().saturating_sub(dead);
@@ -88,6 +94,13 @@ impl<R, W, G: Callers> Serving<'_, R, W, G> {
             Metric::gauge("cocytus_calls_open", CALLS, gateway.open_calls() as u64),
             Metric::gauge("cocytus_requests_parked", PARKED, gateway.parked() as u64),
             Metric::gauge("cocytus_answers_waiting", UNSHOWN, gateway.unshown() as u64),
+            Metric::gauge("cocytus_closed", CLOSED, u64::from(gateway.is_closed())),
+            Metric::gauge("cocytus_moved", MOVED, u64::from(self.is_moved)),
+            Metric::gauge(
+                "cocytus_changing_calls",
+                CHANGING,
+                u64::from(gateway.changing()),
+            ),
         ]
     }
 
@@ -130,6 +143,6 @@ impl<R, W, G: Callers> Serving<'_, R, W, G> {
 
     /// Whether clients are served.
     pub(crate) fn is_serving(&self) -> bool {
-        self.client_port.is_open() && !self.is_stuck
+        self.client_port.is_open() && !self.is_stuck && !self.is_moved
     }
 }

@@ -1,4 +1,5 @@
 ghost use Rattle.group_config.specs.MemberReading.{HasMembers};
+ghost use Rattle.group_types.specs.Names.{IsProcess};
 
 use crate::callers::Callers;
 use crate::client_port::ClientPort;
@@ -12,11 +13,13 @@ use crate::space::ToldSpace;
 use crate::tally::Tally;
 use crate::turn_clock::TurnClock;
 use group_config::{MemberKey, MemberSettings};
+use group_types::ProcessId;
 use link_frames::GroupId;
 use member_gateway::MemberGateway;
 use member_links::{Greeting, MemberLinks, Port, process_of};
 use member_machine::{Machine, MemberEnd};
 use mio::Poll;
+use moving_gateway::MovingGateway;
 use ready_worker::{Crowd, Station, Watch, Worker};
 use std::alloc::{AllocError, Global};
 use std::net::Net;
@@ -41,13 +44,13 @@ impl<'a, R, W> NetMachine<'a, R, W> {
 
 impl<R: Net + RandomSource, W: Report> NetMachine<'_, R, W> {
     // The callers of the settings' own member.
-    fn callers(&self, settings: &MemberSettings) -> Result<MemberGateway, MemberEnd>
+    fn callers(&self, settings: &MemberSettings) -> Result<MovingGateway<MemberGateway>, MemberEnd>
         requires { HasMembers settings.now }
     {
         let Some(name) = process_of(settings.shape, settings.own) else {
             return Err(MemberEnd::AddressFault);
         };
-        match MemberGateway::new(self.alloc, settings.shape, name) {
+        match moving(self.alloc, settings, name) {
             Ok(callers) => Ok(callers),
             Err(_) => Err(MemberEnd::Want),
         }
@@ -121,6 +124,8 @@ impl<R: Net + RandomSource, W: Report> NetMachine<'_, R, W> {
             told_space: ToldSpace::new(),
             few_since: None,
             is_stuck: false,
+            is_moved: false,
+            listings: Vec::new(self.alloc),
         })
     }
 
@@ -157,6 +162,20 @@ impl<R: Net + RandomSource, W: Report> NetMachine<'_, R, W> {
         let _ = self.rt.fill_bytes(&mut bytes);
         u64::from_be_bytes(bytes)
     }
+}
+
+/// The callers of the member of this name, whose numbers go on from the bases of its settings.
+fn moving(
+    alloc: Global,
+    settings: &MemberSettings,
+    name: ProcessId,
+) -> Result<MovingGateway<MemberGateway>, AllocError>
+    requires { IsProcess settings.now.shape name }
+{
+    let shape = settings.shape;
+    let bases = Vec::from_slice(alloc, settings.base.as_slice())?;
+    let callers = MemberGateway::new(alloc, shape, name)?;
+    Ok(MovingGateway::new(callers, shape, bases))
 }
 
 /// The group that is called so.

@@ -56,8 +56,15 @@ impl<R: Net + time::Clock, W: Report + Watch, G: Callers> Serving<'_, R, W, G> {
                 self.control.answer(at, answer);
             }
             Word::Status => self.answer_status(at),
+            Word::Close => self.answer_close(at),
+            Word::Open => self.answer_open(at),
+            Word::Moved => self.answer_moved(at),
+            Word::Items(partition, from) => self.answer_items(at, partition, from),
             Word::Unknown => self.control.answer(at, "no member has this name\n"),
-            Word::Other => self.control.answer(at, "say dead NAME.. or status\n"),
+            Word::Other => self.control.answer(
+                at,
+                "say dead NAME.., status, close, open, moved, items D or items D FROM\n",
+            ),
         }
         false
     }

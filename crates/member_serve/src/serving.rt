@@ -2,6 +2,7 @@ use crate::callers::Callers;
 use crate::client_port::ClientPort;
 use crate::control::Control;
 use crate::deaths::ToldDeaths;
+use crate::listing::Listing;
 use crate::readiness::MemberReadiness;
 use crate::space::ToldSpace;
 use crate::tally::Tally;
@@ -32,6 +33,8 @@ pub(crate) struct Serving<'s, R, W, G: Callers> {
     pub(crate) told_space: ToldSpace,
     pub(crate) few_since: Option<u64>,
     pub(crate) is_stuck: bool,
+    pub(crate) is_moved: bool,
+    pub(crate) listings: Vec<Listing>,
 }
 
 impl<R, W, G: Callers> Serving<'_, R, W, G> {

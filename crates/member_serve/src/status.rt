@@ -1,6 +1,7 @@
 use crate::callers::Callers;
 use crate::names::{MOST_MEMBERS, name_at, put_names, with};
 use crate::serving::Serving;
+use group_types::Partition;
 use member_links::process_of;
 use std::alloc::AllocError;
 
@@ -11,6 +12,8 @@ impl<R, W, G: Callers> Serving<'_, R, W, G> {
         self.put_deaths(&mut text)?;
         let counts = self.count_lines()?;
         text.push_str(counts.as_str())?;
+        self.put_moving(&mut text)?;
+        text.push_str("end\n")?;
         Ok(text)
     }
 
@@ -41,8 +44,41 @@ impl<R, W, G: Callers> Serving<'_, R, W, G> {
         let serves = if self.is_serving() { "yes" } else { "no" };
         let (calls, parked, unshown) = (gateway.open_calls(), gateway.parked(), gateway.unshown());
         format!(in self.alloc;
-            "\nlinks {up}\nserves {serves}\nclients {clients}\ncalls {calls}\nparked {parked}\nanswers {unshown}\nend\n"
+            "\nlinks {up}\nserves {serves}\nclients {clients}\ncalls {calls}\nparked {parked}\nanswers {unshown}\n"
         )
+    }
+
+    // Whether it is closed, how many calls may change an item, and how far the partitions are that it heads.
+    fn put_moving(&self, text: &mut String) -> Result<(), AllocError> {
+        let gateway = self.worker.gateway();
+        let (closed, moved) = (u32::from(gateway.is_closed()), u32::from(self.is_moved));
+        let changing = gateway.changing();
+        let lines = format!(in self.alloc;
+            "closed {closed}\nmoved {moved}\nchanging {changing}\n"
+        )?;
+        text.push_str(lines.as_str())?;
+        'partitions: for d in 0..self.settings.shape.k() {
+            if gateway.is_head(Partition(d)) {
+                self.put_headed(d, text)?;
+            }
+        }
+        Ok(())
+    }
+
+    // How many updates of a partition are unfinished, and the last number that was given in it, as it is told.
+    fn put_headed(&self, d: u32, text: &mut String) -> Result<(), AllocError> {
+        let gateway = self.worker.gateway();
+        let Some(usage) = gateway.usage(Partition(d)) else {
+            return Ok(());
+        };
+        let unfinished = usage.unfinished;
+        let line = format!(in self.alloc; "unfinished {d} {unfinished}\n")?;
+        text.push_str(line.as_str())?;
+        if let Some(last) = gateway.told(Partition(d), usage.last) {
+            let line = format!(in self.alloc; "base {d} {last}\n")?;
+            text.push_str(line.as_str())?;
+        }
+        Ok(())
     }
 
     /// Who is cut, or was said to be dead here.

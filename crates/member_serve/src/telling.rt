@@ -55,6 +55,30 @@ pub(crate) fn tell_recovery<W: Report>(report: &W) {
     );
 }
 
+/// Tells that calls are refused that may change an item.
+pub(crate) fn tell_closed<W: Report>(report: &W) {
+    report.line(
+        Level::Notice,
+        "closed, by an operator's word: changes are refused",
+    );
+}
+
+/// Tells that they are taken again.
+pub(crate) fn tell_open<W: Report>(report: &W) {
+    report.line(
+        Level::Notice,
+        "open, by an operator's word: changes are taken",
+    );
+}
+
+/// Tells that the group's items are in another.
+pub(crate) fn tell_moved<W: Report>(report: &W) {
+    report.line(
+        Level::Notice,
+        "moved, by an operator's word: clients are let go",
+    );
+}
+
 /// Tells that the member at an index was said to be dead.
 pub(crate) fn tell_condemned<W: Report>(
     alloc: Global,
