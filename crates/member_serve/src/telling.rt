@@ -59,7 +59,7 @@ pub(crate) fn tell_recovery<W: Report>(report: &W) {
 pub(crate) fn tell_closed<W: Report>(report: &W) {
     report.line(
         Level::Notice,
-        "closed, by an operator's word: changes are refused",
+        "closed, by a word at its control address: changes are refused",
     );
 }
 
@@ -67,7 +67,7 @@ pub(crate) fn tell_closed<W: Report>(report: &W) {
 pub(crate) fn tell_open<W: Report>(report: &W) {
     report.line(
         Level::Notice,
-        "open, by an operator's word: changes are taken",
+        "open, by a word at its control address: changes are taken",
     );
 }
 
@@ -75,7 +75,7 @@ pub(crate) fn tell_open<W: Report>(report: &W) {
 pub(crate) fn tell_moved<W: Report>(report: &W) {
     report.line(
         Level::Notice,
-        "moved, by an operator's word: clients are let go",
+        "moved, by a word at its control address: clients are let go",
     );
 }
 
@@ -87,7 +87,7 @@ pub(crate) fn tell_condemned<W: Report>(
     x: u32,
 ) {
     let name = name_at(settings, x);
-    let text = format!(in alloc; "{name} is dead, by an operator's word");
+    let text = format!(in alloc; "{name} is dead, by a word at its control address");
     tell(report, Level::Notice, text);
 }
 
