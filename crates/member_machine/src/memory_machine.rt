@@ -1,7 +1,9 @@
+use crate::carrier::Carrier;
+use crate::carry_end::CarryEnd;
 use crate::end::MemberEnd;
 use crate::machine::Machine;
 use crate::watcher::Watcher;
-use group_config::{MemberKey, MemberSettings, WatchSettings};
+use group_config::{CarryKey, CarrySettings, MemberKey, MemberSettings, WatchSettings};
 
 /// A machine in memory: it runs nothing, ends as it is told to, and notes which member it was to run or to watch.
 #[derive(Debug, Drop)]
@@ -53,4 +55,17 @@ impl Watcher for MemoryMachine {
         self.asked = Some(settings.own);
         self.end
     }
+}
+
+impl Carrier for MemoryMachine {
+    ghost use Rattle.std.specs.Prelude.{◌≡◌};
+    ghost use Rattle.member_machine.specs.declared.carry_end.CarryEnd.TheVariants.{Stopped};
+
+    ghost carried = { λ before _ end now. (end ≡ Stopped) × (now ≡ before) };
+
+    fn carry(&mut self, _settings: &CarrySettings) -> CarryEnd {
+        CarryEnd::Stopped
+    }
+
+    fn refuse_carry(&self, _key: CarryKey) {}
 }
