@@ -8,6 +8,7 @@ mod kept_source;
 mod person;
 mod system;
 
+use carry_serve::NetCarrier;
 use edge_io::{ReadEdge, SystemClock, WriteEdge};
 use group_program::{Status, exit_of, run_program, tell};
 use kept_source::KeptSource;
@@ -37,6 +38,7 @@ fn main(rt: HostRuntime) -> ExitCode {
     let mut machine = System {
         member: NetMachine::new(rt.alloc(), &rt, &person),
         watcher: NetWatcher::new(rt.alloc(), &rt, &person),
+        carrier: NetCarrier::new(rt.alloc(), &rt, &person),
     };
     let mut source = KeptSource::new(rt.alloc(), ReadEdge::new(rt.stdin()), plays(&words));
     let mut port = ToldEdge::new(TcpEdge::new(&rt), &person);

@@ -1,3 +1,4 @@
+use carry_serve::CarryReport;
 use edge_io::{WriteEdge, write_all};
 use group_program::{Finding, Notice, Settings, Status, help_at, loss_of, notice_of};
 use group_types::ProcessId;
@@ -81,6 +82,16 @@ impl Notice for Person {
 impl Report for Person {
     fn line(&self, level: Level, text: &str) {
         self.say_at(level, text);
+    }
+}
+
+impl CarryReport for Person {
+    fn warn(&self, text: &str) {
+        self.say_at(Level::Warning, text);
+    }
+
+    fn note(&self, text: &str) {
+        self.say_at(Level::Notice, text);
     }
 }
 

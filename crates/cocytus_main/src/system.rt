@@ -1,14 +1,15 @@
-use group_config::{MemberKey, MemberSettings, WatchSettings};
-use member_machine::{Machine, MemberEnd, Watcher};
+use group_config::{CarryKey, CarrySettings, MemberKey, MemberSettings, WatchSettings};
+use member_machine::{Carrier, CarryEnd, Machine, MemberEnd, Watcher};
 
-/// What runs a member, and what watches one.
+/// What runs a member, what watches one, and what carries a group's items.
 #[derive(Drop)]
-pub(crate) struct System<M, W> {
+pub(crate) struct System<M, W, C> {
     pub(crate) member: M,
     pub(crate) watcher: W,
+    pub(crate) carrier: C,
 }
 
-impl<M: Machine, W> Machine for System<M, W> {
+impl<M: Machine, W, C> Machine for System<M, W, C> {
     ghost use Rattle.std.specs.Prelude.{⊤};
 
     ghost ran = { λ _ _ _ _. ⊤ };
@@ -22,12 +23,26 @@ impl<M: Machine, W> Machine for System<M, W> {
     }
 }
 
-impl<M, W: Watcher> Watcher for System<M, W> {
+impl<M, W: Watcher, C> Watcher for System<M, W, C> {
     ghost use Rattle.std.specs.Prelude.{⊤};
 
     ghost watched = { λ _ _ _ _ _. ⊤ };
 
     fn watch(&mut self, settings: &MemberSettings, watch: &WatchSettings) -> MemberEnd {
         self.watcher.watch(settings, watch)
+    }
+}
+
+impl<M, W, C: Carrier> Carrier for System<M, W, C> {
+    ghost use Rattle.std.specs.Prelude.{⊤};
+
+    ghost carried = { λ _ _ _ _. ⊤ };
+
+    fn carry(&mut self, settings: &CarrySettings) -> CarryEnd {
+        self.carrier.carry(settings)
+    }
+
+    fn refuse_carry(&self, key: CarryKey) {
+        self.carrier.refuse_carry(key);
     }
 }

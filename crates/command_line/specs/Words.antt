@@ -7,7 +7,7 @@ use Rattle.clap.specs.Walk.{is_empty}
 use Rattle.clap.specs.Words.{App, Row, Text, fault_of, first_of, matches_of, one_of}
 use Rattle.command_line.specs.Parsers.{bare, most_32, most_64, named_app, number_app, session_app}
 use Rattle.command_line.specs.declared.command.Command.{Command}
-use Rattle.command_line.specs.declared.command.Command.TheVariants.{Frames, Make, Member, Play, PlayGroups, PlayRegroup, Serve, Session, Trial, Verify, Watch}
+use Rattle.command_line.specs.declared.command.Command.TheVariants.{Carry, Frames, Make, Member, Play, PlayGroups, PlayRegroup, Serve, Session, Trial, Verify, Watch}
 
 -- the number that a text writes in decimal digits, behind a plus or not
 abbrev pub number_up_to : ℕ → Text → Option ℕ
@@ -54,6 +54,7 @@ command_at word words =
     else if bytes_eq word (codes "serve") then bare_of word Serve words
     else if bytes_eq word (codes "member") then option_map Member (named_of word words)
     else if bytes_eq word (codes "watch") then option_map Watch (named_of word words)
+    else if bytes_eq word (codes "carry") then bare_of word Carry words
     else if bytes_eq word (codes "make") then option_map Make (number_of word words)
     else if bytes_eq word (codes "trial") then option_map Trial (number_of word words)
     else if bytes_eq word (codes "frames") then bare_of word Frames words

@@ -29,6 +29,8 @@ pub enum Command {
     Watch {
         name: Option<Name>,
     },
+    /// Carries the items of such a group into a fresh one, by settings.
+    Carry,
     /// Makes the script of this number.
     Make {
         number: u64,

@@ -28,6 +28,7 @@ pub fn read_words(alloc: Global, words: &[String]) -> Result<Command, WordsFault
         "serve" => read_bare(alloc, "serve", Command::Serve, rest),
         "member" => read_member(alloc, rest),
         "watch" => read_watch(alloc, rest),
+        "carry" => read_bare(alloc, "carry", Command::Carry, rest),
         "make" => read_make(alloc, rest),
         "trial" => read_trial(alloc, rest),
         "frames" => read_bare(alloc, "frames", Command::Frames, rest),

@@ -1,3 +1,4 @@
+pub mod Carrying
 pub mod Frames
 pub mod Member
 pub mod Program

@@ -1,7 +1,7 @@
 -- What comes of the command that the words say.
 use Rattle.std.specs.Prelude.{◌≡◌, ℕ, List, Option, Some, None, ⊤}
 use Rattle.command_line.specs.declared.command.Command.{Command}
-use Rattle.command_line.specs.declared.command.Command.TheVariants.{Frames, Member, Play, PlayGroups, PlayRegroup, Make, Serve, Session, Trial, Verify, Watch}
+use Rattle.command_line.specs.declared.command.Command.TheVariants.{Carry, Frames, Member, Play, PlayGroups, PlayRegroup, Make, Serve, Session, Trial, Verify, Watch}
 use Rattle.cluster_play.specs.Language.{cluster_scripts}
 use Rattle.regroup_play.specs.Language.{era_scripts}
 use Rattle.group_server.specs.Service.{Tally}
@@ -18,8 +18,8 @@ use Rattle.group_program.specs.Serving.{IsServed}
 use Rattle.group_program.specs.Session.{HasToldLast, IsSession}
 use Rattle.group_program.specs.Verifying.{IsJudged}
 
--- what comes of a command, which is none where the words say none, over a listener that listens and tells so; of `member` and
--- `watch`, which go over a machine, `IsMember` and `IsWatched` say it
+-- what comes of a command, which is none where the words say none, over a listener that listens and tells so; of `member`,
+-- `watch` and `carry`, which go over a machine, `IsMember`, `IsWatched` and `IsCarry` say it
 module _ {L : Type 0} (listened : L → List ℕ → L → Type 0) (tells : L → Tally) (l l_now : L) where
   abbrev pub HasCarriedOut : Option Command → Option ℕ → Outside → Outside → Status → Type 0
   HasCarriedOut None moment before now status = HasToldLast BadWords before now status
@@ -33,6 +33,7 @@ module _ {L : Type 0} (listened : L → List ℕ → L → Type 0) (tells : L �
   HasCarriedOut (Some Serve) moment before now status = IsServed listened tells l l_now before now status
   HasCarriedOut (Some (Member name)) moment before now status = ⊤
   HasCarriedOut (Some (Watch name)) moment before now status = ⊤
+  HasCarriedOut (Some Carry) moment before now status = ⊤
   HasCarriedOut (Some Frames) moment before now status = IsListed before now status
 
 -- there was no memory to read the words

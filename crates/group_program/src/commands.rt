@@ -8,7 +8,7 @@ struct CommandText {
     phrase: &'static str,
 }
 
-const COMMANDS: [CommandText; 11] = [
+const COMMANDS: [CommandText; 12] = [
     CommandText {
         name: "play",
         words: " < SCRIPT",
@@ -48,6 +48,11 @@ const COMMANDS: [CommandText; 11] = [
         name: "watch",
         words: " [<name>] < SETTINGS",
         phrase: "watches such a member by etcd, and tells it who is dead",
+    },
+    CommandText {
+        name: "carry",
+        words: " < SETTINGS",
+        phrase: "carries the items of such a group into a fresh one",
     },
     CommandText {
         name: "make",

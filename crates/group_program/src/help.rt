@@ -70,7 +70,17 @@ pub fn help_at(
         Some(word) if word.as_str() == "member" || word.as_str() == "watch" => {
             help_of_member(alloc, status)
         }
+        Some(word) if word.as_str() == "carry" => help_of_carry(alloc, status),
         _ => help_of_others(alloc, words, status, script),
+    }
+}
+
+/// What is told of the end of a carry, of which the machine told why.
+fn help_of_carry(alloc: Global, status: Status) -> Result<String, AllocError> {
+    match status {
+        Status::Cut | Status::BadConfig(_) => "".to_string(alloc),
+        Status::TooLong => LONGEST_SETTINGS.to_string(alloc),
+        other => help_text(other).to_string(alloc),
     }
 }
 

@@ -4,6 +4,9 @@
 //! does to its machine.
 #![tactic(auto)]
 
+mod carry_line;
+mod carry_stop;
+mod carrying;
 mod commands;
 mod ending;
 mod finding;
@@ -22,11 +25,13 @@ mod serving_group;
 mod verifying;
 mod watching;
 
+pub use carry_stop::CarryStop;
 pub use ending::exit_of;
 pub use group_server::{Finding, Notice, Settings, Silent};
 pub use help::help_at;
 pub use member_machine::{
-    Machine, MemberEnd, MemberKey, MemberSettings, MemoryMachine, WatchSettings, Watcher,
+    Carrier, CarryEnd, CarryKey, CarrySettings, Machine, MemberEnd, MemberKey, MemberSettings,
+    MemoryMachine, WatchSettings, Watcher,
 };
 pub use member_run::MemberRun;
 pub use member_stop::MemberStop;

@@ -10,12 +10,14 @@ ghost use Rattle.group_types.specs.Shape.{IsShape};
 ghost use Rattle.scenario_play.specs.Language.{group_scripts};
 ghost use Rattle.scenario_play.specs.Outside.{outside};
 ghost use Rattle.scenario_play.specs.Played.{HasPlayedWhole};
+ghost use Rattle.group_program.specs.Carrying.{IsCarry};
 ghost use Rattle.group_program.specs.Member.{IsMember};
 ghost use Rattle.group_program.specs.Program.{HasCarriedOut, HasStopped};
 ghost use Rattle.group_program.specs.Serving.{HasServedWhole};
 ghost use Rattle.group_program.specs.Watching.{IsWatched};
 ghost use Rattle.group_program.specs.Words.{ReadsNothing, RunsNoMember};
 
+use crate::carrying::carry_group;
 use crate::listing::list_frames;
 use crate::running::run_member;
 use crate::serving::serve_session;
@@ -26,7 +28,7 @@ use cluster_play::play_groups;
 use command_line::{Command, Name, WordsFault, read_words};
 use edge_io::{Clock, Sink, Source};
 use group_server::{Notice, ReadyListener};
-use member_machine::{Machine, Watcher};
+use member_machine::{Carrier, Machine, Watcher};
 use regroup_play::play_regroup;
 use scenario_play::Status;
 use scenario_play::make::make;
@@ -38,14 +40,14 @@ use std::sync::Wait;
 use std::thread::Threads;
 
 /// Runs the command that the words after the program's name ask for: `play`, `play_groups`, `play_regroup`, `verify`,
-/// `session`, `serve`, `member`, `watch`, `make`, `trial` or `frames`. Before the first connection of `serve` the notice tells what
-/// is served, and of settings that are refused what is wrong with them. `member` and `watch` run on the machine.
+/// `session`, `serve`, `member`, `watch`, `carry`, `make`, `trial` or `frames`. Before the first connection of `serve` the notice tells what
+/// is served, and of settings that are refused what is wrong with them. `member`, `watch` and `carry` run on the machine.
 pub fn run_program<
     R: Threads + Wait + Sync,
     S: Source,
     K: Sink,
     L: ReadyListener,
-    M: Machine + Watcher,
+    M: Machine + Watcher + Carrier,
     N: Notice,
     T: Clock,
 >(
@@ -87,6 +89,11 @@ where
         (outside (S.input source.old) (S.faults source.old) (K.held sink.old) (K.faults sink.old))
         (outside (S.input source.new) (S.faults source.new) (K.held sink.new) (K.faults sink.new)) result
         ⊎ (HasStopped (K.held sink.old) (K.held sink.new) result × (source.new ≡ source.old) × (machine.new ≡ machine.old)) }
+    ensures carry { command_of (map string_bytes words.now) ≡ Some Command.Carry
+        → IsCarry M.carried machine.old machine.new
+        (outside (S.input source.old) (S.faults source.old) (K.held sink.old) (K.faults sink.old))
+        (outside (S.input source.new) (S.faults source.new) (K.held sink.new) (K.faults sink.new)) result
+        ⊎ (HasStopped (K.held sink.old) (K.held sink.new) result × (source.new ≡ source.old) × (machine.new ≡ machine.old)) }
     ensures bad_words { result ≡ Status.BadWords → command_of (map string_bytes words.now) ≡ None }
     ensures read { result ≡ Status.ReadFault → Rose (S.faults source.old) (S.faults source.new) }
     ensures write { result ≡ Status.WriteFault → Rose (K.faults sink.old) (K.faults sink.new) }
@@ -112,7 +119,7 @@ fn run_command<
     S: Source,
     K: Sink,
     L: ReadyListener,
-    M: Machine + Watcher,
+    M: Machine + Watcher + Carrier,
     N: Notice,
     T: Clock,
 >(
@@ -149,6 +156,10 @@ where
         → IsWatched M.watched machine.old machine.new name
         (outside (S.input source.old) (S.faults source.old) (K.held sink.old) (K.faults sink.old))
         (outside (S.input source.new) (S.faults source.new) (K.held sink.new) (K.faults sink.new)) result }
+    ensures carry { command ≡ Command.Carry
+        → IsCarry M.carried machine.old machine.new
+        (outside (S.input source.old) (S.faults source.old) (K.held sink.old) (K.faults sink.old))
+        (outside (S.input source.new) (S.faults source.new) (K.held sink.new) (K.faults sink.new)) result }
     ensures machine { RunsNoMember (Some command) → machine.new ≡ machine.old }
 {
     match command {
@@ -176,6 +187,7 @@ where
             machine,
             notice,
         ),
+        Command::Carry => carry_group(alloc, source, sink, machine, notice),
         Command::Session {
             k,
             m,
