@@ -57,6 +57,19 @@ impl Dialogue {
         })
     }
 
+    /// A command of one word over an input, of which nothing is said of what must be written.
+    pub fn of_command(alloc: Global, word: &str, input: &str) -> Result<Dialogue, AllocError> {
+        Ok(Dialogue {
+            words: owned(alloc, word.split(' '))?,
+            input: Vec::from_slice(alloc, input.as_bytes())?,
+            output: Vec::new(alloc),
+            status: 0,
+            fault: None,
+            client: None,
+            answers: Vec::new(alloc),
+        })
+    }
+
     /// The number of the call that fails at this end: 0 where none does.
     pub fn failing(&self, end: End) -> u64 {
         self.fault.map_or(0, |fault| fault.at(end))

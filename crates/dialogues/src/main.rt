@@ -4,11 +4,14 @@
 //! each line is printed with what came of it. What must be written was told by another program than this one.
 //! Behind them stand rows of text, each with what it must give: texts of settings in `settings.rows`, and streams of
 //! frames of links in `links.rows`. Standard output has a line for each, those of the settings first.
+//! The last line tells of a run of a group whose events are `losses.rows`: a process is lost before one of them, which is
+//! tried with each event, each process, and none, one or all of its messages kept, 360 times in all.
 #![tactic(auto)]
 
 mod dialogue;
 mod fault;
 mod links;
+mod losses;
 mod playing;
 mod settings;
 
@@ -27,6 +30,9 @@ fn main(rt: HostRuntime) -> io::Result<()> {
     }
     let rows = told_rows(&rt, rt.alloc())?;
     print!(rt; "{rows}")?;
+    let events = fs::read_to_string(&rt, "losses.rows")?;
+    let text = losses::told(&rt, rt.alloc(), &events)?;
+    print!(rt; "{text}")?;
     Ok(())
 }
 

@@ -67,6 +67,16 @@ fn told_in<R: Threads + Wait + Sync>(
     String::from_str(alloc, "ok")
 }
 
+/// The status that the program ends with, and what it writes, where a read gives all that is asked for.
+pub fn played_whole<R: Threads + Wait + Sync>(
+    rt: &R,
+    alloc: Global,
+    dialogue: &Dialogue,
+) -> Result<(u8, Vec<u8>), AllocError> {
+    let (status, written, _) = played(rt, alloc, dialogue, 65_536)?;
+    Ok((status, written))
+}
+
 // The status that the program ends with, what it writes, and what its client is answered.
 fn played<R: Threads + Wait + Sync>(
     rt: &R,
