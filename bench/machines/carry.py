@@ -214,7 +214,8 @@ class Run:
             ended = subprocess.run(words, stdin=settings, stdout=subprocess.PIPE, stderr=errors, timeout=LATEST)
         if ended.returncode != 0:
             raise Wrong(f"carry ended with {ended.returncode}")
-        return ended.stdout.decode().strip()
+        with open(os.path.join(self.folder, "carry.errors"), encoding="utf-8") as errors:
+            return errors.read().splitlines()[-1]
 
     def judge(self):
         for each in self.clients:

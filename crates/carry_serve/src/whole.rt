@@ -9,7 +9,7 @@ pub(crate) fn is_whole(status: &[u8], there: usize) -> bool {
             members = members_of(shape);
         }
         if let Some(names) = line.strip_prefix(b"taken ".as_slice()) {
-            dead = count_words(names);
+            dead = count_names(names);
         }
     }
     members > 0 && dead.saturating_add(there as u64) == members
@@ -28,11 +28,11 @@ fn members_of(shape: &[u8]) -> u64 {
     sum
 }
 
-/// How many words a text has.
-fn count_words(text: &[u8]) -> u64 {
+/// How many names a text has: none where it is `-`.
+fn count_names(text: &[u8]) -> u64 {
     let mut count: u64 = 0;
     'words: for word in text.split(|byte| *byte == b' ') {
-        if !word.is_empty() {
+        if !word.is_empty() && word != b"-".as_slice() {
             count = count.saturating_add(1);
         }
     }
