@@ -4,6 +4,9 @@ ghost use Rattle.group_stage.specs.Seated.{IsOf, shape_of};
 ghost use Rattle.group_types.specs.Dimensions.{processes_of};
 
 use crate::bell::Bell;
+use crate::losses::Losses;
+use crate::notice::Notice;
+use crate::telling::tell_losses;
 use group_calls::Answer;
 use group_node::process_at;
 use group_stage::{Looked, Seat, Stage, StageAnswer};
@@ -35,12 +38,23 @@ impl<'a> Deliverer<'a> {
         Deliverer { stage, seat }
     }
 
-    /// Delivers until the bell rings. After a round that moved nothing it pauses, each time twice as long.
-    pub(crate) fn run<R: Wait>(&mut self, rt: &R, bell: &Bell) {
+    /// Delivers until the bell rings, and tells of processes that are lost. After a round that moved nothing it pauses, each
+    /// time twice as long.
+    pub(crate) fn run<R: Wait, N: Notice>(
+        &mut self,
+        rt: &R,
+        bell: &Bell,
+        losses: &Losses,
+        notice: &N,
+    ) {
+        let shape = self.stage.shape();
         let longest = self.longest();
         let mut pause = SHORTEST;
+        let mut told = 0;
         'rounds: for _ in rt.forever() {
-            if bell.rang() {
+            let is_over = bell.rang();
+            told = tell_losses(shape, losses, told, notice);
+            if is_over {
                 return;
             }
             if self.go_round() {

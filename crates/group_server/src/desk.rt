@@ -2,7 +2,6 @@ ghost use Rattle.std.specs.Prelude.{◌≡◌};
 ghost use Rattle.group_stage.specs.Seated.{AreOf};
 
 use crate::losses::Losses;
-use crate::notice::Notice;
 use crate::told_caller::ToldCaller;
 use group_stage::{Seats, Stage};
 use node_worker::Port;
@@ -12,13 +11,13 @@ use std::sync::{Mutex, Wait};
 
 /// Lends callers over one stage, each from a seat of its own.
 #[derive(Drop)]
-pub(crate) struct Desk<'d, 'a, 'n, R, N> {
+pub(crate) struct Desk<'d, 'a, R> {
     rt: &'d R,
-    losses: &'d Losses<'n, N>,
+    losses: &'d Losses,
     callers: Mutex<Vec<StageCaller<'a>>>,
 }
 
-impl<'d, 'a, 'n, R: Wait, N: Notice> Desk<'d, 'a, 'n, R, N> {
+impl<'d, 'a, R: Wait> Desk<'d, 'a, R> {
     /// A caller for each of these seats.
     pub(crate) fn new(
         rt: &'d R,
@@ -26,8 +25,8 @@ impl<'d, 'a, 'n, R: Wait, N: Notice> Desk<'d, 'a, 'n, R, N> {
         stage: &'a Stage,
         seats: Seats,
         control: bool,
-        losses: &'d Losses<'n, N>,
-    ) -> Result<Desk<'d, 'a, 'n, R, N>, AllocError>
+        losses: &'d Losses,
+    ) -> Result<Desk<'d, 'a, R>, AllocError>
         requires { AreOf stage.now seats.seats }
     {
         let mut rest = seats;
@@ -43,16 +42,23 @@ impl<'d, 'a, 'n, R: Wait, N: Notice> Desk<'d, 'a, 'n, R, N> {
     }
 }
 
-impl<'d, 'a, 'n, R: Wait + Sync, N: Notice> Port for Desk<'d, 'a, 'n, R, N> {
-    type Lent = ToldCaller<'d, 'n, StageCaller<'a>, N>;
+impl<R> Desk<'_, '_, R> {
+    /// What is lost by the orders of its callers.
+    pub(crate) fn losses(&self) -> &Losses {
+        self.losses
+    }
+}
 
-    fn lend(&self) -> Option<ToldCaller<'d, 'n, StageCaller<'a>, N>> {
+impl<'d, 'a, R: Wait + Sync> Port for Desk<'d, 'a, R> {
+    type Lent = ToldCaller<'d, StageCaller<'a>>;
+
+    fn lend(&self) -> Option<ToldCaller<'d, StageCaller<'a>>> {
         let caller = self.callers.try_lock()?.pop()?;
         Some(ToldCaller::new(caller, self.losses))
     }
 
     // There is room, since each caller came from here.
-    fn give_back(&self, lent: ToldCaller<'d, 'n, StageCaller<'a>, N>) {
+    fn give_back(&self, lent: ToldCaller<'d, StageCaller<'a>>) {
         let mut callers = self.callers.lock(self.rt);
         let _ = callers.push(lent.into_caller());
     }

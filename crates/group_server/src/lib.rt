@@ -13,6 +13,7 @@ mod notice;
 mod orders;
 mod server;
 mod service;
+mod telling;
 mod told_caller;
 
 pub use fault::ServiceFault;

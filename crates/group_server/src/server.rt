@@ -51,7 +51,7 @@ where
     };
     let workers = rest.count() - 1;
     let mut deliverer = Deliverer::new(stage, own);
-    let losses = Losses::new(orders.notice, stage.shape().m());
+    let losses = Losses::new(stage.shape().k());
     match Desk::new(rt, alloc, stage, rest, orders.taken, &losses) {
         Ok(desk) => serve_beside(
             rt,
@@ -60,6 +60,7 @@ where
             gate,
             &mut deliverer,
             &desk,
+            orders.notice,
             workers,
             connections,
             clock,
@@ -75,7 +76,8 @@ fn serve_beside<R: Threads + Wait + Sync, L: ReadyListener, G: Gate, N: Notice, 
     listener: &mut L,
     gate: &G,
     deliverer: &mut Deliverer<'_>,
-    desk: &Desk<'_, '_, '_, R, N>,
+    desk: &Desk<'_, '_, R>,
+    notice: &N,
     workers: u32,
     connections: u64,
     clock: &T,
@@ -95,7 +97,7 @@ where
     // Where no thread can be made the first of the two runs last, and the bell has rung.
     let ((), end) = thread::join_mut(
         rt,
-        &mut || deliverer.run(rt, &bell),
+        &mut || deliverer.run(rt, &bell, desk.losses(), notice),
         &mut || {
             serve_and_ring(
                 rt,
@@ -114,13 +116,13 @@ where
 }
 
 /// Serves the connections over the callers of a desk, and rings the bell behind the last.
-fn serve_and_ring<R: Threads + Wait + Sync, L: ReadyListener, G: Gate, N: Notice, T: Clock>(
+fn serve_and_ring<R: Threads + Wait + Sync, L: ReadyListener, G: Gate, T: Clock>(
     rt: &R,
     alloc: Global,
     listener: &mut L,
     gate: &G,
     bell: &Bell,
-    desk: &Desk<'_, '_, '_, R, N>,
+    desk: &Desk<'_, '_, R>,
     workers: u32,
     connections: u64,
     clock: &T,

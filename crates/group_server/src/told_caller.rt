@@ -1,21 +1,20 @@
 use crate::losses::Losses;
-use crate::notice::Notice;
 use front_end::Caller;
 use group_types::ProcessId;
 use memc_proto::{CallEnd, FailEnd};
 use memc_table::Op;
 use std::alloc::AllocError;
 
-/// A caller of whose orders a person is told that let a process fail.
+/// A caller that notes which processes are lost by its orders.
 #[derive(Drop)]
-pub(crate) struct ToldCaller<'l, 'n, C, N> {
+pub(crate) struct ToldCaller<'l, C> {
     caller: C,
-    losses: &'l Losses<'n, N>,
+    losses: &'l Losses,
 }
 
-impl<'l, 'n, C: Drop, N> ToldCaller<'l, 'n, C, N> {
-    /// Tells these losses.
-    pub(crate) fn new(caller: C, losses: &'l Losses<'n, N>) -> ToldCaller<'l, 'n, C, N> {
+impl<'l, C: Drop> ToldCaller<'l, C> {
+    /// Notes them there.
+    pub(crate) fn new(caller: C, losses: &'l Losses) -> ToldCaller<'l, C> {
         ToldCaller { caller, losses }
     }
 
@@ -26,7 +25,7 @@ impl<'l, 'n, C: Drop, N> ToldCaller<'l, 'n, C, N> {
     }
 }
 
-impl<C: Caller, N: Notice> Caller for ToldCaller<'_, '_, C, N> {
+impl<C: Caller> Caller for ToldCaller<'_, C> {
     ghost use Rattle.group_server.specs.Told.{told_onward, told_order, told_ways};
 
     ghost ways = { told_ways C.ways };
