@@ -1,6 +1,6 @@
 // What a person is told of a line of a script that is refused: the line, and which word of it can't stand there. A word can't
 // where the line would be read with another one in its place.
-use crate::script_line::{joined, line_at, shape_of, words_of};
+use crate::script_line::{behind, line_at, numbers_of, until};
 use group_types::Shape;
 use scenario_text::LineFault;
 use scenario_text::read_line::read_line;
@@ -9,48 +9,8 @@ use std::alloc::{AllocError, Global};
 /// The most bytes of a text of others that a person is shown.
 const MOST_SHOWN: usize = 200;
 
-/// The words that lines of scripts begin with.
-const FIRST_WORDS: [&[u8]; 15] = [
-    b"group",
-    b"groups",
-    b"regroup",
-    b"fail_node",
-    b"ask",
-    b"collect",
-    b"deliver",
-    b"fail",
-    b"flush",
-    b"trace",
-    b"drain",
-    b"show",
-    b"places",
-    b"time",
-    b"stop",
-];
-
 /// Words that may stand somewhere in a line.
-const WORDS: [&[u8]; 6] = [b"0", b"d0", b"p0", b"-", b"get", b"1"];
-
-/// Words that may be missing at the end of a line.
-const TAILS: [&[&[u8]]; 7] = [
-    &[b"0"],
-    &[b"d0"],
-    &[b"-"],
-    &[b"get", b"k"],
-    &[b"0", b"-"],
-    &[b"0", b"d0"],
-    &[b"d0", b"get", b"k"],
-];
-
-/// What is wrong with a line.
-#[derive(Clone, Copy)]
-enum LineProblem {
-    /// The word at this index can't stand there.
-    Word(usize),
-    /// Words are missing at the end.
-    Short,
-    Unknown,
-}
+const WORDS: [&[u8]; 7] = [b"0", b"d0", b"p0", b"-", b"get", b"1", b"show"];
 
 /// What a person is told of the line of a script that has this number, counted from 1, and is none of those that it can have.
 pub(crate) fn refused_line(
@@ -61,39 +21,35 @@ pub(crate) fn refused_line(
     let Some(line) = line_at(script, number) else {
         return "".to_string(alloc);
     };
-    let words = words_of(alloc, line)?;
-    let problem = problem_of(alloc, script, &words)?;
-    let line = shown(alloc, line)?;
-    let text = text_of(alloc, problem, &words)?;
-    format!(in alloc; "line {number} is: {line}\n{text}")
+    let told = shown(alloc, line)?;
+    let text = text_of(alloc, script, line)?;
+    format!(in alloc; "line {number} is: {told}\n{text}")
 }
 
-fn text_of(alloc: Global, problem: LineProblem, words: &[&[u8]]) -> Result<String, AllocError> {
-    match problem {
-        LineProblem::Word(at) => word_text(alloc, at, words.get(at).copied().unwrap_or(b"")),
-        LineProblem::Short => "a word is missing behind its last\n".to_string(alloc),
-        LineProblem::Unknown => "".to_string(alloc),
+// Which word of a line can't stand there, in a script that names a shape.
+fn text_of(alloc: Global, script: &[u8], line: &[u8]) -> Result<String, AllocError> {
+    let Some((k, m, blocks, block)) = numbers_of(script) else {
+        return "".to_string(alloc);
+    };
+    match Shape::new(k, m, blocks, block) {
+        Ok(shape) if !is_other(until(line, b' ')) => text_in(alloc, shape, line),
+        _ => "".to_string(alloc),
     }
 }
 
-fn word_text(alloc: Global, at: usize, word: &[u8]) -> Result<String, AllocError> {
-    let number = at.saturating_add(1);
-    if word.is_empty() {
-        return format!(in alloc; "its word {number} is empty: words are one space apart\n");
-    }
-    let word = shown(alloc, word)?;
-    format!(in alloc; "its word {number}, {word}, can't stand there\n")
+// Whether a line with this first word is one that a script of one group doesn't have behind its first.
+fn is_other(word: &[u8]) -> bool {
+    word == b"group".as_slice()
+        || word == b"groups".as_slice()
+        || word == b"regroup".as_slice()
+        || word == b"fail_node".as_slice()
 }
 
-// What is wrong with these words: of a line of one of several groups behind its first word.
-fn problem_of(alloc: Global, script: &[u8], words: &[&[u8]]) -> Result<LineProblem, AllocError> {
-    let shape = shape_of(alloc, script);
-    match words {
-        [first, rest @ ..] if is_group(first) => {
-            let problem = problem_in(alloc, shape, rest)?;
-            Ok(behind_first(problem))
-        }
-        _ => problem_in(alloc, shape, words),
+// The same of a line of one of several groups behind its first word.
+fn text_in(alloc: Global, shape: Shape, line: &[u8]) -> Result<String, AllocError> {
+    match behind(line, b' ') {
+        Some(rest) if is_group(until(line, b' ')) => text_behind(alloc, shape, rest, 2),
+        _ => text_behind(alloc, shape, line, 1),
     }
 }
 
@@ -105,100 +61,66 @@ fn is_group(word: &[u8]) -> bool {
     }
 }
 
-fn behind_first(problem: LineProblem) -> LineProblem {
-    match problem {
-        LineProblem::Word(at) => LineProblem::Word(at.saturating_add(1)),
-        other => other,
-    }
-}
-
-fn problem_in(
+// The same of a line whose first word has this number.
+fn text_behind(
     alloc: Global,
-    shape: Option<Shape>,
-    words: &[&[u8]],
-) -> Result<LineProblem, AllocError> {
-    if !begins_line(words) {
-        return Ok(LineProblem::Word(0));
-    }
-    if let Some(at) = find_wrong(alloc, shape, words)? {
-        return Ok(LineProblem::Word(at));
-    }
-    if let Some(at) = find_needless(alloc, shape, words)? {
-        return Ok(LineProblem::Word(at));
-    }
-    if is_short(alloc, shape, words)? {
-        return Ok(LineProblem::Short);
-    }
-    Ok(LineProblem::Unknown)
-}
-
-// Whether a line of some script begins with the first of these words.
-fn begins_line(words: &[&[u8]]) -> bool {
-    match words {
-        [first, ..] => FIRST_WORDS.contains(first),
-        [] => false,
-    }
-}
-
-// The first word with another in whose place the line is read.
-fn find_wrong(
-    alloc: Global,
-    shape: Option<Shape>,
-    words: &[&[u8]],
-) -> Result<Option<usize>, AllocError> {
-    'words: for at in 1..words.len() {
-        'others: for other in WORDS {
-            if is_read(alloc, shape, &words[..at], other, &words[at + 1..])? {
-                return Ok(Some(at));
-            }
+    shape: Shape,
+    line: &[u8],
+    number: u64,
+) -> Result<String, AllocError> {
+    let mut rest = line;
+    let mut number = number;
+    'words: for _ in 0..line.len() {
+        if is_wrong(alloc, shape, line, rest)? {
+            return word_text(alloc, number, until(rest, b' '));
         }
-    }
-    Ok(None)
-}
-
-// The first word without which, and those behind it, the line is read.
-fn find_needless(
-    alloc: Global,
-    shape: Option<Shape>,
-    words: &[&[u8]],
-) -> Result<Option<usize>, AllocError> {
-    'ends: for at in 1..words.len() {
-        if is_read(alloc, shape, &words[..at - 1], words[at - 1], &[])? {
-            return Ok(Some(at));
-        }
-    }
-    Ok(None)
-}
-
-// Whether the line is read with further words.
-fn is_short(alloc: Global, shape: Option<Shape>, words: &[&[u8]]) -> Result<bool, AllocError> {
-    'tails: for tail in TAILS {
-        let Some((last, front)) = words.split_last() else {
-            return Ok(false);
+        let Some(next) = behind(rest, b' ') else {
+            return "".to_string(alloc);
         };
-        if is_read(alloc, shape, front, last, tail)? {
+        rest = next;
+        number = number.saturating_add(1);
+    }
+    "".to_string(alloc)
+}
+
+fn word_text(alloc: Global, number: u64, word: &[u8]) -> Result<String, AllocError> {
+    if word.is_empty() {
+        return format!(in alloc; "its word {number} is empty: words are one space apart\n");
+    }
+    let word = shown(alloc, word)?;
+    format!(in alloc; "its word {number}, {word}, can't stand there\n")
+}
+
+// Whether a line is read with another word in place of the one with which its end begins.
+fn is_wrong(alloc: Global, shape: Shape, line: &[u8], end: &[u8]) -> Result<bool, AllocError> {
+    let at = line.len().saturating_sub(end.len());
+    let after = at.saturating_add(until(end, b' ').len());
+    'words: for word in &WORDS {
+        if is_read(alloc, shape, line, at, after, word)? {
             return Ok(true);
         }
     }
     Ok(false)
 }
 
-// Whether a line of these words is read: of some, one, and others.
+// Whether a line is read with a word in place of its bytes between two places.
 fn is_read(
     alloc: Global,
-    shape: Option<Shape>,
-    front: &[&[u8]],
+    shape: Shape,
+    line: &[u8],
+    at: usize,
+    after: usize,
     word: &[u8],
-    rest: &[&[u8]],
 ) -> Result<bool, AllocError> {
-    let mut words = Vec::from_slice(alloc, front)?;
-    words.push(word)?;
-    words.extend_from_slice(rest)?;
-    let Some((first, rest)) = words.split_first() else {
-        return Ok(false);
-    };
-    let line = joined(alloc, first, rest)?;
-    let read = read_line(alloc, shape, &line);
+    let mut other = Vec::new(alloc);
+    if let Some(front) = line.get(..at) {
+        other.extend_from_slice(front)?;
+    }
+    other.extend_from_slice(word)?;
+    if let Some(rest) = line.get(after..) {
+        other.extend_from_slice(rest)?;
+    }
+    let read = read_line(alloc, Some(shape), &other);
     Ok(!matches!(read, Err(LineFault::BadLine)))
 }
 

@@ -1,58 +1,65 @@
-use group_types::Shape;
-use scenario_text::Line;
-use scenario_text::read_line::read_line;
-use std::alloc::{AllocError, Global};
+use memchr::memchr;
+use scenario_text::read_word::read_u32;
 
 /// The line of a script that has this number, counted from 1.
 pub(crate) fn line_at(script: &[u8], number: u64) -> Option<&[u8]> {
-    let at = number.checked_sub(1)?;
-    script.split(|byte| *byte == b'\n').nth(at as usize)
+    let mut rest = script;
+    'lines: for _ in 1..number {
+        rest = behind(rest, b'\n')?;
+    }
+    Some(until(rest, b'\n'))
 }
 
-/// The shape that a script's first line names which isn't skipped.
-pub(crate) fn shape_of(alloc: Global, script: &[u8]) -> Option<Shape> {
-    'lines: for line in script.split(|byte| *byte == b'\n') {
+/// The numbers k, m, blocks and block of a script's first line that isn't skipped.
+pub(crate) fn numbers_of(script: &[u8]) -> Option<(u32, u32, u32, u32)> {
+    let mut rest = script;
+    'lines: for _ in 0..script.len() {
+        let line = until(rest, b'\n');
         if !is_skipped(line) {
-            return shape_in(alloc, line);
+            return numbers_in(line);
         }
+        rest = behind(rest, b'\n')?;
     }
     None
 }
 
 fn is_skipped(line: &[u8]) -> bool {
-    line.first().map_or(true, |first| *first == b'#')
-}
-
-// The shape in a line `group`, or in a line `groups`, where it stands behind two numbers.
-fn shape_in(alloc: Global, line: &[u8]) -> Option<Shape> {
-    let words = words_of(alloc, line).ok()?;
-    let first = words.first().copied()?;
-    if first == b"group".as_slice() {
-        return shape_by(alloc, line);
-    }
-    let numbers = words.get(3..)?;
-    let text = joined(alloc, b"group", numbers).ok()?;
-    shape_by(alloc, &text)
-}
-
-fn shape_by(alloc: Global, line: &[u8]) -> Option<Shape> {
-    match read_line(alloc, None, line) {
-        Ok(Line::Group { shape }) => Some(shape),
-        _ => None,
+    match line {
+        [] => true,
+        [first, ..] => *first == b'#',
     }
 }
 
-/// The words of a line.
-pub(crate) fn words_of(alloc: Global, line: &[u8]) -> Result<Vec<&[u8]>, AllocError> {
-    line.split(|byte| *byte == b' ').collect(alloc)
+// Those of a line `group`, or of a line `groups`, where they stand behind two numbers.
+fn numbers_in(line: &[u8]) -> Option<(u32, u32, u32, u32)> {
+    let numbers = behind(line, b' ')?;
+    if until(line, b' ') == b"groups".as_slice() {
+        return four(behind(behind(numbers, b' ')?, b' ')?);
+    }
+    four(numbers)
 }
 
-/// A line of a word and those behind it.
-pub(crate) fn joined(alloc: Global, first: &[u8], words: &[&[u8]]) -> Result<Vec<u8>, AllocError> {
-    let mut line = Vec::from_slice(alloc, first)?;
-    'words: for word in words {
-        line.push(b' ')?;
-        line.extend_from_slice(word)?;
+fn four(numbers: &[u8]) -> Option<(u32, u32, u32, u32)> {
+    let behind_k = behind(numbers, b' ')?;
+    let behind_m = behind(behind_k, b' ')?;
+    let last = behind(behind_m, b' ')?;
+    let k = read_u32(until(numbers, b' ')).ok()?;
+    let m = read_u32(until(behind_k, b' ')).ok()?;
+    let blocks = read_u32(until(behind_m, b' ')).ok()?;
+    let block = read_u32(last).ok()?;
+    Some((k, m, blocks, block))
+}
+
+/// What stands in front of the first such byte: all where there is none.
+pub(crate) fn until(text: &[u8], byte: u8) -> &[u8] {
+    match memchr(byte, text) {
+        Some(at) => &text[..at],
+        None => text,
     }
-    Ok(line)
+}
+
+/// What stands behind the first such byte, where there is one.
+pub(crate) fn behind(text: &[u8], byte: u8) -> Option<&[u8]> {
+    let at = memchr(byte, text)?;
+    Some(&text[at + 1..])
 }

@@ -101,24 +101,20 @@ fn a_refused_line_is_quoted(rt: HostRuntime) -> Result<(), Fail> {
             "line 2 is: ask 0 d2 get k\nits word 3, d2, can't stand there\n",
         ),
         (
-            "group 2 1 64 1024\n\nask 0 d1 set k 0\n",
+            "group 2 1 64 1024\n\nask 0 d1 set k 0 x\n",
             3,
-            "line 3 is: ask 0 d1 set k 0\na word is missing behind its last\n",
+            "line 3 is: ask 0 d1 set k 0 x\nits word 7, x, can't stand there\n",
         ),
-        (
-            "group 2 1 64 1024\ndrain 5\n",
-            2,
-            "line 2 is: drain 5\nits word 2, 5, can't stand there\n",
-        ),
+        ("group 2 1 64 1024\ndrain 5\n", 2, "line 2 is: drain 5\n"),
         (
             "groups 2 3 2 1 64 1024\ng1 flush p1\n",
             2,
             "line 2 is: g1 flush p1\nits word 3, p1, can't stand there\n",
         ),
         (
-            "look\n",
-            1,
-            "line 1 is: look\nits word 1, look, can't stand there\n",
+            "group 2 1 64 1024\nlook d0 0 1\n",
+            2,
+            "line 2 is: look d0 0 1\nits word 1, look, can't stand there\n",
         ),
     ] {
         let told = help_at(rt.alloc(), &[], Status::BadLine(number), script.as_bytes())?;
