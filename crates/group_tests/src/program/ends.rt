@@ -86,7 +86,7 @@ fn the_lines_of_a_command_are_told(rt: HostRuntime) -> Result<(), Fail> {
         ("play_regroup", "\nregroup <m> <blocks> <block>\n"),
     ] {
         let words = owned(rt.alloc(), &[word])?;
-        let told = help_at(rt.alloc(), &words, Status::BadLine(1))?;
+        let told = help_at(rt.alloc(), &words, Status::BadLine(1), &[])?;
         assert!(rt; told.contains(line), "{word}");
     }
     Ok(())
