@@ -1,4 +1,4 @@
-ghost use Rattle.std.specs.Prelude.{◌≡◌, ℕ, ◌+◌, ◌^◌, ◌≤◌, Bool, false, List, [], Option, IfOk, IfSome, OnOk};
+ghost use Rattle.std.specs.Prelude.{◌≡◌, ℕ, ◌+◌, ◌^◌, ◌≤◌, Bool, false, List, [], Option, Some, IfOk, IfSome, OnErr, OnOk};
 ghost use Rattle.edge_io.specs.Faults.{HasCause};
 ghost use Rattle.edge_io.specs.Connections.{handed_out, IsOverAfter, TakesNext, StaysToCome};
 
@@ -26,12 +26,17 @@ pub trait Listener {
     // The connections to come, where they are told, each by the bytes that its source will give.
     ghost to_come: { Self → Option (List (List ℕ)) };
 
+    // The address at which it listens, as it was asked for, where it does.
+    ghost at: { Self → Option (List ℕ) };
+
     // What listening at an address made of a listener: before, the address, after.
     ghost listened: { Self → List ℕ → Self → Type 0 };
 
-    /// Listens at `address`.
+    /// Listens at `address`, and no more where it did before.
     fn listen(&mut self, address: &str) -> Result<(), Failed>
         ensures begun { OnOk result (listened self.old address.now self.new) }
+        ensures at { OnOk result (at self.new ≡ Some address.now) }
+        ensures at_before { OnErr result (at self.new ≡ at self.old) }
         ensures limit { accepted self.new ≤ 2 ^ 62 }
         ensures none_accepted { accepted self.new ≡ accepted self.old }
         ensures same_end { over self.new ≡ over self.old }
@@ -42,6 +47,7 @@ pub trait Listener {
     /// that no further connection comes, and `Failed` leaves those to come.
     fn accept(&mut self) -> Result<Option<(Self::Incoming, Self::Outgoing)>, Failed>
         ensures limit { accepted self.new ≤ 2 ^ 62 }
+        ensures same_at { at self.new ≡ at self.old }
         ensures count { accepted self.new ≡ accepted self.old + handed_out result }
         ensures end { IsOverAfter (over self.old) (over self.new) result }
         ensures next { TakesNext (to_come self.old) (to_come self.new) (λ c. (Self.Incoming.input c.0).left) result }

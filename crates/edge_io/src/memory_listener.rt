@@ -3,6 +3,7 @@ use crate::calls::Calls;
 use crate::fault::Failed;
 use crate::listener::Listener;
 use crate::memory_source::MemorySource;
+use crate::past::Past;
 use crate::shared_sink::SharedSink;
 use std::alloc::{AllocError, Global};
 use std::collections::VecDeque;
@@ -16,6 +17,7 @@ const MOST_CONNECTIONS: u64 = 1 << 62;
 /// `accept` fail by their number, counted together, and take no memory.
 #[derive(Drop)]
 pub struct MemoryListener {
+    at: Option<Past>,
     to_come: VecDeque<Arrival>,
     buffers: Vec<Arc<Mutex<Vec<u8>>>>,
     accepted: u64,
@@ -25,17 +27,18 @@ pub struct MemoryListener {
 
 impl Model for MemoryListener {
     ghost use Rattle.std.specs.Prelude.{◌≡◌, ◌+◌, ◌^◌, ◌≤◌, [], true, length};
+    ghost use Rattle.std.specs.Option.{option_map};
     ghost use Rattle.edge_io.specs.Arrivals.{Arrivals};
 
     ghost Value = { Arrivals };
 
-    ghost view = { λ l. record { to_come = l.to_come.items; accepted = l.accepted; over = l.over; calls = l.calls } };
+    ghost view = { λ l. record { at = option_map (λ p. p.bytes) l.at; to_come = l.to_come.items; accepted = l.accepted; over = l.over; calls = l.calls } };
 
     ghost invariant = { λ l. (l.accepted + length l.to_come.items ≤ 2 ^ 62) × (l.over ≡ true → l.to_come.items ≡ []) };
 }
 
 impl MemoryListener {
-    ghost use Rattle.std.specs.Prelude.{◌≡◌, ℕ, map, IfOk, false, Vec};
+    ghost use Rattle.std.specs.Prelude.{◌≡◌, ℕ, map, IfOk, None, false, Vec};
     ghost use Rattle.std.specs.Global.{Global};
 
     /// A listener to which these connections come, each given by the bytes that a client sends. The calls of
@@ -46,6 +49,7 @@ impl MemoryListener {
         failing: &[u64],
     ) -> Result<MemoryListener, AllocError>
         ensures { IfOk result (λ l. l ≡ record {
+          at = None;
           to_come = map (λ (c : Vec ℕ Global). c.items) connections.items;
           accepted = 0;
           over = false;
@@ -63,6 +67,7 @@ impl MemoryListener {
             to_come.push_back(Arrival::new(alloc, bytes, sink)?)?;
         }
         Ok(MemoryListener {
+            at: None,
             to_come,
             buffers,
             accepted: 0,
@@ -104,16 +109,19 @@ impl Listener for MemoryListener {
 
     ghost to_come = { λ l. Some l.to_come };
 
-    ghost listened = { λ before _ after. after ≡ after_listen before };
+    ghost at = { λ l. l.at };
+
+    ghost listened = { λ before address after. after ≡ after_listen before address };
 
     fn listen(&mut self, address: &str) -> Result<(), Failed>
-        ensures becomes { self.new ≡ after_listen self.old }
+        ensures becomes { self.new ≡ after_listen self.old address.now }
         ensures limit { self.new.accepted ≤ 2 ^ 62 }
         ensures fails { is_err result ≡ fails_next self.old.calls }
         ensures cause { HasCause self.old.calls.faults self.new.calls.faults result }
     {
-        let _ = address;
-        self.calls.count_next()
+        self.calls.count_next()?;
+        self.at = Some(Past::of(address.as_bytes()));
+        Ok(())
     }
 
     fn accept(&mut self) -> Result<Option<(MemorySource, SharedSink)>, Failed>

@@ -1,7 +1,8 @@
 ghost use Rattle.std.specs.Prelude.{◌≡◌, ◌^◌, ◌≤◌, None};
+ghost use Rattle.std.specs.Option.{option_map};
 
 use crate::accepting::{Ends, accept_from, fill_reserve};
-use crate::listening::listen_at;
+use crate::listening::{Bound, listen_at};
 use edge_io::{Failed, Listener, ReadEdge, WriteEdge};
 use mio::Poll;
 use std::io;
@@ -17,7 +18,7 @@ const MOST_CONNECTIONS: u64 = 1 << 62;
 #[derive(Drop)]
 pub struct TcpEdge<N> {
     net: N,
-    listener: Option<TcpListener>,
+    listener: Option<Bound>,
     reserve: Option<TcpListener>,
     accepted: u64,
     faults: u64,
@@ -64,7 +65,7 @@ impl<N> TcpEdge<N> {
     /// The port that was bound, for a person to read: an error where there is none.
     pub fn local_addr(&self) -> io::Result<SocketAddr> {
         match &self.listener {
-            Some(listener) => listener.local_addr(),
+            Some(listener) => listener.port.local_addr(),
             None => Err(io::Error::from(ErrorKind::NotConnected)),
         }
     }
@@ -76,6 +77,7 @@ impl<N> TcpEdge<N> {
         ensures rose { Rose self.old.faults self.new.faults }
         ensures error { self.new.last_error ≡ Some error }
         ensures accepted { self.new.accepted ≡ self.old.accepted }
+        ensures listener { self.new.listener ≡ self.old.listener }
     {
         self.faults = self.faults.saturating_add(1);
         self.last_error = Some(error);
@@ -87,6 +89,7 @@ impl<N> TcpEdge<N> {
         ensures few { OnOk result (self.old.accepted < 2 ^ 62) }
         ensures accepted { self.new.accepted ≡ self.old.accepted }
         ensures faults { self.new.faults ≡ self.old.faults }
+        ensures listener { self.new.listener ≡ self.old.listener }
     {
         if self.accepted >= MOST_CONNECTIONS {
             return Err(io::Error::from(ErrorKind::QuotaExceeded));
@@ -94,9 +97,9 @@ impl<N> TcpEdge<N> {
         let Some(listener) = &self.listener else {
             return Err(io::Error::from(ErrorKind::NotConnected));
         };
-        fill_reserve(listener, &mut self.reserve);
-        let next = accept_from(listener, &mut self.reserve);
-        fill_reserve(listener, &mut self.reserve);
+        fill_reserve(&listener.port, &mut self.reserve);
+        let next = accept_from(&listener.port, &mut self.reserve);
+        fill_reserve(&listener.port, &mut self.reserve);
         next
     }
 }
@@ -113,6 +116,7 @@ impl<N: Net> TcpEdge<N> {
     /// The next connection of the port, which is waited for, as one stream whose reads and writes do not wait.
     pub fn accept_stream(&mut self) -> Result<mio::net::TcpStream, Failed>
         ensures limit { self.new.accepted ≤ 2 ^ 62 }
+        ensures listener { self.new.listener ≡ self.old.listener }
         ensures accepts { OnOk result (self.new.accepted ≡ self.old.accepted + 1) }
         ensures none { OnErr result (self.new.accepted ≡ self.old.accepted) }
         ensures cause { HasCause self.old.faults self.new.faults result }
@@ -129,7 +133,7 @@ impl<N: Net> TcpEdge<N> {
 }
 
 impl<N: Net> Listener for TcpEdge<N> {
-    ghost use Rattle.std.specs.Prelude.{◌≡◌, ◌+◌, ◌^◌, ◌≤◌, ◌≢◌, None, false, [], IfOk, OnOk, IsSome, IfSome, is_err, if◌then◌else◌};
+    ghost use Rattle.std.specs.Prelude.{◌≡◌, ◌+◌, ◌^◌, ◌≤◌, ◌≢◌, None, Some, false, [], IfOk, OnErr, OnOk, IsSome, IfSome, is_err, if◌then◌else◌};
     ghost use Rattle.edge_io.specs.Connections.{handed_out};
     ghost use Rattle.edge_io.specs.Faults.{HasCause, raised};
 
@@ -145,10 +149,15 @@ impl<N: Net> Listener for TcpEdge<N> {
 
     ghost to_come = { λ _. None };
 
+    ghost at = { λ l. option_map (λ b. b.at.bytes) l.listener };
+
     ghost listened = { λ _ _ after. IsSome after.listener };
 
     fn listen(&mut self, address: &str) -> Result<(), Failed>
         ensures begun { OnOk result (IsSome self.new.listener) }
+        ensures at { OnOk result (option_map (λ b. b.at.bytes) self.new.listener ≡ Some address.now) }
+        ensures no_other { OnOk result (self.new.reserve ≡ None) }
+        ensures at_before { OnErr result (self.new.listener ≡ self.old.listener) }
         ensures limit { self.new.accepted ≤ 2 ^ 62 }
         ensures none_accepted { self.new.accepted ≡ self.old.accepted }
         ensures cause { HasCause self.old.faults self.new.faults result }
@@ -157,6 +166,7 @@ impl<N: Net> Listener for TcpEdge<N> {
         match listen_at(&self.net, address) {
             Ok(listener) => {
                 self.listener = Some(listener);
+                self.reserve = None;
                 Ok(())
             }
             Err(error) => Err(self.fail(error)),
@@ -165,6 +175,7 @@ impl<N: Net> Listener for TcpEdge<N> {
 
     fn accept(&mut self) -> Result<Option<(ReadEdge<TcpStream>, WriteEdge<TcpStream>)>, Failed>
         ensures limit { self.new.accepted ≤ 2 ^ 62 }
+        ensures listener { self.new.listener ≡ self.old.listener }
         ensures never_over { IfOk result (λ next. next ≢ None) }
         ensures accepts { self.new.accepted ≡ self.old.accepted + handed_out result }
         ensures unread { IfOk result (λ o. IfSome o (λ c. (c.0.past.bytes ≡ []) × (c.0.ended ≡ false))) }
