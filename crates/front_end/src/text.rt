@@ -8,7 +8,8 @@ ghost use Rattle.front_end.specs.Turns.{is_reply, last_text};
 use crate::end::ConnectionFault;
 use edge_io::{Sink, write_all};
 use group_types::Key;
-use memc_proto::{CallEnd, end_of_items, write_reply};
+use memc_proto::{CallEnd, end_of_items, plain_text, write_reply};
+use memc_table::Reply;
 use std::alloc::Global;
 
 /// Writes the text of the end of the call on the last key of a get, and `END` behind it where it is a reply.
@@ -23,6 +24,9 @@ pub(crate) fn write_last<K: Sink>(
     ensures part { HasWritten (K.held sink.old) (K.held sink.new) (last_text key.now with_cas end.now) }
     ensures cause { HasSinkCause (K.faults sink.old) (K.faults sink.new) result }
 {
+    if let CallEnd::Reply(Reply::Miss) = end {
+        return write_text(sink, end_of_items());
+    }
     let mut text = Vec::from(write_reply(alloc, key, with_cas, end)?);
     if is_reply(end) {
         text.extend_from_slice(end_of_items())?;
@@ -49,6 +53,9 @@ pub(crate) fn write_end<K: Sink>(
     ensures part { HasWritten (K.held sink.old) (K.held sink.new) (end_text key.now with_cas end.now) }
     ensures cause { HasSinkCause (K.faults sink.old) (K.faults sink.new) result }
 {
+    if let Some(text) = plain_text(end) {
+        return write_text(sink, text);
+    }
     let text = write_reply(alloc, key, with_cas, end)?;
     write_text(sink, text.bytes())
 }

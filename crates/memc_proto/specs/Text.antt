@@ -1,4 +1,4 @@
-use Rattle.std.specs.Prelude.{ℕ, Bool, true, false, List, [], ◌∷◌, ◌++◌, codes, length}
+use Rattle.std.specs.Prelude.{ℕ, Bool, true, false, List, [], ◌∷◌, ◌++◌, codes, length, ⊤}
 use Rattle.std.specs.Fmt.{decimal}
 use Rattle.memc_table.specs.declared.reply.Item.{Item}
 use Rattle.memc_table.specs.declared.reply.Reply.{Reply}
@@ -48,6 +48,12 @@ end_text key with_cas call.NoSpace = line (codes "SERVER_ERROR out of memory sto
 end_text key with_cas call.Down = line (codes "SERVER_ERROR group down")
 end_text key with_cas call.Worn = line (codes "SERVER_ERROR group worn")
 end_text key with_cas call.Moves = line (codes "SERVER_ERROR group moves")
+
+-- an end whose text isn't the same for every call: it hands out an item or a number
+abbrev pub HasOwnText : CallEnd → Type 0
+HasOwnText (call.Reply (reply.Value _)) = ⊤
+HasOwnText (call.Reply (reply.Number _)) = ⊤
+HasOwnText _ = ⊥
 
 -- the end of an order that a process fail
 abbrev pub fail_text : FailEnd → List ℕ

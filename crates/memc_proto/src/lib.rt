@@ -24,6 +24,6 @@ pub use end::{CallEnd, FailEnd};
 pub use key_list::KeyList;
 pub use reader::Reader;
 pub use reply_text::{
-    end_of_items, fail_text, refusal_text, too_long_text, version_text, write_reply,
+    end_of_items, fail_text, plain_text, refusal_text, too_long_text, version_text, write_reply,
 };
 pub use request::{Refusal, Request, Requests, Word};

@@ -1,12 +1,48 @@
-ghost use Rattle.std.specs.Prelude.{◌≡◌, ◌++◌, [], length, IfOk};
+ghost use Rattle.std.specs.Prelude.{◌≡◌, ◌++◌, ℕ, Bool, List, [], length, IfNone, IfOk, IfSome};
 ghost use Rattle.std.specs.String.{string_bytes};
-ghost use Rattle.memc_proto.specs.Text.{end_text, reply_text, item_text, fail_text, refusal_text, version_text, end_of_items, too_long_text, cas_text, next_number, line};
+ghost use Rattle.memc_proto.specs.declared.end.CallEnd.TheVariants as call;
+ghost use Rattle.memc_proto.specs.Text.{HasOwnText, end_text, reply_text, item_text, fail_text, refusal_text, version_text, end_of_items, too_long_text, cas_text, next_number, line};
 
 use crate::end::{CallEnd, FailEnd};
 use crate::request::Refusal;
 use group_types::{ByteList, Key};
 use memc_table::{Item, Reply};
 use std::alloc::{AllocError, Global};
+
+/// The text of the end of a call, which is the same for every key: of each end but one that hands out an item
+/// or a number. It takes no memory.
+pub fn plain_text(end: &CallEnd) -> Option<&'static [u8]>
+    ensures text { IfSome result (λ text. (key : List ℕ) (with_cas : Bool) → end_text key with_cas end.now ≡ text.now) }
+    ensures none { IfNone result (HasOwnText end.now) }
+{
+    match end {
+        CallEnd::Reply(reply) => plain_reply(reply),
+        CallEnd::NoSpace => Some(b"SERVER_ERROR out of memory storing object\r\n"),
+        CallEnd::Down => Some(b"SERVER_ERROR group down\r\n"),
+        CallEnd::Worn => Some(b"SERVER_ERROR group worn\r\n"),
+        CallEnd::Moves => Some(b"SERVER_ERROR group moves\r\n"),
+    }
+}
+
+fn plain_reply(reply: &Reply) -> Option<&'static [u8]>
+    ensures text { IfSome result (λ text. (key : List ℕ) (with_cas : Bool) → reply_text key with_cas reply.now ≡ text.now) }
+    ensures none { IfNone result (HasOwnText (call.Reply reply.now)) }
+{
+    match reply {
+        Reply::Value(_) | Reply::Number(_) => None,
+        Reply::Miss => Some(b""),
+        Reply::Stored => Some(b"STORED\r\n"),
+        Reply::NotStored => Some(b"NOT_STORED\r\n"),
+        Reply::Exists => Some(b"EXISTS\r\n"),
+        Reply::NotFound => Some(b"NOT_FOUND\r\n"),
+        Reply::Deleted => Some(b"DELETED\r\n"),
+        Reply::Touched => Some(b"TOUCHED\r\n"),
+        Reply::NotNumber => {
+            Some(b"CLIENT_ERROR cannot increment or decrement non-numeric value\r\n")
+        }
+        Reply::TooLarge => Some(b"SERVER_ERROR object too large for cache\r\n"),
+    }
+}
 
 /// The text of the end of one call on a key, without the `END` of a get.
 pub fn write_reply(
@@ -17,41 +53,16 @@ pub fn write_reply(
 ) -> Result<ByteList, AllocError>
     ensures { IfOk result (λ text. text ≡ end_text key.now with_cas end.now) }
 {
-    match end {
-        CallEnd::Reply(reply) => reply_bytes(alloc, key, with_cas, reply),
-        CallEnd::NoSpace => ByteList::of(alloc, b"SERVER_ERROR out of memory storing object\r\n"),
-        CallEnd::Down => ByteList::of(alloc, b"SERVER_ERROR group down\r\n"),
-        CallEnd::Worn => ByteList::of(alloc, b"SERVER_ERROR group worn\r\n"),
-        CallEnd::Moves => ByteList::of(alloc, b"SERVER_ERROR group moves\r\n"),
+    if let Some(text) = plain_text(end) {
+        return ByteList::of(alloc, text);
     }
-}
-
-fn reply_bytes(
-    alloc: Global,
-    key: &Key,
-    with_cas: bool,
-    reply: &Reply,
-) -> Result<ByteList, AllocError>
-    ensures { IfOk result (λ text. text ≡ reply_text key.now with_cas reply.now) }
-{
-    match reply {
-        Reply::Value(item) => item_bytes(alloc, key, with_cas, item),
-        Reply::Miss => ByteList::of(alloc, b""),
-        Reply::Stored => ByteList::of(alloc, b"STORED\r\n"),
-        Reply::NotStored => ByteList::of(alloc, b"NOT_STORED\r\n"),
-        Reply::Exists => ByteList::of(alloc, b"EXISTS\r\n"),
-        Reply::NotFound => ByteList::of(alloc, b"NOT_FOUND\r\n"),
-        Reply::Deleted => ByteList::of(alloc, b"DELETED\r\n"),
-        Reply::Touched => ByteList::of(alloc, b"TOUCHED\r\n"),
-        Reply::Number(number) => {
+    match end {
+        CallEnd::Reply(Reply::Value(item)) => item_bytes(alloc, key, with_cas, item),
+        CallEnd::Reply(Reply::Number(number)) => {
             let text = format!(in alloc; "{number}\r\n")?;
             Ok(ByteList::from(text.into_bytes()))
         }
-        Reply::NotNumber => ByteList::of(
-            alloc,
-            b"CLIENT_ERROR cannot increment or decrement non-numeric value\r\n",
-        ),
-        Reply::TooLarge => ByteList::of(alloc, b"SERVER_ERROR object too large for cache\r\n"),
+        _ => unreachable!(),
     }
 }
 
