@@ -1,11 +1,13 @@
 ghost use Rattle.std.specs.Prelude.{◌≡◌, ◌<◌, ◌≤◌, ◌+◌, ◌^◌, ◌++◌, [], ◌∷◌, if◌then◌else◌, false, Some, length, vec_len, vec_capacity, All, IfOk, IfSome, OnErr};
 ghost use Rattle.group_types.specs.Lists.{at};
+ghost use Rattle.memc_table.specs.declared.reply.Item.{Item};
 ghost use Rattle.memc_table.specs.declared.reply.Reply.{Reply};
+ghost use Rattle.memc_table.specs.declared.reply.Reply.TheVariants.{Value};
 ghost use Rattle.group_calls.specs.Turns.{accepts};
 ghost use Rattle.group_calls.specs.declared.event.Answer.TheVariants as says;
 ghost use Rattle.group_run.specs.Replica.{callers};
 ghost use Rattle.group_run.specs.World.{asked_after, is_issued, logged_at_once, tickets_after};
-ghost use Rattle.group_ledger.specs.Books.{call_in, refusal_in};
+ghost use Rattle.group_ledger.specs.Books.{call_in, refusal_if, refusal_in};
 
 use crate::room::add;
 use crate::tickets::Ticket;
@@ -25,11 +27,29 @@ pub struct NewCall {
 pub fn refusal(answer: &Answer) -> Result<Option<Reply>, AllocError>
     ensures ok { IfOk result (λ reply. reply ≡ refusal_in answer.now) }
     ensures err { OnErr result ((reply : Reply) × (answer.now ≡ says.Reply reply) × (accepts reply ≡ false)) }
+    ensures wanted { OnErr result ((item : Item) × (answer.now ≡ says.Reply (Value item))) }
 {
     match answer {
-        Answer::Reply(reply) if !accepts(reply) => Ok(Some(reply.clone()?)),
+        Answer::Reply(reply) => refusal_of(reply),
         _ => Ok(None),
     }
+}
+
+fn refusal_of(reply: &Reply) -> Result<Option<Reply>, AllocError>
+    ensures ok { IfOk result (λ copy. copy ≡ refusal_if (accepts reply.now) reply.now) }
+    ensures err { OnErr result (accepts reply.now ≡ false) }
+    ensures wanted { OnErr result ((item : Item) × (reply.now ≡ Value item)) }
+{
+    Ok(match reply {
+        Reply::Stored | Reply::Deleted | Reply::Touched | Reply::Number(_) => None,
+        Reply::Value(item) => Some(Reply::Value(item.clone()?)),
+        Reply::Miss => Some(Reply::Miss),
+        Reply::NotStored => Some(Reply::NotStored),
+        Reply::Exists => Some(Reply::Exists),
+        Reply::NotFound => Some(Reply::NotFound),
+        Reply::NotNumber => Some(Reply::NotNumber),
+        Reply::TooLarge => Some(Reply::TooLarge),
+    })
 }
 
 // Whether it accepts an update.
