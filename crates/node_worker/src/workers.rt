@@ -45,6 +45,7 @@ where
     ensures only { IfErr result (λ fault. fault ≡ ServeFault.AcceptFault) }
     ensures at_fault { OnErr result ((n : ℕ) × HasAccepted (L.accepted listener.old)
         (L.accepted listener.new) connections n) }
+    ensures same_at { L.at listener.new ≡ L.at listener.old }
 {
     let hall = Hall::new(alloc, port, gate, clock, workers);
     let Accepted { listener: _, end } = serve_in_scope::<
@@ -79,6 +80,7 @@ fn serve_in_scope<
     ensures fault { HasCause (L.faults listener.old) (L.faults result.listener.now) result.end }
     ensures at_fault { OnErr result.end ((n : ℕ) × HasAccepted (L.accepted listener.old)
         (L.accepted result.listener.now) connections n) }
+    ensures same_at { L.at result.listener.now ≡ L.at listener.old }
 {
     thread::scope(
         thread::scope_env(),
@@ -88,7 +90,8 @@ fn serve_in_scope<
                 × IfOk result.end (λ n. HasAccepted (L.accepted listener.entry.now) (L.accepted result.listener.now) connections n)
                 × IfOk result.end (λ n. IsDone connections n (L.over result.listener.now))
                 × HasCause (L.faults listener.entry.now) (L.faults result.listener.now) result.end
-                × OnErr result.end ((n : ℕ) × HasAccepted (L.accepted listener.entry.now) (L.accepted result.listener.now) connections n) }
+                × OnErr result.end ((n : ℕ) × HasAccepted (L.accepted listener.entry.now) (L.accepted result.listener.now) connections n)
+                × (L.at result.listener.now ≡ L.at listener.entry.now) }
         {
             let end = accept_all::<_, R, I, O, Q, L, P, G, T>(
                 rt,
@@ -127,6 +130,7 @@ fn accept_all<
     ensures fault { HasCause (L.faults listener.old) (L.faults listener.new) result }
     ensures at_fault { OnErr result ((n : ℕ) × HasAccepted (L.accepted listener.old)
         (L.accepted listener.new) connections n) }
+    ensures same_at { L.at listener.new ≡ L.at listener.old }
 {
     let mut accepted = 0;
     'connections: for _ in rt.forever() {

@@ -36,6 +36,7 @@ where
     ensures at_ready_fault { L.ready listener.old ≡ true
         → OnErr result (L.accepted listener.new ≡ L.accepted listener.old) }
     ensures want { result ≡ Err ServeFault.Want → listener.new ≡ listener.old }
+    ensures same_at { L.at listener.new ≡ L.at listener.old }
 {
     if listener.is_ready() {
         return serve_ready(rt, alloc, listener, port, workers, connections, clock);

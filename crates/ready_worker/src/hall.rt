@@ -1,4 +1,3 @@
-use crate::crowd::MOST_OPEN;
 use crate::lane::Lane;
 use crate::poll_readiness::PollReadiness;
 use crate::readiness::Readiness;
@@ -40,10 +39,10 @@ impl Hall {
         open
     }
 
-    /// Hands a connection to the worker that has the fewest, or refuses it where too many are open.
-    pub(crate) fn receive<R: Wait>(&self, rt: &R, stream: TcpStream) {
+    /// Hands a connection to the worker that has the fewest, or refuses it where as many are open as may be.
+    pub(crate) fn receive<R: Wait>(&self, rt: &R, stream: TcpStream, most_open: u64) {
         match self.emptiest() {
-            Some(lane) if self.open() < MOST_OPEN => lane.hand(rt, stream),
+            Some(lane) if self.open() < most_open => lane.hand(rt, stream),
             _ => refuse(stream),
         }
     }

@@ -3,6 +3,7 @@ ghost use Rattle.std.specs.Result.{IsErrAnd};
 ghost use Rattle.std.specs.IoError.{error_kind};
 ghost use Rattle.edge_io.specs.Faults.{HasCause};
 
+use crate::crowd::MOST_OPEN;
 use edge_io::{Failed, Listener, MemoryListener};
 use mio::Poll;
 use mio::net::TcpStream;
@@ -28,6 +29,7 @@ pub trait ReadyListener: Listener {
     fn accept_stream(&mut self) -> Result<TcpStream, Failed>
         ensures unsupported { Self.ready self.old ≡ false → IsErr result × (self.new ≡ self.old) }
         ensures stays { Self.ready self.new ≡ Self.ready self.old }
+        ensures same_at { Self.at self.new ≡ Self.at self.old }
         ensures limit { Self.ready self.old ≡ true → Self.accepted self.new ≤ 2 ^ 62 }
         ensures accepts { OnOk result (Self.accepted self.new ≡ Self.accepted self.old + 1) }
         ensures none { OnErr result (Self.accepted self.new ≡ Self.accepted self.old) }
@@ -36,16 +38,20 @@ pub trait ReadyListener: Listener {
     /// Whether the connection that came last took what the next one would need: it is to be told so and let go.
     fn is_full(&self) -> bool;
 
+    /// The most connections that are served at a time: a further one is told so and let go.
+    fn most_open(&self) -> u64;
+
     /// A connection comes when so many others are open.
     fn note_open(&mut self, open: u64)
         ensures ready { Self.ready self.new ≡ Self.ready self.old }
+        ensures same_at { Self.at self.new ≡ Self.at self.old }
         ensures accepted { Self.accepted self.new ≡ Self.accepted self.old }
         ensures over { Self.over self.new ≡ Self.over self.old }
         ensures faults { Self.faults self.new ≡ Self.faults self.old };
 }
 
 impl<N: Net> ReadyListener for TcpEdge<N> {
-    ghost use Rattle.std.specs.Prelude.{true};
+    ghost use Rattle.std.specs.Prelude.{◌≡◌, true};
 
     ghost ready = { λ _. true };
 
@@ -63,6 +69,12 @@ impl<N: Net> ReadyListener for TcpEdge<N> {
 
     fn is_full(&self) -> bool {
         TcpEdge::is_full(self)
+    }
+
+    fn most_open(&self) -> u64
+        ensures { result ≡ 10000 }
+    {
+        MOST_OPEN
     }
 
     fn note_open(&mut self, _open: u64) {}
@@ -88,6 +100,10 @@ impl ReadyListener for MemoryListener {
 
     fn is_full(&self) -> bool {
         false
+    }
+
+    fn most_open(&self) -> u64 {
+        MOST_OPEN
     }
 
     fn note_open(&mut self, _open: u64) {}

@@ -48,6 +48,7 @@ pub fn serve_ready<R: Threads + Wait + Sync, L: ReadyListener, P: Port, T: Clock
     ensures fault { HasCauseOf (L.faults listener.old) (L.faults listener.new) result ServeFault.AcceptFault }
     ensures at_fault { OnErr result (L.accepted listener.new ≡ L.accepted listener.old) }
     ensures want { result ≡ Err ServeFault.Want → listener.new ≡ listener.old }
+    ensures same_at { L.at listener.new ≡ L.at listener.old }
 {
     let Ok(crew) = crew_of(alloc, listener, workers) else {
         return Err(ServeFault::Want);
@@ -107,6 +108,7 @@ fn serve_in_scope<
         (L.faults result.listener.now) result.end ServeFault.AcceptFault }
     ensures at_fault { OnErr result.end (L.accepted result.listener.now ≡ L.accepted listener.old) }
     ensures want { result.end ≡ Err ServeFault.Want → result.listener.now ≡ listener.old }
+    ensures same_at { L.at result.listener.now ≡ L.at listener.old }
 {
     thread::scope(
         thread::scope_env(),
@@ -118,7 +120,8 @@ fn serve_in_scope<
                 × IfOk result.end (λ n. IsDone connections n (L.over result.listener.now))
                 × HasCauseOf (L.faults listener.entry.now) (L.faults result.listener.now) result.end ServeFault.AcceptFault
                 × OnErr result.end (L.accepted result.listener.now ≡ L.accepted listener.entry.now)
-                × (result.end ≡ Err ServeFault.Want → result.listener.now ≡ listener.entry.now) }
+                × (result.end ≡ Err ServeFault.Want → result.listener.now ≡ listener.entry.now)
+                × (L.at result.listener.now ≡ L.at listener.entry.now) }
         {
             start_all::<_, R, Q, P, T>(rt, scope, hall, crew, port, clock);
             let end = accept_by(rt, listener, hall, connections);
@@ -142,6 +145,7 @@ fn accept_by<R: Wait, L: ReadyListener>(
     ensures fault { HasCauseOf (L.faults listener.old) (L.faults listener.new) result ServeFault.AcceptFault }
     ensures at_fault { OnErr result (L.accepted listener.new ≡ L.accepted listener.old) }
     ensures want { result ≡ Err ServeFault.Want → listener.new ≡ listener.old }
+    ensures same_at { L.at listener.new ≡ L.at listener.old }
 {
     if !hall.has_worker() {
         return Err(ServeFault::Want);
@@ -204,6 +208,7 @@ fn accept_all<R: Wait, L: ReadyListener>(
     ensures done { IfOk result (λ n. IsDone connections n (L.over listener.new)) }
     ensures fault { HasCause (L.faults listener.old) (L.faults listener.new) result }
     ensures at_fault { OnErr result (L.accepted listener.new ≡ L.accepted listener.old) }
+    ensures same_at { L.at listener.new ≡ L.at listener.old }
 {
     let pause = Parker::new();
     let mut accepted = 0;
@@ -218,7 +223,7 @@ fn accept_all<R: Wait, L: ReadyListener>(
                 if listener.is_full() {
                     refuse(stream);
                 } else {
-                    hall.receive(rt, stream);
+                    hall.receive(rt, stream, listener.most_open());
                 }
             }
             Err(Failed) if accepted == 0 => return Err(Failed),

@@ -1,4 +1,4 @@
-use crate::crowd::{Crowd, CrowdChange};
+use crate::crowd::{Crowd, CrowdChange, MOST_OPEN};
 use crate::ready_listener::ReadyListener;
 use crate::watch::Watch;
 use edge_io::{Failed, Listener, ReadEdge, WriteEdge};
@@ -69,6 +69,7 @@ impl<'w, N, W: Watch> ToldEdge<'w, N, W> {
 
 impl<N: Net, W: Watch> Listener for ToldEdge<'_, N, W> {
     ghost use Rattle.std.specs.Prelude.{None, false, IsSome};
+    ghost use Rattle.std.specs.Option.{option_map};
 
     type Incoming = ReadEdge<TcpStream>;
 
@@ -81,6 +82,8 @@ impl<N: Net, W: Watch> Listener for ToldEdge<'_, N, W> {
     ghost over = { λ _. false };
 
     ghost to_come = { λ _. None };
+
+    ghost at = { λ l. option_map (λ b. b.at.bytes) l.port.listener };
 
     ghost listened = { λ _ _ after. IsSome after.port.listener };
 
@@ -98,7 +101,7 @@ impl<N: Net, W: Watch> Listener for ToldEdge<'_, N, W> {
 }
 
 impl<N: Net, W: Watch> ReadyListener for ToldEdge<'_, N, W> {
-    ghost use Rattle.std.specs.Prelude.{true};
+    ghost use Rattle.std.specs.Prelude.{◌≡◌, true};
 
     ghost ready = { λ _. true };
 
@@ -118,6 +121,12 @@ impl<N: Net, W: Watch> ReadyListener for ToldEdge<'_, N, W> {
 
     fn is_full(&self) -> bool {
         self.port.is_full()
+    }
+
+    fn most_open(&self) -> u64
+        ensures { result ≡ 10000 }
+    {
+        MOST_OPEN
     }
 
     fn note_open(&mut self, open: u64) {

@@ -37,6 +37,7 @@ impl<N> Unsteady<N> {
 // Its faults stand at the last value of a `u64`.
 impl<N: Net> Listener for Unsteady<N> {
     ghost use Rattle.std.specs.Prelude.{◌-◌, ◌^◌, None, false, ⊤};
+    ghost use Rattle.std.specs.Option.{option_map};
 
     type Incoming = ReadEdge<TcpStream>;
 
@@ -49,6 +50,8 @@ impl<N: Net> Listener for Unsteady<N> {
     ghost over = { λ _. false };
 
     ghost to_come = { λ _. None };
+
+    ghost at = { λ l. option_map (λ b. b.at.bytes) l.port.listener };
 
     ghost listened = { λ _ _ _. ⊤ };
 
@@ -86,6 +89,10 @@ impl<N: Net> ReadyListener for Unsteady<N> {
 
     fn is_full(&self) -> bool {
         self.port.is_full()
+    }
+
+    fn most_open(&self) -> u64 {
+        self.port.most_open()
     }
 
     fn note_open(&mut self, _open: u64) {}

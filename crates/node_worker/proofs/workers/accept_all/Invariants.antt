@@ -1,4 +1,4 @@
-use Rattle.std.proofs.Common.{◌≤◌}
+use Rattle.std.proofs.Common.{◌≡◌, ◌≤◌}
 use Rattle.node_worker.specs.Served.{HasAccepted}
 use Rattle.node_worker.proofs.workers.accept_all.Given as goal
 
@@ -7,3 +7,4 @@ invariant-connections g l =
     (goal.iterator-connections g).can_next l.iterator' × (goal.iterator-connections g).is_finite l.iterator'
     × HasAccepted (g.L.Listener.accepted l.initial.listener) (g.L.Listener.accepted l.listener) l.connections l.accepted
     × (g.L.Listener.faults l.initial.listener ≤ g.L.Listener.faults l.listener)
+    × (g.L.Listener.at l.listener ≡ g.L.Listener.at l.initial.listener)

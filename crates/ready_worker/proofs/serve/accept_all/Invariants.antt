@@ -8,3 +8,4 @@ invariant-connections g l =
     × HasAccepted (g.L.Listener.accepted l.initial.listener) (g.L.Listener.accepted l.listener) l.connections l.accepted
     × (g.L.Listener.faults l.initial.listener ≤ g.L.Listener.faults l.listener)
     × (g.L.ReadyListener.ready l.listener ≡ true)
+    × (g.L.Listener.at l.listener ≡ g.L.Listener.at l.initial.listener)
