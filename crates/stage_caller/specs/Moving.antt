@@ -1,6 +1,6 @@
 -- One move of a call: one call of its seat.
-use Rattle.std.specs.Prelude.{ℕ, ◌≡◌, ◌≢◌, ◌+◌, ◌<◌, ◌++◌, List}
-use Rattle.group_types.specs.Dimensions.{Dimensions}
+use Rattle.std.specs.Prelude.{ℕ, ◌≡◌, ◌≢◌, ◌+◌, ◌-◌, ◌/◌, ◌%◌, ◌<◌, ◌++◌, List}
+use Rattle.group_types.specs.Dimensions.{Dimensions, processes_of}
 use Rattle.group_types.specs.Names.{IsProcess}
 use Rattle.group_types.specs.declared.process.ProcessId.{ProcessId}
 use Rattle.memc_proto.specs.declared.end.CallEnd.TheVariants as ends
@@ -27,6 +27,13 @@ pub record IsLink (s : Dimensions) (sender receiver : ProcessId) : Type 0 where
   pub from : IsProcess s sender
   pub to : IsProcess s receiver
   pub apart : sender ≢ receiver
+
+-- the links of a group in turn: at each place the indices of the two processes
+abbrev pub sender : Dimensions → ℕ → ℕ
+sender s place = place / (processes_of s - 1)
+
+abbrev pub receiver : Dimensions → ℕ → ℕ
+receiver s place = (sender s place + 1 + place % (processes_of s - 1)) % processes_of s
 
 -- a move that may be made at a phase
 abbrev pub CanMake : Dimensions → Phase → Move → Type 0

@@ -60,6 +60,15 @@ impl<'a> StageCaller<'a> {
         )
     }
 
+    /// From now on it takes orders that a process fail where `control` is on.
+    pub fn take_orders(&mut self, control: bool)
+        ensures stage { self.new.stage ≡ self.old.stage }
+        ensures seat { self.new.seat ≡ self.old.seat }
+        ensures control { self.new.control ≡ control }
+    {
+        self.control = control;
+    }
+
     /// The seat, as the calls left it.
     pub fn into_seat(self) -> Seat
         ensures seat { result ≡ self.entry.seat }

@@ -1,4 +1,4 @@
-ghost use Rattle.std.specs.Prelude.{◌≡◌, ◌%◌, ◌+◌, ◌<◌};
+ghost use Rattle.std.specs.Prelude.{◌≡◌, ◌%◌, ◌+◌, ◌<◌, replicate};
 
 use crate::route::Route;
 use group_types::{Partition, Shape};
@@ -15,7 +15,9 @@ pub(crate) struct Heads {
 
 impl Heads {
     /// Each call begins at the data process.
-    pub(crate) fn new() -> Heads {
+    pub(crate) fn new() -> Heads
+        ensures { result.ranks ≡ replicate 16 0 }
+    {
         Heads { ranks: [0; MOST] }
     }
 

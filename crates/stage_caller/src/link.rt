@@ -1,5 +1,6 @@
 ghost use Rattle.std.specs.Prelude.{◌≡◌, ◌≢◌, ◌<◌, IfSome};
-ghost use Rattle.stage_caller.specs.Moving.{IsLink};
+ghost use Rattle.group_types.specs.Names as names;
+ghost use Rattle.stage_caller.specs.Moving.{IsLink, receiver, sender};
 
 use crate::route::Route;
 use group_node::process_at;
@@ -33,7 +34,9 @@ pub(crate) fn near_link(route: &Route, caller: u32, place: u32) -> Option<Link>
 
 /// All links of the group.
 pub(crate) fn any_link(shape: Shape, place: u32) -> Option<Link>
-    ensures { IfSome result (λ link. IsLink shape link.from link.to) }
+    ensures link { IfSome result (λ link. IsLink shape link.from link.to) }
+    ensures from { IfSome result (λ link. link.from ≡ names.process_at shape (sender shape place)) }
+    ensures to { IfSome result (λ link. link.to ≡ names.process_at shape (receiver shape place)) }
 {
     let all = shape.k() + shape.m();
     let others = all - 1;

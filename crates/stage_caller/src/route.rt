@@ -1,5 +1,5 @@
 ghost use Rattle.std.specs.Prelude.{◌≡◌, ◌≤◌, ◌<◌, ◌+◌, ◌%◌, ◌↔◌, IsTrue};
-ghost use Rattle.group_types.specs.Names.{IsProcess};
+ghost use Rattle.group_types.specs.Names.{IsProcess, of_rank};
 
 use group_types::{Partition, ProcessId, Shape};
 
@@ -34,7 +34,8 @@ impl Route {
 
     /// The process of the rank.
     pub(crate) fn server(&self) -> ProcessId
-        ensures { IsProcess self.now.shape result }
+        ensures process { IsProcess self.now.shape result }
+        ensures rank { result ≡ of_rank self.now.partition.0 self.now.rank }
     {
         if self.rank == 0 {
             ProcessId::DataNode(self.partition.0)
@@ -63,6 +64,7 @@ impl Route {
     pub(crate) fn first(&self) -> Route
         ensures shape { result.shape ≡ self.now.shape }
         ensures partition { result.partition ≡ self.now.partition }
+        ensures rank { (result.rank ≡ 0) × (result.begun ≡ 0) }
     {
         Route::at(self.shape, self.partition, 0)
     }
