@@ -1,5 +1,5 @@
 -- What is told of a group that is served by settings, from what became of each step.
-use Rattle.std.proofs.Common.{◌≡◌, ℕ, ◌+◌, min, inl, inr, List, ◌++◌, length, take, Result, Ok, Err, IfOk, OnErr, sym, subst, ◌∙◌, arith}
+use Rattle.std.proofs.Common.{◌≡◌, ℕ, ◌+◌, min, inl, inr, List, ◌++◌, length, take, Option, Some, Result, Ok, Err, IfOk, OnErr, sym, subst, ◌∙◌, arith}
 use Rattle.std.specs.Result.{IsErrAnd}
 use Rattle.std.proofs.Math.Seq.{take-append-add, take-length}
 use Rattle.std.proofs.lemmas.List.{take-append-le, take_min}
@@ -56,31 +56,31 @@ module _ {L : Type 0} (listened : L → List ℕ → L → Type 0) (tells : L �
 
   -- no connection was to come
   pub not-opened : (fault : ServiceFault) (out : Result ℕ ServiceFault) → (tells l_now).accepted ≡ (tells l).accepted
-      → HasNotOpened listened settings held held_now l l_now fault → IsErrAnd out (λ e. e ≡ fault) → Serves out
+      → HasNotOpened listened tells settings held held_now l l_now fault → IsErrAnd out (λ e. e ≡ fault) → Serves out
   not-opened fault (Ok n) same failed is = absurd is
   not-opened fault (Err e) same failed is = subst (λ (f : ServiceFault). Serves (Err f)) (sym is) (by fault failed) where
-    by : (f : ServiceFault) → HasNotOpened listened settings held held_now l l_now f → Serves (Err f)
-    by AcceptFault failed = inl (same, failed)
-    by WriteFault failed = (0, record { middle = l_now; listens = failed.0; accepted = record { count = omega (arith, same); within = λ some. omega arith } }, front held held_now listening (served 0) failed.1)
+    by : (f : ServiceFault) → HasNotOpened listened tells settings held held_now l l_now f → Serves (Err f)
+    by AcceptFault failed = inl (same, failed.0, failed.1)
+    by WriteFault failed = (0, record { middle = l_now; listens = failed.0; at = failed.1; accepted = record { count = omega (arith, same); within = λ some. omega arith } }, front held held_now listening (served 0) failed.2)
     by Want failed = (0, front held held_now listening (served 0) failed)
     by TooLong failed = absurd failed
     by (BadConfig key) failed = absurd failed
     by ReadFault failed = absurd failed
 
   -- connections were to come
-  module _ (middle : L) (held_middle : List ℕ) (listens : listened l settings.address middle) (wrote : Appends held held_middle listening) where
+  module _ (middle : L) (held_middle : List ℕ) (listens : listened l settings.address middle) (at : (tells l_now).at ≡ Some settings.address) (wrote : Appends held held_middle listening) where
     pub opened : (end : Result ℕ ServeFault) (out : Result ℕ ServiceFault)
         → IfOk end (λ n. HasAccepted (tells middle).accepted (tells l_now).accepted settings.connections n) → IfOk end (λ n. IsDone settings.connections n (tells l_now).over)
         → OnErr end ((n : ℕ) × HasAccepted (tells middle).accepted (tells l_now).accepted settings.connections n) → HasReported held_middle held_now end out → Serves out
     opened (Ok n) (Ok m) accepted done fault told = subst (λ (x : ℕ). Serves (Ok x)) (sym told.0)
-        (record { middle = middle; listens = listens; accepted = accepted }, done, Appends-trans held held_middle held_now listening (served n) wrote told.1)
-    opened (Ok n) (Err WriteFault) accepted done fault told = (n, record { middle = middle; listens = listens; accepted = accepted }, behind held held_middle held_now listening (served n) wrote told)
+        (record { middle = middle; listens = listens; at = at; accepted = accepted }, done, Appends-trans held held_middle held_now listening (served n) wrote told.1)
+    opened (Ok n) (Err WriteFault) accepted done fault told = (n, record { middle = middle; listens = listens; at = at; accepted = accepted }, behind held held_middle held_now listening (served n) wrote told)
     opened (Ok n) (Err Want) accepted done fault told = (n, behind held held_middle held_now listening (served n) wrote told)
     opened (Ok n) (Err AcceptFault) accepted done fault told = absurd told
     opened (Ok n) (Err TooLong) accepted done fault told = absurd told
     opened (Ok n) (Err (BadConfig key)) accepted done fault told = absurd told
     opened (Ok n) (Err ReadFault) accepted done fault told = absurd told
     opened (Err serving.AcceptFault) out accepted done fault told = subst Serves (sym told.0)
-        (inr (fault.0, record { middle = middle; listens = listens; accepted = fault.1 }, subst (λ (h : List ℕ). Appends held h listening) (sym told.1) wrote))
+        (inr (fault.0, record { middle = middle; listens = listens; at = at; accepted = fault.1 }, subst (λ (h : List ℕ). Appends held h listening) (sym told.1) wrote))
     opened (Err serving.Want) out accepted done fault told = subst Serves (sym told.0)
         (0, front held held_now listening (served 0) (all held held_now listening (subst (λ (h : List ℕ). Appends held h listening) (sym told.1) wrote)))

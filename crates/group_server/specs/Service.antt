@@ -1,5 +1,5 @@
 -- What comes of a group that is served by settings: by its end, what was read and written, and what became of the listener.
-use Rattle.std.specs.Prelude.{◌≡◌, ◌⊎◌, ℕ, Bool, List, ◌++◌, codes, Result, Ok, Err}
+use Rattle.std.specs.Prelude.{◌≡◌, ◌⊎◌, ℕ, Bool, List, ◌++◌, codes, Option, Some, Result, Ok, Err}
 use Rattle.std.specs.Fmt.{decimal}
 use Rattle.edge_io.specs.Moving.{Appends, Input}
 use Rattle.edge_io.specs.Writing.{HasWritten}
@@ -18,13 +18,14 @@ listening = codes "listening\n"
 abbrev pub served : ℕ → List ℕ
 served n = codes "served " ++ decimal n ++ codes "\n"
 
--- how many connections a listener handed out, and whether it said that no further one comes
+-- where a listener listens, how many connections it handed out, and whether it said that no further one comes
 pub record Tally : Type 0 where
+  pub at : Option (List ℕ)
   pub accepted : ℕ
   pub over : Bool
 
-abbrev pub tally : ℕ → Bool → Tally
-tally accepted over = record { accepted = accepted; over = over }
+abbrev pub tally : Option (List ℕ) → ℕ → Bool → Tally
+tally at accepted over = record { at = at; accepted = accepted; over = over }
 
 -- the source was read to its end, and its text gives these settings
 pub record HasGiven (before now : Input) (settings : Settings) : Type 0 where
@@ -40,10 +41,11 @@ pub record HasRefused (before now : Input) (key : ConfigKey) : Type 0 where
 
 -- what `listen` tells, and what a listener tells of itself
 module _ {L : Type 0} (listened : L → List ℕ → L → Type 0) (tells : L → Tally) where
-  -- the listener listened at the settings' address, and from there on handed out so many connections
+  -- the listener listened at the settings' address, from there on handed out so many connections, and still listens there alone
   pub record HasHandedOut (settings : Settings) (n : ℕ) (before now : L) : Type 0 where
     pub middle : L
     pub listens : listened before settings.address middle
+    pub at : (tells now).at ≡ Some settings.address
     pub accepted : HasAccepted (tells middle).accepted (tells now).accepted settings.connections n
 
   -- of a group with these settings: what was written and what became of the listener, where it was served to its end,
@@ -52,7 +54,7 @@ module _ {L : Type 0} (listened : L → List ℕ → L → Type 0) (tells : L �
   HasServedBy settings held held_now l l_now (Ok n) =
       HasHandedOut settings n l l_now × IsDone settings.connections n (tells l_now).over × Appends held held_now (listening ++ served n)
   HasServedBy settings held held_now l l_now (Err AcceptFault) =
-      (((tells l_now).accepted ≡ (tells l).accepted) × (held_now ≡ held)) ⊎ ((n : ℕ) × HasHandedOut settings n l l_now × Appends held held_now listening)
+      (((tells l_now).accepted ≡ (tells l).accepted) × ((tells l_now).at ≡ (tells l).at) × (held_now ≡ held)) ⊎ ((n : ℕ) × HasHandedOut settings n l l_now × Appends held held_now listening)
   HasServedBy settings held held_now l l_now (Err WriteFault) = (n : ℕ) × HasHandedOut settings n l l_now × HasWritten held held_now (listening ++ served n)
   HasServedBy settings held held_now l l_now (Err Want) = (n : ℕ) × HasWritten held held_now (listening ++ served n)
   HasServedBy settings held held_now l l_now (Err _) = ⊥

@@ -1,12 +1,12 @@
 -- What comes of each step of serving by settings.
-use Rattle.std.specs.Prelude.{◌≡◌, ℕ, List, Result, Ok, Err, ⊤}
+use Rattle.std.specs.Prelude.{◌≡◌, ℕ, List, Some, Result, Ok, Err, ⊤}
 use Rattle.edge_io.specs.Moving.{Appends, Input}
 use Rattle.edge_io.specs.Writing.{HasWritten}
 use Rattle.group_config.specs.Text.{HasReadTooMuch}
 use Rattle.group_config.specs.declared.settings.Settings.{Settings}
 use Rattle.node_worker.specs.declared.fault.ServeFault.{ServeFault}
 use Rattle.group_server.specs.Faults.{of_serving}
-use Rattle.group_server.specs.Service.{HasGiven, HasRefused, listening, served}
+use Rattle.group_server.specs.Service.{HasGiven, HasRefused, Tally, listening, served}
 use Rattle.group_server.specs.declared.fault.ServiceFault.{ServiceFault}
 use Rattle.group_server.specs.declared.fault.ServiceFault.TheVariants.{TooLong, BadConfig, ReadFault, WriteFault, AcceptFault, Want}
 
@@ -19,12 +19,14 @@ IsGivenOr before now (Err ReadFault) = ⊤
 IsGivenOr before now (Err Want) = ⊤
 IsGivenOr before now (Err _) = ⊥
 
--- why connections cannot come: nothing was written where the listener failed, and a front of the first line where the sink did
-abbrev pub HasNotOpened : {L : Type 0} → (L → List ℕ → L → Type 0) → Settings → List ℕ → List ℕ → L → L → ServiceFault → Type 0
-HasNotOpened listened settings held held_now l l_now AcceptFault = held_now ≡ held
-HasNotOpened listened settings held held_now l l_now WriteFault = listened l settings.address l_now × HasWritten held held_now listening
-HasNotOpened listened settings held held_now l l_now Want = HasWritten held held_now listening
-HasNotOpened listened settings held held_now l l_now _ = ⊥
+-- why connections cannot come: nothing was written where the listener failed, which listens where it did, and a front of the first
+-- line where the sink did
+abbrev pub HasNotOpened : {L : Type 0} → (L → List ℕ → L → Type 0) → (L → Tally) → Settings → List ℕ → List ℕ → L → L → ServiceFault → Type 0
+HasNotOpened listened tells settings held held_now l l_now AcceptFault = ((tells l_now).at ≡ (tells l).at) × (held_now ≡ held)
+HasNotOpened listened tells settings held held_now l l_now WriteFault =
+    listened l settings.address l_now × ((tells l_now).at ≡ Some settings.address) × HasWritten held held_now listening
+HasNotOpened listened tells settings held held_now l l_now Want = HasWritten held held_now listening
+HasNotOpened listened tells settings held held_now l l_now _ = ⊥
 
 -- how serving ended was told: only at its end anything is written
 abbrev pub HasReported : List ℕ → List ℕ → Result ℕ ServeFault → Result ℕ ServiceFault → Type 0

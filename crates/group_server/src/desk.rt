@@ -1,4 +1,4 @@
-ghost use Rattle.std.specs.Prelude.{◌≡◌};
+ghost use Rattle.std.specs.Prelude.{◌≡◌, IfOk, IfSome};
 ghost use Rattle.group_stage.specs.Seated.{AreOf};
 
 use crate::losses::Losses;
@@ -9,11 +9,12 @@ use stage_caller::StageCaller;
 use std::alloc::{AllocError, Global};
 use std::sync::{Mutex, Wait};
 
-/// Lends callers over one stage, each from a seat of its own.
+/// Lends callers over one stage, each from a seat of its own. They take orders that a process fail where `control` is on.
 #[derive(Drop)]
 pub(crate) struct Desk<'d, 'a, R> {
     rt: &'d R,
     losses: &'d Losses,
+    control: bool,
     callers: Mutex<Vec<StageCaller<'a>>>,
 }
 
@@ -28,6 +29,7 @@ impl<'d, 'a, R: Wait> Desk<'d, 'a, R> {
         losses: &'d Losses,
     ) -> Result<Desk<'d, 'a, R>, AllocError>
         requires { AreOf stage.now seats.seats }
+        ensures control { IfOk result (λ desk. desk.control ≡ control) }
     {
         let mut rest = seats;
         let mut callers = Vec::with_capacity(alloc, rest.count() as usize)?;
@@ -37,6 +39,7 @@ impl<'d, 'a, R: Wait> Desk<'d, 'a, R> {
         Ok(Desk {
             rt,
             losses,
+            control,
             callers: Mutex::new(callers),
         })
     }
@@ -52,8 +55,11 @@ impl<R> Desk<'_, '_, R> {
 impl<'d, 'a, R: Wait + Sync> Port for Desk<'d, 'a, R> {
     type Lent = ToldCaller<'d, StageCaller<'a>>;
 
-    fn lend(&self) -> Option<ToldCaller<'d, StageCaller<'a>>> {
-        let caller = self.callers.try_lock()?.pop()?;
+    fn lend(&self) -> Option<ToldCaller<'d, StageCaller<'a>>>
+        ensures control { IfSome result (λ lent. lent.caller.control ≡ self.now.control) }
+    {
+        let mut caller = self.callers.try_lock()?.pop()?;
+        caller.take_orders(self.control);
         Some(ToldCaller::new(caller, self.losses))
     }
 

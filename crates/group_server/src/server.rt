@@ -1,6 +1,6 @@
 ghost use Rattle.std.specs.Prelude.{◌≡◌, ℕ, Err, IfOk, OnErr};
 ghost use Rattle.edge_io.specs.Faults.{HasCauseOf};
-ghost use Rattle.group_server.specs.Serving.{CanServe};
+ghost use Rattle.group_server.specs.Serving.{IsGroupOf};
 ghost use Rattle.node_worker.specs.Served.{HasAccepted, IsDone};
 ghost use Rattle.node_worker.specs.declared.fault.ServeFault.{ServeFault};
 
@@ -9,8 +9,8 @@ use crate::deliverer::Deliverer;
 use crate::desk::Desk;
 use crate::losses::Losses;
 use crate::notice::Notice;
-use crate::orders::Orders;
 use edge_io::Clock;
+use group_config::Settings;
 use group_stage::{Seats, Stage};
 use node_worker::{Gate, ServeFault};
 use ready_worker::{ReadyListener, serve_either};
@@ -19,9 +19,9 @@ use std::sync::Wait;
 use std::thread;
 use std::thread::Threads;
 
-/// Serves the connections of a listener over a group, by so many workers as there are seats but two: until
-/// `connections` of them were accepted, where that isn't 0, or the listener says that none comes. It returns once all
-/// are served. There is want of memory only before the first is accepted.
+/// Serves the connections of a listener over a group by its settings: until as many were accepted as they say, if they say
+/// so, or the listener says that none comes. It returns once all are served. There is want of memory only before the first
+/// is accepted.
 pub fn serve_group<R: Threads + Wait + Sync, L: ReadyListener, G: Gate, N: Notice, T: Clock>(
     rt: &R,
     alloc: Global,
@@ -29,30 +29,30 @@ pub fn serve_group<R: Threads + Wait + Sync, L: ReadyListener, G: Gate, N: Notic
     gate: &G,
     stage: &Stage,
     seats: Seats,
-    orders: Orders<'_, N>,
-    connections: u64,
+    settings: &Settings,
+    notice: &N,
     clock: &T,
 ) -> Result<u64, ServeFault>
 where
     L::Incoming: Drop,
     L::Outgoing: Drop,
-    requires { CanServe stage.now seats.seats }
+    requires { IsGroupOf settings.now stage.now seats.seats }
     ensures accepted { IfOk result (λ n. HasAccepted (L.accepted listener.old)
-        (L.accepted listener.new) connections n) }
-    ensures done { IfOk result (λ n. IsDone connections n (L.over listener.new)) }
+        (L.accepted listener.new) settings.now.connections n) }
+    ensures done { IfOk result (λ n. IsDone settings.now.connections n (L.over listener.new)) }
     ensures fault { HasCauseOf (L.faults listener.old) (L.faults listener.new) result ServeFault.AcceptFault }
     ensures at_fault { OnErr result ((n : ℕ) × HasAccepted (L.accepted listener.old)
-        (L.accepted listener.new) connections n) }
+        (L.accepted listener.new) settings.now.connections n) }
     ensures want { result ≡ Err ServeFault.Want → listener.new ≡ listener.old }
+    ensures same_at { L.at listener.new ≡ L.at listener.old }
 {
     let mut rest = seats;
     let Some(own) = rest.take() else {
         unreachable!()
     };
-    let workers = rest.count() - 1;
     let mut deliverer = Deliverer::new(stage, own);
     let losses = Losses::new(stage.shape().k());
-    match Desk::new(rt, alloc, stage, rest, orders.taken, &losses) {
+    match Desk::new(rt, alloc, stage, rest, settings.control, &losses) {
         Ok(desk) => serve_beside(
             rt,
             alloc,
@@ -60,9 +60,8 @@ where
             gate,
             &mut deliverer,
             &desk,
-            orders.notice,
-            workers,
-            connections,
+            settings,
+            notice,
             clock,
         ),
         Err(_) => Err(ServeFault::Want),
@@ -77,40 +76,29 @@ fn serve_beside<R: Threads + Wait + Sync, L: ReadyListener, G: Gate, N: Notice, 
     gate: &G,
     deliverer: &mut Deliverer<'_>,
     desk: &Desk<'_, '_, R>,
+    settings: &Settings,
     notice: &N,
-    workers: u32,
-    connections: u64,
     clock: &T,
 ) -> Result<u64, ServeFault>
 where
     L::Incoming: Drop,
     L::Outgoing: Drop,
+    requires { desk.now.control ≡ settings.now.control }
     ensures accepted { IfOk result (λ n. HasAccepted (L.accepted listener.old)
-        (L.accepted listener.new) connections n) }
-    ensures done { IfOk result (λ n. IsDone connections n (L.over listener.new)) }
+        (L.accepted listener.new) settings.now.connections n) }
+    ensures done { IfOk result (λ n. IsDone settings.now.connections n (L.over listener.new)) }
     ensures fault { HasCauseOf (L.faults listener.old) (L.faults listener.new) result ServeFault.AcceptFault }
     ensures at_fault { OnErr result ((n : ℕ) × HasAccepted (L.accepted listener.old)
-        (L.accepted listener.new) connections n) }
+        (L.accepted listener.new) settings.now.connections n) }
     ensures want { result ≡ Err ServeFault.Want → listener.new ≡ listener.old }
+    ensures same_at { L.at listener.new ≡ L.at listener.old }
 {
     let bell = Bell::new();
     // Where no thread can be made the first of the two runs last, and the bell has rung.
     let ((), end) = thread::join_mut(
         rt,
         &mut || deliverer.run(rt, &bell, desk.losses(), notice),
-        &mut || {
-            serve_and_ring(
-                rt,
-                alloc,
-                listener,
-                gate,
-                &bell,
-                desk,
-                workers,
-                connections,
-                clock,
-            )
-        },
+        &mut || { serve_and_ring(rt, alloc, listener, gate, &bell, desk, settings, clock) },
     );
     end
 }
@@ -123,21 +111,22 @@ fn serve_and_ring<R: Threads + Wait + Sync, L: ReadyListener, G: Gate, T: Clock>
     gate: &G,
     bell: &Bell,
     desk: &Desk<'_, '_, R>,
-    workers: u32,
-    connections: u64,
+    settings: &Settings,
     clock: &T,
 ) -> Result<u64, ServeFault>
 where
     L::Incoming: Drop,
     L::Outgoing: Drop,
     ensures accepted { IfOk result (λ n. HasAccepted (L.accepted listener.old)
-        (L.accepted listener.new) connections n) }
-    ensures done { IfOk result (λ n. IsDone connections n (L.over listener.new)) }
+        (L.accepted listener.new) settings.now.connections n) }
+    ensures done { IfOk result (λ n. IsDone settings.now.connections n (L.over listener.new)) }
     ensures fault { HasCauseOf (L.faults listener.old) (L.faults listener.new) result ServeFault.AcceptFault }
     ensures at_fault { OnErr result ((n : ℕ) × HasAccepted (L.accepted listener.old)
-        (L.accepted listener.new) connections n) }
+        (L.accepted listener.new) settings.now.connections n) }
     ensures want { result ≡ Err ServeFault.Want → listener.new ≡ listener.old }
+    ensures same_at { L.at listener.new ≡ L.at listener.old }
 {
+    let (workers, connections) = (settings.workers, settings.connections);
     let end = serve_either(rt, alloc, listener, desk, gate, workers, connections, clock);
     bell.ring();
     end

@@ -1,4 +1,4 @@
-ghost use Rattle.std.specs.Prelude.{◌≡◌, IfErr, IfOk, OnOk};
+ghost use Rattle.std.specs.Prelude.{◌≡◌, IfErr, IfOk, OnOk, Some};
 ghost use Rattle.edge_io.specs.Faults.{HasCauseOf};
 ghost use Rattle.edge_io.specs.Moving.{Appends};
 ghost use Rattle.group_config.specs.Keys.{HasWorkers};
@@ -8,7 +8,6 @@ ghost use Rattle.group_server.specs.Steps.{HasNotOpened, HasReported, IsGivenOr}
 
 use crate::fault::ServiceFault;
 use crate::notice::Notice;
-use crate::orders::Orders;
 use crate::server::serve_group;
 use edge_io::{Clock, Sink, Source, write_all};
 use group_config::{ConfigFault, Settings, find_served, read_settings, read_text};
@@ -34,7 +33,7 @@ pub fn serve<R: Threads + Wait + Sync, S: Source, K: Sink, L: ReadyListener, N: 
 where
     L::Incoming: Drop,
     L::Outgoing: Drop,
-    ensures served { HasServedGroup L.listened (λ l. tally (L.accepted l) (L.over l))
+    ensures served { HasServedGroup L.listened (λ l. tally (L.at l) (L.accepted l) (L.over l))
         (S.input source.old) (S.input source.new) (K.held sink.old) (K.held sink.new) listener.old listener.new result }
     ensures read { HasCauseOf (S.faults source.old) (S.faults source.new) result ServiceFault.ReadFault }
     ensures write { HasCauseOf (K.faults sink.old) (K.faults sink.new) result ServiceFault.WriteFault }
@@ -91,7 +90,7 @@ where
     L::Incoming: Drop,
     L::Outgoing: Drop,
     requires { HasWorkers settings.now.workers }
-    ensures served { HasServedBy L.listened (λ l. tally (L.accepted l) (L.over l)) settings.now
+    ensures served { HasServedBy L.listened (λ l. tally (L.at l) (L.accepted l) (L.over l)) settings.now
         (K.held sink.old) (K.held sink.new) listener.old listener.new result }
     ensures write { HasCauseOf (K.faults sink.old) (K.faults sink.new) result ServiceFault.WriteFault }
     ensures accept { HasCauseOf (L.faults listener.old) (L.faults listener.new) result ServiceFault.AcceptFault }
@@ -100,18 +99,7 @@ where
     let (stage, seats) = Stage::new(alloc, settings.shape, settings.workers + 2)?;
     open(settings, sink, listener, notice)?;
     let end = serve_group(
-        rt,
-        alloc,
-        listener,
-        &OpenGate,
-        &stage,
-        seats,
-        Orders {
-            taken: settings.control,
-            notice,
-        },
-        settings.connections,
-        clock,
+        rt, alloc, listener, &OpenGate, &stage, seats, settings, notice, clock,
     );
     report(alloc, sink, end)
 }
@@ -124,10 +112,11 @@ fn open<K: Sink, L: ReadyListener, N: Notice>(
     notice: &N,
 ) -> Result<(), ServiceFault>
     ensures listens { OnOk result (L.listened listener.old settings.now.address listener.new) }
+    ensures at { OnOk result (L.at listener.new ≡ Some settings.now.address) }
     ensures written { OnOk result (Appends (K.held sink.old) (K.held sink.new) listening) }
     ensures accepted { L.accepted listener.new ≡ L.accepted listener.old }
-    ensures failed { IfErr result (HasNotOpened L.listened settings.now (K.held sink.old) (K.held sink.new)
-        listener.old listener.new) }
+    ensures failed { IfErr result (HasNotOpened L.listened (λ l. tally (L.at l) (L.accepted l) (L.over l)) settings.now
+        (K.held sink.old) (K.held sink.new) listener.old listener.new) }
     ensures write { HasCauseOf (K.faults sink.old) (K.faults sink.new) result ServiceFault.WriteFault }
     ensures accept { HasCauseOf (L.faults listener.old) (L.faults listener.new) result ServiceFault.AcceptFault }
 {

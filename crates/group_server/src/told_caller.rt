@@ -13,8 +13,12 @@ pub(crate) struct ToldCaller<'l, C> {
 }
 
 impl<'l, C: Drop> ToldCaller<'l, C> {
+    ghost use Rattle.std.specs.Prelude.{◌≡◌};
+
     /// Notes them there.
-    pub(crate) fn new(caller: C, losses: &'l Losses) -> ToldCaller<'l, C> {
+    pub(crate) fn new(caller: C, losses: &'l Losses) -> ToldCaller<'l, C>
+        ensures { result.caller ≡ caller }
+    {
         ToldCaller { caller, losses }
     }
 
