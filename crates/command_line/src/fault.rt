@@ -28,7 +28,8 @@ impl From<AllocError> for WordsFault {
 
 /// What a parse that failed says of its words.
 pub(crate) fn fault_of(error: &Error) -> WordsFault
-    ensures { result ≡ WordsFault.BadWords → kind_of error.now ≢ kind.OutOfMemory }
+    ensures bad { result ≡ WordsFault.BadWords → kind_of error.now ≢ kind.OutOfMemory }
+    ensures want { result ≡ WordsFault.Want → kind_of error.now ≡ kind.OutOfMemory }
 {
     match error.kind() {
         ErrorKind::OutOfMemory => WordsFault::Want,

@@ -9,6 +9,7 @@ use Rattle.edge_io.proofs.Moving.{Appends-nil, Appends-trans}
 use Rattle.scenario_play.specs.Ends.{HasPlayedScript, HasRead, HasTreated}
 use Rattle.scenario_play.specs.Language.{Language, told_in}
 use Rattle.scenario_play.specs.Outside.{EndsWith, Outside, StopsWithin, TellsFront}
+use Rattle.scenario_play.specs.Part.{IsPlayedInPart}
 use Rattle.scenario_play.specs.Played.{IsPlayed, IsWritten}
 use Rattle.scenario_play.specs.Player.{HasPlayed}
 use Rattle.scenario_play.specs.Status.{HasFaultOf, IsEarly, IsRefusal, IsTold, IsUnread, TellsOfScript, last_line, longest_script}
@@ -41,13 +42,17 @@ all-written before now text bytes = record { count = length text; bytes = subst 
 pub nothing-told : (held : List ℕ) (status : Status) → TellsFront held held status
 nothing-told held status = record { said = status; whose = inl refl; written = nothing-written held held (last_line status) refl }
 
+pub in-part : (transcript : List ℕ → List ℕ) (script before now : List ℕ) → IsPlayedInPart transcript script before now → HasWritten before now (transcript script)
+in-part transcript script before now (inl left) = left.written script left.rest left.cut
+in-part transcript script before now (inr part) = record { count = part.count; bytes = part.bytes }
+
 -- what was read to its end and then played
 module _ (l : Language) (a b : Outside) (text : List ℕ) (within : length text ≤ longest_script) (taken : Takes a.input b.input text) (met : IsEnded b.input) where
   treated : (result : Result (Unit {0}) Status) → HasPlayedScript l text a b result → HasTreated l a b result
   treated result ends = record { script = text; taken = taken; few = omega (arith, within); ends = ends }
 
   abbrev Played : Result (Unit {0}) Status → Type 0
-  Played result = HasPlayed a.held b.held a.writes b.writes (l.transcript text) (l.verdict text) result
+  Played result = HasPlayed a.held b.held a.writes b.writes l.transcript text (l.verdict text) result
 
   pub treated-done : (done : Unit {0}) → Played (Ok done) → HasTreated l a b (Ok done)
   treated-done done played = treated (Ok done) (told-short l text within ∙ played.0, met, played.1)
@@ -112,24 +117,24 @@ read-fault input now read_before read_now writes (Refused n) read = tt
 read-fault input now read_before read_now writes (BadConfig key) read = tt
 read-fault input now read_before read_now writes AcceptFault read = tt
 
-pub play-fault : (held held_now : List ℕ) (read_before read_now written_before written_now : ℕ) (text : List ℕ) (verdict status : Status)
-    → HasPlayed held held_now written_before written_now text verdict (Err status) → HasFaultOf read_before read_now written_before written_now status
-play-fault held held_now read_before read_now written_before written_now text verdict WriteFault played = played.0
-play-fault held held_now read_before read_now written_before written_now text verdict ReadFault played = absurd played.0
-play-fault held held_now read_before read_now written_before written_now text verdict BadWords played = absurd played.0
-play-fault held held_now read_before read_now written_before written_now text verdict Done played = tt
-play-fault held held_now read_before read_now written_before written_now text verdict (BadLine n) played = tt
-play-fault held held_now read_before read_now written_before written_now text verdict (BadShape f) played = tt
-play-fault held held_now read_before read_now written_before written_now text verdict (BadCount c) played = tt
-play-fault held held_now read_before read_now written_before written_now text verdict TooLong played = tt
-play-fault held held_now read_before read_now written_before written_now text verdict Want played = tt
-play-fault held held_now read_before read_now written_before written_now text verdict Cut played = tt
-play-fault held held_now read_before read_now written_before written_now text verdict LineTooLong played = tt
-play-fault held held_now read_before read_now written_before written_now text verdict Worn played = tt
-play-fault held held_now read_before read_now written_before written_now text verdict (BadFrame n) played = tt
-play-fault held held_now read_before read_now written_before written_now text verdict (Refused n) played = tt
-play-fault held held_now read_before read_now written_before written_now text verdict (BadConfig key) played = tt
-play-fault held held_now read_before read_now written_before written_now text verdict AcceptFault played = tt
+pub play-fault : (held held_now : List ℕ) (read_before read_now written_before written_now : ℕ) (transcript : List ℕ → List ℕ) (text : List ℕ) (verdict status : Status)
+    → HasPlayed held held_now written_before written_now transcript text verdict (Err status) → HasFaultOf read_before read_now written_before written_now status
+play-fault held held_now read_before read_now written_before written_now transcript text verdict WriteFault played = played.0
+play-fault held held_now read_before read_now written_before written_now transcript text verdict ReadFault played = absurd played.0
+play-fault held held_now read_before read_now written_before written_now transcript text verdict BadWords played = absurd played.0
+play-fault held held_now read_before read_now written_before written_now transcript text verdict Done played = tt
+play-fault held held_now read_before read_now written_before written_now transcript text verdict (BadLine n) played = tt
+play-fault held held_now read_before read_now written_before written_now transcript text verdict (BadShape f) played = tt
+play-fault held held_now read_before read_now written_before written_now transcript text verdict (BadCount c) played = tt
+play-fault held held_now read_before read_now written_before written_now transcript text verdict TooLong played = tt
+play-fault held held_now read_before read_now written_before written_now transcript text verdict Want played = tt
+play-fault held held_now read_before read_now written_before written_now transcript text verdict Cut played = tt
+play-fault held held_now read_before read_now written_before written_now transcript text verdict LineTooLong played = tt
+play-fault held held_now read_before read_now written_before written_now transcript text verdict Worn played = tt
+play-fault held held_now read_before read_now written_before written_now transcript text verdict (BadFrame n) played = tt
+play-fault held held_now read_before read_now written_before written_now transcript text verdict (Refused n) played = tt
+play-fault held held_now read_before read_now written_before written_now transcript text verdict (BadConfig key) played = tt
+play-fault held held_now read_before read_now written_before written_now transcript text verdict AcceptFault played = tt
 
 -- a status that was told is the one at the end, unless there was no memory
 pub came_from : (s status other : Status) → (status ≡ s) ⊎ (status ≡ Want) → status ≡ other → (other ≡ Want → ⊥) → s ≡ other
@@ -151,6 +156,7 @@ played-done l keeps a b done end = record {
   script = end.script;
   taken = end.taken;
   told = inl (sym end.ends.0);
+  wanted = λ is. absurd (cc is);
   most = end.few;
   too_long = λ is. absurd (cc is);
   long = λ all. absurd (cc (sym end.ends.0 ∙ long-told l end.script all));
@@ -230,7 +236,7 @@ module _ (l : Language) (script : List ℕ) (a b c : Outside) (kept : c.input �
   stops (BadCount n) status early end front = within-all status end.2 (all-written a.held b.held (l.transcript script) end.3) front
   stops WriteFault status early end front = within-all status end.2 end.3 front
   stops Want status early (inl same) front = alone-told status (early tt) same front
-  stops Want status early (inr wrote) front = within-all status wrote.0 wrote.1 front
+  stops Want status early (inr wrote) front = within-all status wrote.0 (in-part l.transcript script a.held b.held wrote.1) front
   stops TooLong status early end front = alone-told status (early tt) end.0 front
   stops ReadFault status early end front = alone-told status (early tt) end.0 front
   stops Done status early end front = absurd end.0
@@ -291,12 +297,33 @@ module _ (l : Language) (script : List ℕ) (a b c : Outside) (kept : c.input �
   too-long : (s : Status) → HasPlayedScript l script a b (Err s) → s ≡ TooLong → length script ≡ 16777217
   too-long s end is = (subst (λ (x : Status). HasPlayedScript l script a b (Err x)) is end).1
 
+  -- where all of the script is done there was no memory before its end
+  within : (s : Status) → HasPlayedScript l script a b (Err s) → (last_line s ≡ [] → Want ≡ s) → told_in l script ≡ Done → (b.held ≡ a.held) ⊎ IsPlayedInPart l.transcript script a.held b.held
+  within (BadLine n) end silent done = absurd (cc (sym done ∙ end.1))
+  within (BadShape f) end silent done = absurd (cc (sym done ∙ end.1))
+  within (BadCount n) end silent done = absurd (cc (sym done ∙ end.1))
+  within TooLong end silent done = inl end.0
+  within ReadFault end silent done = inl end.0
+  within WriteFault end silent done = absurd (cc (silent refl))
+  within Want (inl same) silent done = inl same
+  within Want (inr wrote) silent done = inr wrote.1
+  within Done end silent done = absurd end.0
+  within BadWords end silent done = absurd end.0
+  within Cut end silent done = absurd end.0
+  within LineTooLong end silent done = absurd end.0
+  within Worn end silent done = absurd end.0
+  within (BadFrame n) end silent done = absurd end.0
+  within (Refused n) end silent done = absurd end.0
+  within (BadConfig key) end silent done = absurd end.0
+  within AcceptFault end silent done = absurd end.0
+
   -- the status was told as it is
   same-told : (s : Status) → Takes a.input b.input script → length script ≤ 16777217 → HasPlayedScript l script a b (Err s) → (s ≡ Want) ⊎ Tells s → TellsFront b.held c.held s → IsPlayed l a c s
   same-told s taken few end tells front = record {
     script = script;
     taken = subst (λ (i : Input). Takes a.input i script) (sym kept) taken;
     told = is-told s end;
+    wanted = λ is done. record { middle = b.held; unfinished = within s end (λ none. sym is) done; told = subst (TellsFront b.held c.held) is front };
     most = few;
     too_long = too-long s end;
     long = is-long s end;
@@ -313,11 +340,12 @@ module _ (l : Language) (script : List ℕ) (a b c : Outside) (kept : c.input �
       surely x (inr tells) never = tells
 
   -- there was no memory to tell it
-  want-told : (s : Status) → Takes a.input b.input script → length script ≤ 16777217 → HasPlayedScript l script a b (Err s) → TellsFront b.held c.held Want → IsPlayed l a c Want
-  want-told s taken few end front = record {
+  want-told : (s : Status) → Takes a.input b.input script → length script ≤ 16777217 → HasPlayedScript l script a b (Err s) → (last_line s ≡ [] → Want ≡ s) → TellsFront b.held c.held Want → IsPlayed l a c Want
+  want-told s taken few end silent front = record {
     script = script;
     taken = subst (λ (i : Input). Takes a.input i script) (sym kept) taken;
     told = inr (inl refl);
+    wanted = λ is done. record { middle = b.held; unfinished = within s end silent done; told = front };
     most = few;
     too_long = λ is. absurd (cc is);
     long = λ all. inr refl;
@@ -329,15 +357,15 @@ module _ (l : Language) (script : List ℕ) (a b c : Outside) (kept : c.input �
     bytes = stops s Want (λ early. tt) end front;
   }
 
-  pub played-told : (s status : Status) → Takes a.input b.input script → length script ≤ 16777217 → HasPlayedScript l script a b (Err s) → (status ≡ s) ⊎ (status ≡ Want) → (status ≡ s → (status ≡ Want) ⊎ Tells s)
+  pub played-told : (s status : Status) → Takes a.input b.input script → length script ≤ 16777217 → HasPlayedScript l script a b (Err s) → (status ≡ s) ⊎ (status ≡ Want) → (last_line s ≡ [] → status ≡ s) → (status ≡ s → (status ≡ Want) ⊎ Tells s)
       → TellsFront b.held c.held status → IsPlayed l a c status
-  played-told s status taken few end (inl is) tells front = subst (IsPlayed l a c) (sym is)
+  played-told s status taken few end (inl is) silent tells front = subst (IsPlayed l a c) (sym is)
       (same-told s taken few end (subst (λ (x : Status). (x ≡ Want) ⊎ Tells s) is (tells is)) (subst (TellsFront b.held c.held) is front))
-  played-told s status taken few end (inr want) tells front = subst (IsPlayed l a c) (sym want) (want-told s taken few end (subst (TellsFront b.held c.held) want front))
+  played-told s status taken few end (inr want) silent tells front = subst (IsPlayed l a c) (sym want) (want-told s taken few end (λ none. sym want ∙ silent none) (subst (TellsFront b.held c.held) want front))
 
 pub told-ended : (l : Language) (a b c : Outside) → c.input ≡ b.input → c.reads ≡ b.reads → a.writes ≤ b.writes → b.writes ≤ c.writes → (s status : Status) → HasTreated l a b (Err s)
-    → (status ≡ s) ⊎ (status ≡ Want) → (status ≡ s → (status ≡ Want) ⊎ EndsWith b.held c.held b.writes c.writes [] (last_line s)) → TellsFront b.held c.held status → IsPlayed l a c status
-told-ended l a b c kept reads later more s status end is tells front = played-told l end.script a b c kept reads later more s status end.taken end.few end.ends is tells front
+    → (status ≡ s) ⊎ (status ≡ Want) → (last_line s ≡ [] → status ≡ s) → (status ≡ s → (status ≡ Want) ⊎ EndsWith b.held c.held b.writes c.writes [] (last_line s)) → TellsFront b.held c.held status → IsPlayed l a c status
+told-ended l a b c kept reads later more s status end is silent tells front = played-told l end.script a b c kept reads later more s status end.taken end.few end.ends is silent tells front
 
 -- what is promised of a language's scripts may be said in other words
 pub promised : (l : Language) (Promise : List ℕ → Type 0) → ((text : List ℕ) → l.Promise text → Promise text) → (a b : Outside) (status : Status) → IsPlayed l a b status
@@ -346,6 +374,7 @@ promised l Promise keeps a b status played = record {
   script = played.script;
   taken = played.taken;
   told = played.told;
+  wanted = played.wanted;
   most = played.most;
   too_long = played.too_long;
   long = played.long;

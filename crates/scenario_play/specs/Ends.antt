@@ -14,6 +14,7 @@ use Rattle.scenario_run.specs.Course.{Goes, Ends, Refused}
 use Rattle.scenario_run.specs.Playing.{Play, PlayNext}
 use Rattle.scenario_play.specs.Language.{Language, told_in}
 use Rattle.scenario_play.specs.Outside.{Outside}
+use Rattle.scenario_play.specs.Part.{IsPlayedInPart}
 use Rattle.scenario_play.specs.Status.{IsRefusal, longest_script}
 use Rattle.scenario_play.specs.declared.status.Status.{Status}
 use Rattle.scenario_play.specs.declared.status.Status.TheVariants.{Done, TooLong, ReadFault, WriteFault, Want}
@@ -74,7 +75,7 @@ HasPlayedScript l script before now (Err TooLong) = (now.held ≡ before.held) �
 HasPlayedScript l script before now (Err ReadFault) = (now.held ≡ before.held) × Rose before.reads now.reads × (length script ≤ longest_script)
 HasPlayedScript l script before now (Err WriteFault) =
     Rose before.writes now.writes × (length script ≤ longest_script) × IsEnded now.input × HasWritten before.held now.held (l.transcript script)
-HasPlayedScript l script before now (Err Want) = (now.held ≡ before.held) ⊎ (IsEnded now.input × HasWritten before.held now.held (l.transcript script))
+HasPlayedScript l script before now (Err Want) = (now.held ≡ before.held) ⊎ (IsEnded now.input × IsPlayedInPart l.transcript script before.held now.held)
 HasPlayedScript l script before now (Err status) =
     IsRefusal status × (told_in l script ≡ status) × IsEnded now.input × Appends before.held now.held (l.transcript script)
 

@@ -1,6 +1,7 @@
 pub mod Ends
 pub mod Language
 pub mod Outside
+pub mod Part
 pub mod Played
 pub mod Player
 pub mod Status

@@ -4,6 +4,7 @@ use Rattle.edge_io.specs.Faults.{Rose}
 use Rattle.edge_io.specs.Moving.{Appends, Input, IsEnded, Takes}
 use Rattle.scenario_play.specs.Language.{Language, told_in}
 use Rattle.scenario_play.specs.Outside.{EndsWith, Outside, StopsWithin, TellsFront}
+use Rattle.scenario_play.specs.Part.{WantsWithin}
 use Rattle.scenario_play.specs.Status.{IsEarly, IsRefusal, IsTold, IsUnread, last_line}
 use Rattle.scenario_play.specs.declared.status.Status.{Status}
 use Rattle.scenario_play.specs.declared.status.Status.TheVariants.{Done, TooLong, Want, WriteFault}
@@ -14,6 +15,7 @@ pub record IsPlayed (l : Language) (before now : Outside) (status : Status) : Ty
   pub script : List ℕ
   pub taken : Takes before.input now.input script
   pub told : IsTold (told_in l script) before.reads now.reads before.writes now.writes status
+  pub wanted : status ≡ Want → told_in l script ≡ Done → WantsWithin l.transcript script before.held now.held
   pub most : length script ≤ 16777217
   pub too_long : status ≡ TooLong → length script ≡ 16777217
   pub long : length script ≡ 16777217 → (status ≡ TooLong) ⊎ (status ≡ Want)

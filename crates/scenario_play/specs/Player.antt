@@ -3,6 +3,7 @@ use Rattle.std.specs.Prelude.{ℕ, ◌≡◌, ◌+◌, ◌⊎◌, List, [], ◌�
 use Rattle.edge_io.specs.Faults.{Rose}
 use Rattle.edge_io.specs.Moving.{Appends}
 use Rattle.edge_io.specs.Writing.{HasWritten}
+use Rattle.scenario_play.specs.Part.{IsPlayedInPart}
 use Rattle.scenario_play.specs.Status.{IsRefusal}
 use Rattle.scenario_play.specs.declared.status.Status.{Status}
 use Rattle.scenario_play.specs.declared.status.Status.TheVariants.{Done, WriteFault, Want}
@@ -43,11 +44,11 @@ HasMetEnd tells n player (Err status) = (tells.text player [] ≡ []) × (tells.
 
 -- lines were treated to the end or to the first that is refused, and what is written for them was written, or a front of
 -- it
-abbrev pub HasPlayed : List ℕ → List ℕ → ℕ → ℕ → List ℕ → Status → Result (Unit {0}) Status → Type 0
-HasPlayed before now faults_before faults_now text verdict (Ok _) = (verdict ≡ Done) × Appends before now text
-HasPlayed before now faults_before faults_now text verdict (Err WriteFault) = Rose faults_before faults_now × HasWritten before now text
-HasPlayed before now faults_before faults_now text verdict (Err Want) = HasWritten before now text
-HasPlayed before now faults_before faults_now text verdict (Err status) = IsRefusal status × (verdict ≡ status) × Appends before now text
+abbrev pub HasPlayed : List ℕ → List ℕ → ℕ → ℕ → (List ℕ → List ℕ) → List ℕ → Status → Result (Unit {0}) Status → Type 0
+HasPlayed before now faults_before faults_now transcript script verdict (Ok _) = (verdict ≡ Done) × Appends before now (transcript script)
+HasPlayed before now faults_before faults_now transcript script verdict (Err WriteFault) = Rose faults_before faults_now × HasWritten before now (transcript script)
+HasPlayed before now faults_before faults_now transcript script verdict (Err Want) = IsPlayedInPart transcript script before now
+HasPlayed before now faults_before faults_now transcript script verdict (Err status) = IsRefusal status × (verdict ≡ status) × Appends before now (transcript script)
 
 -- the bytes in an answer
 abbrev pub text_in : {E Z : Type 0} → Result (Option (Vec ℕ Z)) E → Result (Option (List ℕ)) E

@@ -1,7 +1,7 @@
-ghost use Rattle.std.specs.Prelude.{◌≡◌, ◌≢◌, ◌⊎◌, ◌≤◌, [], length, IfErr, OnOk};
+ghost use Rattle.std.specs.Prelude.{◌≡◌, ◌≢◌, ◌⊎◌, ◌≤◌, [], length, IfErr, OnErr, OnOk};
 ghost use Rattle.edge_io.specs.Moving.{Appends};
 ghost use Rattle.edge_io.specs.Faults.{Rose};
-ghost use Rattle.edge_io.specs.Writing.{HasWritten};
+ghost use Rattle.edge_io.specs.Writing.{HasWritten, HasWrittenPart};
 ghost use Rattle.scenario_run.specs.Lines.{lines_of};
 ghost use Rattle.scenario_play.specs.Ends.{HasTreated};
 ghost use Rattle.scenario_play.specs.Language.{group_scripts, language_of};
@@ -80,7 +80,7 @@ pub(crate) fn play_lines<P: Player, K: Sink>(
     requires short { length text.now ≤ LONGEST_SCRIPT }
     requires ready { P.ready 1 player.old }
     ensures end { HasPlayed (K.held sink.old) (K.held sink.new) (K.faults sink.old) (K.faults sink.new)
-        (P.text player.old (lines_of text.now)) (P.verdict 1 player.old (lines_of text.now)) result }
+        (λ script. P.text player.old (lines_of script)) text.now (P.verdict 1 player.old (lines_of text.now)) result }
     ensures entries { OnOk result (P.entries player.new [] ≡ P.entries player.old (lines_of text.now)) }
     ensures later { K.faults sink.old ≤ K.faults sink.new }
 {
@@ -101,6 +101,7 @@ pub(crate) fn play_lines<P: Player, K: Sink>(
 pub(crate) fn write_text<K: Sink>(sink: &mut K, text: &[u8]) -> Result<(), Status>
     ensures whole { OnOk result (Appends (K.held sink.old) (K.held sink.new) text.now) }
     ensures part { HasWritten (K.held sink.old) (K.held sink.new) text.now }
+    ensures short { OnErr result (HasWrittenPart (K.held sink.old) (K.held sink.new) text.now) }
     ensures later { K.faults sink.old ≤ K.faults sink.new }
     ensures fault { IfErr result (λ status. ((status ≡ Status.WriteFault)
         × Rose (K.faults sink.old) (K.faults sink.new)) ⊎ (status ≡ Status.Want)) }

@@ -12,6 +12,7 @@ pub fn tell<K: Sink>(alloc: Global, sink: &mut K, status: Status) -> Status
     ensures status { (result ≡ status) ⊎ (result ≡ Status.Want) }
     ensures line { result ≡ status → result ≡ Status.Want
         ⊎ EndsWith (K.held sink.old) (K.held sink.new) (K.faults sink.old) (K.faults sink.new) [] (last_line status) }
+    ensures silent { last_line status ≡ [] → result ≡ status }
     ensures front { TellsFront (K.held sink.old) (K.held sink.new) result }
     ensures later { K.faults sink.old ≤ K.faults sink.new }
 {
@@ -31,6 +32,7 @@ fn write_line<K: Sink>(sink: &mut K, status: Status, line: &[u8]) -> Status
     ensures status { (result ≡ status) ⊎ (result ≡ Status.Want) }
     ensures line { (result ≡ Status.Want) ⊎ EndsWith (K.held sink.old) (K.held sink.new) (K.faults sink.old)
         (K.faults sink.new) [] (last_line status) }
+    ensures silent { last_line status ≡ [] → result ≡ status }
     ensures front { TellsFront (K.held sink.old) (K.held sink.new) result }
     ensures later { K.faults sink.old ≤ K.faults sink.new }
 {

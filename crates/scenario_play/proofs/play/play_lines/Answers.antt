@@ -1,10 +1,25 @@
-use Rattle.std.proofs.Common.{◌≡◌, ℕ, List, ◌∷◌, sym, ap, ◌∙◌, subst, arith}
+use Rattle.std.proofs.Common.{◌≡◌, ℕ, List, ◌∷◌, refl, sym, ap, ◌∙◌, subst, arith}
 use Rattle.edge_io.specs.Moving.{Appends}
-use Rattle.edge_io.specs.Writing.{HasWritten}
+use Rattle.edge_io.specs.Writing.{HasWrittenPart}
 use Rattle.scenario_run.specs.Lines.{lines_of}
 use Rattle.scenario_play.specs.Player.{GoesOn, telling}
-use Rattle.scenario_play.proofs.Writing.{Written, Written-more, Written-part, handed-on, part-played, refused-at}
+use Rattle.scenario_play.proofs.Writing.{Treated, Treated-more, Treated-none, Written, Written-more, Written-none, Written-short, handed-on, part-played, refused-at, untreated}
 use Rattle.scenario_play.proofs.play.play_lines.Goals as goal
+
+pub lines-init : goal.lines-init
+lines-init g c =
+    let held : List ℕ = g.K.Sink.held c.args.sink.now in
+    let text : List (List ℕ) → List ℕ = g.P.Player.text c.args.player.now in
+    let lines : List (List ℕ) = lines_of c.args.text.now in
+    record {
+      treated = Treated-none text lines held;
+      written = Written-none held (text lines);
+      verdict = refl;
+      entries = refl;
+      ready = c.requires.ready;
+      within = omega arith;
+      later = omega arith;
+    }
 
 pub lines-preserved : goal.lines-preserved
 lines-preserved g c =
@@ -16,10 +31,15 @@ lines-preserved g c =
     let cut : lines_of c.lines.rest.now ≡ line ∷ rest = c.cut_line.ensures.lines in
     let all : List ℕ = g.P.Player.text c.args.player.now (lines_of c.args.text.now) in
     let held : List ℕ = g.K.Sink.held c.args.sink.now in
+    let wrote : Appends (g.K.Sink.held c.lines.sink) (g.K.Sink.held c.write_text.new.sink) text
+    = subst (λ (xs : List ℕ). Appends (g.K.Sink.held c.lines.sink) (g.K.Sink.held c.write_text.new.sink) xs) c.deref.ensures.value c.in_ok-write_text-in-Some.ensures.whole in
+    let before = λ (xs : List (List ℕ)). Treated (g.P.Player.text c.args.player.now) (lines_of c.args.text.now) held (g.K.Sink.held c.lines.sink) (g.P.Player.text c.lines.player) xs in
     record {
+      treated = Treated-more (g.P.Player.text c.args.player.now) (lines_of c.args.text.now) held (g.K.Sink.held c.lines.sink) (g.K.Sink.held c.write_text.new.sink) (g.P.Player.text c.lines.player)
+          (g.P.Player.text c.treat.new.self) line rest text (subst before cut c.lines.invariant.treated) wrote on.text;
       written = Written-more held (g.K.Sink.held c.lines.sink) (g.K.Sink.held c.write_text.new.sink) text (g.P.Player.text c.treat.new.self rest) all
           (subst (λ (xs : List ℕ). Written held (g.K.Sink.held c.lines.sink) xs all) (ap (g.P.Player.text c.lines.player) cut ∙ on.text rest) c.lines.invariant.written)
-          (subst (λ (xs : List ℕ). Appends (g.K.Sink.held c.lines.sink) (g.K.Sink.held c.write_text.new.sink) xs) c.deref.ensures.value c.in_ok-write_text-in-Some.ensures.whole);
+          wrote;
       verdict = sym (ap (g.P.Player.verdict c.lines.number c.lines.player) cut ∙ on.verdict rest) ∙ c.lines.invariant.verdict;
       entries = sym (ap (g.P.Player.entries c.lines.player) cut ∙ on.entries rest) ∙ c.lines.invariant.entries;
       ready = on.ready;
@@ -35,8 +55,12 @@ returns-in_err-text-clause-end g c =
     let all : List ℕ = g.P.Player.text c.args.player.now (lines_of c.args.text.now) in
     let told = sym (ap (g.P.Player.verdict c.lines.number c.lines.player) cut) ∙ c.lines.invariant.verdict in
     let written = subst (λ (xs : List ℕ). Written (g.K.Sink.held c.args.sink.now) (g.K.Sink.held c.lines.sink) xs all) (ap (g.P.Player.text c.lines.player) cut) c.lines.invariant.written in
-    handed-on _ _ _ _ all _ c.from_residual.result c.in_err-text.field-0.0 c.from_residual.ensures.1
-    (refused-at _ _ _ _ all _ (telling g.P.Player.text g.P.Player.verdict g.P.Player.entries g.P.Player.ready) c.lines.number c.lines.player line rest c.in_err-text.field-0.0 c.in_err-text.ensures told written)
+    let transcript : List ℕ → List ℕ = λ script. g.P.Player.text c.args.player.now (lines_of script) in
+    let before = λ (xs : List (List ℕ)). Treated (g.P.Player.text c.args.player.now) (lines_of c.args.text.now) (g.K.Sink.held c.args.sink.now) (g.K.Sink.held c.lines.sink) (g.P.Player.text c.lines.player) xs in
+    let left = untreated (g.P.Player.text c.args.player.now) c.args.text.now (g.K.Sink.held c.args.sink.now) (g.K.Sink.held c.lines.sink) (g.P.Player.text c.lines.player) line rest
+    (subst before cut c.lines.invariant.treated) in
+    handed-on _ _ _ _ transcript c.args.text.now _ c.from_residual.result c.in_err-text.field-0.0 c.from_residual.ensures.1
+    (refused-at _ _ _ _ transcript c.args.text.now _ (telling g.P.Player.text g.P.Player.verdict g.P.Player.entries g.P.Player.ready) c.lines.number c.lines.player line rest c.in_err-text.field-0.0 c.in_err-text.ensures left told written)
 
 pub returns-in_err-write_text-in-Some-clause-end : goal.returns-in_err-write_text-in-Some-clause-end
 returns-in_err-write_text-in-Some-clause-end g c =
@@ -49,8 +73,9 @@ returns-in_err-write_text-in-Some-clause-end g c =
     let all : List ℕ = g.P.Player.text c.args.player.now (lines_of c.args.text.now) in
     let held : List ℕ = g.K.Sink.held c.args.sink.now in
     let written = ap (g.P.Player.text c.lines.player) cut ∙ on.text rest in
-    let part : HasWritten held (g.K.Sink.held c.write_text.new.sink) all = Written-part held (g.K.Sink.held c.lines.sink) (g.K.Sink.held c.write_text.new.sink) text (g.P.Player.text c.treat.new.self rest) all
+    let part : HasWrittenPart held (g.K.Sink.held c.write_text.new.sink) all = Written-short held (g.K.Sink.held c.lines.sink) (g.K.Sink.held c.write_text.new.sink) text (g.P.Player.text c.treat.new.self rest) all
     (subst (λ (xs : List ℕ). Written held (g.K.Sink.held c.lines.sink) xs all) written c.lines.invariant.written)
-    (subst (HasWritten (g.K.Sink.held c.lines.sink) (g.K.Sink.held c.write_text.new.sink)) c.deref.ensures.value c.write_text.ensures.part) in
-    handed-on _ _ _ _ all _ c.from_residual-in_err-write_text-in-Some.result c.in_err-write_text-in-Some.field-0.0 c.from_residual-in_err-write_text-in-Some.ensures.1
-    (part-played _ _ _ _ all _ _ c.in_err-write_text-in-Some.field-0.0 c.in_err-write_text-in-Some.ensures.fault c.lines.invariant.later part)
+    (subst (HasWrittenPart (g.K.Sink.held c.lines.sink) (g.K.Sink.held c.write_text.new.sink)) c.deref.ensures.value c.in_err-write_text-in-Some.ensures.short) in
+    let transcript : List ℕ → List ℕ = λ script. g.P.Player.text c.args.player.now (lines_of script) in
+    handed-on _ _ _ _ transcript c.args.text.now _ c.from_residual-in_err-write_text-in-Some.result c.in_err-write_text-in-Some.field-0.0 c.from_residual-in_err-write_text-in-Some.ensures.1
+    (part-played _ _ _ _ transcript c.args.text.now _ _ c.in_err-write_text-in-Some.field-0.0 c.in_err-write_text-in-Some.ensures.fault c.lines.invariant.later part)

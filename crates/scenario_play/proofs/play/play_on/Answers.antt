@@ -20,4 +20,4 @@ returns-in-Err-clause-played g c =
     let b : Outside = outside left reads (g.K.Sink.held after.sink) (g.K.Sink.faults after.sink) in
     let told : Outside = outside left reads (g.K.Sink.held c.tell.new.sink) (g.K.Sink.faults c.tell.new.sink) in
     let tells = told-ended (language_of (g.P.Player.text c.args.player.now) (g.P.Player.verdict 1 c.args.player.now)) a b told refl refl c.in-Err.ensures.later c.tell.ensures.later c.in-Err.status c.tell.result c.in-Err.ensures.end in
-    tells c.tell.ensures.status c.tell.ensures.line c.tell.ensures.front
+    tells c.tell.ensures.status c.tell.ensures.silent c.tell.ensures.line c.tell.ensures.front
