@@ -20,10 +20,16 @@ use Rattle.group_program.specs.Session.{HasToldLast, status_of}
 
 -- what is told by the call that writes the last line
 pub has_told : (wanted asked : Status) (before now : Outside) (status : Status) → asked ≡ wanted → (status ≡ asked) ⊎ (status ≡ Want)
-    → (status ≡ asked → (status ≡ Want) ⊎ EndsWith before.held now.held before.writes now.writes [] (last_line asked)) → TellsFront before.held now.held status → HasToldLast wanted before now status
-has_told wanted asked before now status same (inr want) line front = record { is = inr want; line = inl want; front = front }
-has_told wanted asked before now status same (inl is) line front = record {
+    → (last_line asked ≡ [] → status ≡ asked) → (status ≡ asked → (status ≡ Want) ⊎ EndsWith before.held now.held before.writes now.writes [] (last_line asked)) → TellsFront before.held now.held status → HasToldLast wanted before now status
+has_told wanted asked before now status same (inr want) silent line front = record {
+  is = inr want;
+  silent = λ none. silent (ap last_line same ∙ none) ∙ same;
+  line = inl want;
+  front = front;
+}
+has_told wanted asked before now status same (inl is) silent line front = record {
   is = inl (is ∙ same);
+  silent = λ none. is ∙ same;
   line = subst (λ (s : Status). (status ≡ Want) ⊎ EndsWith before.held now.held before.writes now.writes [] (last_line s)) (sym is) (line is);
   front = front;
 }

@@ -21,9 +21,11 @@ status_of end.ReadFault = ReadFault
 status_of end.WriteFault = WriteFault
 status_of end.Want = Want
 
--- this was to be told: it is the status and its last line is written, or there was no memory
+-- this was to be told: it is the status and its last line is written, or there was no memory; a status without a last line
+-- needs none
 pub record HasToldLast (wanted : Status) (before now : Outside) (status : Status) : Type 0 where
   pub is : (status ≡ wanted) ⊎ (status ≡ Want)
+  pub silent : last_line wanted ≡ [] → status ≡ wanted
   pub line : (status ≡ Want) ⊎ EndsWith before.held now.held before.writes now.writes [] (last_line status)
   pub front : TellsFront before.held now.held status
 

@@ -64,7 +64,7 @@ pub fn run_program<
 where
     L::Incoming: Drop,
     L::Outgoing: Drop,
-    ensures ran { HasCarriedOut L.listened (λ l. tally (L.accepted l) (L.over l)) listener.old listener.new
+    ensures ran { HasCarriedOut L.listened (λ l. tally (L.at l) (L.accepted l) (L.over l)) listener.old listener.new
         (command_of (map string_bytes words.now)) (T.moment clock.now)
         (outside (S.input source.old) (S.faults source.old) (K.held sink.old) (K.faults sink.old))
         (outside (S.input source.new) (S.faults source.new) (K.held sink.new) (K.faults sink.new)) result
@@ -76,7 +76,7 @@ where
     ensures era_promises { command_of (map string_bytes words.now) ≡ Some Command.PlayRegroup → result ≡ Status.Done
         → HasPlayedWhole era_scripts (S.input source.old) (S.input source.new) (K.held sink.old) (K.held sink.new) }
     ensures serves { command_of (map string_bytes words.now) ≡ Some Command.Serve → result ≡ Status.Done
-        → HasServedWhole L.listened (λ l. tally (L.accepted l) (L.over l)) listener.old listener.new
+        → HasServedWhole L.listened (λ l. tally (L.at l) (L.accepted l) (L.over l)) listener.old listener.new
         (outside (S.input source.old) (S.faults source.old) (K.held sink.old) (K.faults sink.old))
         (outside (S.input source.new) (S.faults source.new) (K.held sink.new) (K.faults sink.new)) }
     ensures member { (name : Option (List ℕ)) → command_of (map string_bytes words.now) ≡ Some (Command.Member name)
@@ -136,7 +136,7 @@ fn run_command<
 where
     L::Incoming: Drop,
     L::Outgoing: Drop,
-    ensures ran { HasCarriedOut L.listened (λ l. tally (L.accepted l) (L.over l)) listener.old listener.new
+    ensures ran { HasCarriedOut L.listened (λ l. tally (L.at l) (L.accepted l) (L.over l)) listener.old listener.new
         (Some command) (T.moment clock.now)
         (outside (S.input source.old) (S.faults source.old) (K.held sink.old) (K.faults sink.old))
         (outside (S.input source.new) (S.faults source.new) (K.held sink.new) (K.faults sink.new)) result }

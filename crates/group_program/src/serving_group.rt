@@ -32,7 +32,7 @@ pub(crate) fn serve_by_settings<
 where
     L::Incoming: Drop,
     L::Outgoing: Drop,
-    ensures served { IsServed L.listened (λ l. tally (L.accepted l) (L.over l)) listener.old listener.new
+    ensures served { IsServed L.listened (λ l. tally (L.at l) (L.accepted l) (L.over l)) listener.old listener.new
         (outside (S.input source.old) (S.faults source.old) (K.held sink.old) (K.faults sink.old))
         (outside (S.input source.new) (S.faults source.new) (K.held sink.new) (K.faults sink.new)) result }
     ensures named { result ≢ Status.BadWords }

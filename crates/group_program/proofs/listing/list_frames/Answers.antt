@@ -17,5 +17,5 @@ returns-clause-listed g c =
       framed = c.frames-end.ensures.framed;
       kept = refl;
       later = c.frames-end.ensures.later;
-      told = tells c.tell.ensures.status c.tell.ensures.line c.tell.ensures.front;
+      told = tells c.tell.ensures.status c.tell.ensures.silent c.tell.ensures.line c.tell.ensures.front;
     }

@@ -17,5 +17,5 @@ returns-clause-served g c =
       ended = c.session-end.ensures.ended;
       kept = refl;
       later = c.session-end.ensures.later;
-      told = tells c.tell.ensures.status c.tell.ensures.line c.tell.ensures.front;
+      told = tells c.tell.ensures.status c.tell.ensures.silent c.tell.ensures.line c.tell.ensures.front;
     }

@@ -17,5 +17,5 @@ returns-clause-served g c =
       served = c.serve-end.ensures.served;
       kept = refl;
       later = c.serve-end.ensures.write.later;
-      told = tells c.tell.ensures.status c.tell.ensures.line c.tell.ensures.front;
+      told = tells c.tell.ensures.status c.tell.ensures.silent c.tell.ensures.line c.tell.ensures.front;
     }

@@ -17,5 +17,5 @@ returns-clause-judged g c =
       judged = c.verify_text-end.ensures.judged;
       kept = refl;
       later = c.verify_text-end.ensures.later;
-      told = tells c.tell.ensures.status c.tell.ensures.line c.tell.ensures.front;
+      told = tells c.tell.ensures.status c.tell.ensures.silent c.tell.ensures.line c.tell.ensures.front;
     }
