@@ -5,6 +5,6 @@ mod cuts;
 mod door;
 mod ends;
 mod limits;
-mod runs;
+pub(crate) mod runs;
 mod sharing;
 mod turns;

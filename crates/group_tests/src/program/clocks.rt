@@ -1,8 +1,12 @@
 // Connections over a clock that goes on.
 use crate::program::runs::{owned, run_at};
-use edge_io::Clock;
+use edge_io::{Clock, MemoryListener, MemorySink, MemorySource};
+use group_program::{MemberEnd, MemoryMachine, Silent, run_program};
+use std::alloc::{AllocError, Global};
+use std::sync::Wait;
 use std::sync::atomic::{AtomicU64, Ordering};
 use std::test::Fail;
+use std::thread::Threads;
 
 /// A clock that is one second later each time that it is read.
 #[derive(Drop)]
@@ -33,6 +37,46 @@ fn gives_each_call_a_moment_of_its_own(rt: HostRuntime) -> Result<(), Fail> {
         let clock = Ticking(AtomicU64::new(100));
         let told = run_at(&rt, rt.alloc(), &words, input.as_bytes(), &clock)?;
         assert_eq!(rt; told.as_slice(), written.as_bytes());
+    }
+    Ok(())
+}
+
+const SETTINGS: &str =
+    "k = 2\nm = 0\nblocks = 4\nblock = 16\naddress = \"127.0.0.1:11211\"\nworkers = 1\nconnections = 1\n";
+
+/// What the one client of a served group is told at the moments of a clock.
+fn served_at<R: Threads + Wait + Sync>(
+    rt: &R,
+    alloc: Global,
+    says: &str,
+    clock: &Ticking,
+) -> Result<Vec<u8>, AllocError> {
+    let words = owned(alloc, &["serve"])?;
+    let mut source = MemorySource::new(alloc, SETTINGS.as_bytes(), &[])?;
+    let mut sink = MemorySink::new(alloc, &[])?;
+    let mut clients = Vec::new(alloc);
+    clients.push(Vec::from_slice(alloc, says.as_bytes())?)?;
+    let mut listener = MemoryListener::new(alloc, clients, &[])?;
+    run_program(
+        rt,
+        alloc,
+        &words,
+        &mut source,
+        &mut sink,
+        &mut listener,
+        &mut MemoryMachine::new(MemberEnd::Ended),
+        &Silent,
+        clock,
+    );
+    listener.held(alloc, 1)
+}
+
+#[test]
+fn gives_each_call_of_a_served_group_a_moment_of_its_own(rt: HostRuntime) -> Result<(), Fail> {
+    for (says, told) in ROWS {
+        let clock = Ticking(AtomicU64::new(100));
+        let heard = served_at(&rt, rt.alloc(), says, &clock)?;
+        assert_eq!(rt; heard.as_slice(), told.as_bytes());
     }
     Ok(())
 }

@@ -1,7 +1,7 @@
 ghost use Rattle.std.specs.Prelude.{◌≤◌, ◌^◌};
 
 // A listener whose clients hear each other.
-use edge_io::{Failed, Listener, ReadEdge, WriteEdge};
+use edge_io::{Failed, Listener, Past, ReadEdge, WriteEdge};
 use mio::Poll;
 use mio::net::TcpStream;
 use ready_worker::ReadyListener;
@@ -90,6 +90,7 @@ impl Write for Ear {
 /// Hands out its clients, the last first.
 #[derive(Drop)]
 pub(crate) struct Door {
+    at: Option<Past>,
     to_come: Vec<(Mouth, Ear)>,
     accepted: u64,
     over: bool,
@@ -99,6 +100,7 @@ pub(crate) struct Door {
 impl Door {
     pub(crate) fn new(to_come: Vec<(Mouth, Ear)>) -> Door {
         Door {
+            at: None,
             to_come,
             accepted: 0,
             over: false,
@@ -128,11 +130,16 @@ impl ReadyListener for Door {
         false
     }
 
+    fn most_open(&self) -> u64 {
+        MOST
+    }
+
     fn note_open(&mut self, _open: u64) {}
 }
 
 impl Listener for Door {
     ghost use Rattle.std.specs.Prelude.{◌≡◌, None, ⊤};
+    ghost use Rattle.std.specs.Option.{option_map};
 
     type Incoming = ReadEdge<Mouth>;
 
@@ -146,9 +153,12 @@ impl Listener for Door {
 
     ghost to_come = { λ _. None };
 
+    ghost at = { λ l. option_map (λ b. b.bytes) l.at };
+
     ghost listened = { λ _ _ _. ⊤ };
 
-    fn listen(&mut self, _address: &str) -> Result<(), Failed> {
+    fn listen(&mut self, address: &str) -> Result<(), Failed> {
+        self.at = Some(Past::of(address.as_bytes()));
         Ok(())
     }
 

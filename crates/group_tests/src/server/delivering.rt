@@ -1,10 +1,10 @@
 // What callers left behind is delivered by the server.
 ghost use Rattle.group_stage.specs.Seated.{IsOf};
 
-use crate::server::stages::listener;
+use crate::server::stages::{listener, settings_of};
 use edge_io::FixedClock;
 use group_calls::Answer;
-use group_server::{Orders, Silent, serve_group};
+use group_server::{Silent, serve_group};
 use group_stage::{Seat, Stage, StageAnswer};
 use group_types::{Key, Payload, ProcessId, Shape, home};
 use memc_table::{Act, Op};
@@ -114,6 +114,7 @@ fn set(rt: &impl Abort, alloc: Global) -> Op {
 /// Serves no client before the call of a spare seat is settled, and says whether it was.
 fn settles<R: Threads + Wait + Abort + Sync>(rt: &R, alloc: Global) -> bool {
     let shape = Shape::new(4, 2, 1024, 1024).expect(rt, "it is a shape");
+    let settings = settings_of(alloc, shape, 1, 1).expect(rt, "they are settings");
     let (stage, mut seats) = Stage::new(alloc, shape, 4).expect(rt, "there is memory");
     let Some(seat) = seats.take() else {
         unreachable!()
@@ -130,11 +131,8 @@ fn settles<R: Threads + Wait + Abort + Sync>(rt: &R, alloc: Global) -> bool {
         &gate,
         &stage,
         seats,
-        Orders {
-            taken: false,
-            notice: &Silent,
-        },
-        1,
+        &settings,
+        &Silent,
         &FixedClock::new(0),
     );
     let settled = gate.settled.load(Ordering::SeqCst);

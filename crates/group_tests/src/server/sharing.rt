@@ -1,10 +1,10 @@
 ghost use Rattle.group_stage.specs.Seated.{IsOf};
 
 // A caller beside the server reads what a connection stored.
-use crate::server::stages::{STORED, STORES, listener};
+use crate::server::stages::{STORED, STORES, listener, settings_of};
 use edge_io::{FixedClock, MemoryListener};
 use front_end::Caller;
-use group_server::{Orders, Silent, serve_group};
+use group_server::{Silent, serve_group};
 use group_stage::{Seat, Stage};
 use group_types::{Key, Shape};
 use memc_proto::CallEnd;
@@ -49,6 +49,7 @@ fn serve_and_read<R: Threads + Wait + Abort + Sync>(
     clients: &mut MemoryListener,
     shape: Shape,
 ) -> (Result<u64, ServeFault>, Option<u8>) {
+    let settings = settings_of(alloc, shape, 2, 1).expect(rt, "they are settings");
     let (stage, mut seats) = Stage::new(alloc, shape, 5).expect(rt, "there is memory");
     let Some(spare) = seats.take() else {
         unreachable!()
@@ -60,11 +61,8 @@ fn serve_and_read<R: Threads + Wait + Abort + Sync>(
         &OpenGate,
         &stage,
         seats,
-        Orders {
-            taken: false,
-            notice: &Silent,
-        },
-        1,
+        &settings,
+        &Silent,
         &FixedClock::new(0),
     );
     let get = get(rt, alloc);

@@ -1,8 +1,9 @@
 // Groups to serve, and what their clients say.
-ghost use Rattle.std.specs.Prelude.{◌≤◌};
+ghost use Rattle.std.specs.Prelude.{◌≡◌, ◌≤◌, IfOk};
 
 use edge_io::{FixedClock, MemoryListener};
-use group_server::{Orders, Silent, serve_group};
+use group_config::{ConfigFault, Settings, read_settings};
+use group_server::{Silent, serve_group};
 use group_stage::Stage;
 use group_types::Shape;
 use node_worker::{Gate, ServeFault};
@@ -28,6 +29,26 @@ pub fn listener(
     MemoryListener::new(alloc, clients, failing)
 }
 
+/// Settings of a group of this shape with so many workers, which is served until so many connections were accepted.
+pub fn settings_of(
+    alloc: Global,
+    shape: Shape,
+    workers: u32,
+    connections: u64,
+) -> Result<Settings, ConfigFault>
+    ensures shape { IfOk result (λ s. s.shape ≡ shape) }
+    ensures workers { IfOk result (λ s. s.workers ≡ workers) }
+{
+    let mut settings = read_settings(
+        alloc,
+        b"k = 1\nm = 0\nblocks = 16\nblock = 16\naddress = 'here'\n",
+    )?;
+    settings.shape = shape;
+    settings.workers = workers;
+    settings.connections = connections;
+    Ok(settings)
+}
+
 /// A group of this shape with so many seats is served to its clients.
 pub fn serve<R: Threads + Wait + Sync, G: Gate>(
     rt: &R,
@@ -41,6 +62,9 @@ pub fn serve<R: Threads + Wait + Sync, G: Gate>(
     requires some { 3 ≤ seats }
     requires few { seats ≤ 66 }
 {
+    let Ok(settings) = settings_of(alloc, shape, seats - 2, connections) else {
+        return Err(ServeFault::Want);
+    };
     let Ok((stage, all)) = Stage::new(alloc, shape, seats) else {
         return Err(ServeFault::Want);
     };
@@ -51,11 +75,8 @@ pub fn serve<R: Threads + Wait + Sync, G: Gate>(
         gate,
         &stage,
         all,
-        Orders {
-            taken: false,
-            notice: &Silent,
-        },
-        connections,
+        &settings,
+        &Silent,
         &FixedClock::new(0),
     )
 }
