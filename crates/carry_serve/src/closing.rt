@@ -4,6 +4,7 @@ use crate::report::CarryReport;
 use crate::stop::Stop;
 use crate::whole::is_whole;
 use carry_words::{Word, base_at, is_at_rest};
+use std::alloc::AllocError;
 use std::net::Net;
 use std::time;
 
@@ -65,8 +66,8 @@ impl<R: Net + time::Clock, W: CarryReport> Carrying<'_, R, W> {
             let address = self.old.control_at(x);
             match self.ask(address, Word::Status)? {
                 Some(status) => {
-                    rests = self.rests(status.as_slice()) && rests;
-                    self.note_heads_of_old(x, status.as_slice());
+                    rests = self.rests(status.as_slice())? && rests;
+                    self.note_heads_of_old(x, status.as_slice())?;
                 }
                 None => rests = false,
             }
@@ -75,16 +76,17 @@ impl<R: Net + time::Clock, W: CarryReport> Carrying<'_, R, W> {
     }
 
     // Whether the status of a member of the old group says that it is at rest, and that each that doesn't answer is dead.
-    fn rests(&self, status: &[u8]) -> bool {
-        is_at_rest(status) && is_whole(status, self.old.count_there())
+    fn rests(&self, status: &[u8]) -> Result<bool, AllocError> {
+        Ok(is_at_rest(self.alloc, status)? && is_whole(status, self.old.count_there()))
     }
 
-    fn note_heads_of_old(&mut self, x: usize, status: &[u8]) {
+    fn note_heads_of_old(&mut self, x: usize, status: &[u8]) -> Result<(), AllocError> {
         'partitions: for d in 0..self.settings.k as usize {
-            if let Some(base) = base_at(status, d as u64) {
+            if let Some(base) = base_at(self.alloc, status, d as u64)? {
                 self.old.set_head(d, Head { member: x, base });
             }
         }
+        Ok(())
     }
 
     /// Sees who heads the new group's partitions. Its cas numbers have to begin no lower than the old ones end.
@@ -95,7 +97,7 @@ impl<R: Net + time::Clock, W: CarryReport> Carrying<'_, R, W> {
             self.new.note(x, answer.is_some());
             if let Some(status) = answer {
                 'partitions: for d in 0..self.settings.k as usize {
-                    if let Some(base) = base_at(status.as_slice(), d as u64) {
+                    if let Some(base) = base_at(self.alloc, status.as_slice(), d as u64)? {
                         self.new.set_head(d, Head { member: x, base });
                     }
                 }

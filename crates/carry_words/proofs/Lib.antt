@@ -1,3 +1,4 @@
 mod Doing
+mod Lines
 mod Reading
 mod Written
