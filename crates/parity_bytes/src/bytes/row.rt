@@ -1,4 +1,4 @@
-ghost use Rattle.std.specs.Prelude.{◌≡◌, ◌≤◌, ◌<◌, max, nat_lt, length, replicate, None, IfOk, IfSome, OnErr, OnOk};
+ghost use Rattle.std.specs.Prelude.{◌≡◌, ◌≤◌, ◌<◌, max, nat_lt, is_some, false, length, replicate, None, IfOk, IfSome, OnErr, OnOk};
 ghost use Rattle.group_types.specs.Lists.{at};
 ghost use Rattle.group_run.specs.Leaders.{copy_marked};
 ghost use Rattle.group_run.specs.Process.{Process};
@@ -30,6 +30,7 @@ impl ParityBytes {
         requires block { block < self.old.shape.blocks }
         ensures stays { Stays self.old self.new }
         ensures ok { OnOk result (self.new.process ≡ begin_copy self.old.shape leader number block self.old.process) }
+        ensures wanted { OnErr result (is_some (copy_in self.old.process.as_row.copies leader number) ≡ false) }
         ensures err { OnErr result (self.new ≡ self.old) }
     {
         if self.rows.has(leader, number) {
