@@ -1,5 +1,5 @@
 -- What a process does once it knows of a death.
-use Rattle.std.specs.Prelude.{◌≡◌, ◌≤◌, ℕ, suc, not, ◌&&◌, Bool, true, false, List, [], Option, Some, None, is_some, length, map, flat_map}
+use Rattle.std.specs.Prelude.{◌≡◌, ℕ, suc, not, ◌&&◌, Bool, true, false, List, [], Option, Some, None, is_some, length, map, flat_map}
 use Rattle.std.specs.List.{list_all, range_with_len, sum_by}
 use Rattle.group_types.specs.Dimensions.{Dimensions}
 use Rattle.group_types.specs.Lists.{at}
@@ -55,4 +55,4 @@ bereaved dead v = record v { known = with_dead v.known dead }
 pub record IsPrepared (v : Serving) (known : Membership) (heads : List (Option Head)) (room : ℕ) : Type 0 where
   pub known_is : known ≡ v.known
   pub heads_are : heads ≡ heirs v (range_with_len 0 v.shape.k)
-  pub room_is : waiting v.replicas ≤ room
+  pub room_is : room ≡ waiting v.replicas

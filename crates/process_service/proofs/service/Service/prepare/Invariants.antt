@@ -1,4 +1,4 @@
-use Rattle.std.proofs.Common.{◌≡◌, ◌≤◌, ◌-◌, ◌++◌, [], vec_capacity}
+use Rattle.std.proofs.Common.{◌≡◌, ◌-◌, ◌++◌, [], vec_capacity}
 use Rattle.std.specs.List.{range_with_len}
 use Rattle.membership.specs.Members.{with_dead}
 use Rattle.process_service.specs.Noticing.{adoptions, bereaved, heirs, waiting}
@@ -13,5 +13,5 @@ invariant-partitions l = record {
   sent : l.sent.items ++ adoptions (bereaved l.fn.dead l.fn.self) (range_with_len l.d (l.fn.self.shape.k - l.d))
       ≡ l.initial.sent.items ++ adoptions (bereaved l.fn.dead l.fn.self) (range_with_len 0 l.fn.self.shape.k);
   settled : l.notice.settled.items ≡ [];
-  room : waiting l.fn.self.replicas ≤ vec_capacity l.notice.settled;
+  room : vec_capacity l.notice.settled ≡ waiting l.fn.self.replicas;
 }
