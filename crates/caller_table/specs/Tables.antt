@@ -11,7 +11,8 @@ use Rattle.group_calls.specs.Log.{table_of}
 use Rattle.group_calls.specs.Turns.{CallName, entry_of}
 use Rattle.group_run.specs.World.{World, opening}
 use Rattle.front_end.specs.Calls.{Call, Made, Failed, Ways, Leads}
-use Rattle.world_caller.specs.Callers.{GroupCaller, HasCalled, HasGone, IsOrdered}
+use Rattle.world_caller.specs.Behind.{world_ways}
+use Rattle.world_caller.specs.Callers.{GroupCaller, HasCalled}
 
 -- the caller of a connection: its group, whose calls it makes, and whether it takes orders that a process fail
 abbrev pub Caller : Type 0
@@ -19,7 +20,7 @@ Caller = GroupCaller
 
 -- what calls make of a group
 abbrev pub group_ways : Ways GroupCaller
-group_ways = record { made = HasCalled; failed = IsOrdered; kept = HasGone }
+group_ways = world_ways
 
 -- the first caller of a group at its start, with orders taken that a process fail
 abbrev pub fresh : Dimensions → GroupCaller

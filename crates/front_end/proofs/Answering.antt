@@ -5,8 +5,8 @@ use Rattle.edge_io.specs.Writing.{HasWritten}
 use Rattle.memc_proto.specs.declared.request.Request.{Request}
 use Rattle.front_end.specs.Answers.{stand, IsAnswered, IsBroken}
 use Rattle.front_end.specs.Calls.{Call, Ways, Leads}
-use Rattle.front_end.specs.Faults.{StandsAt}
-use Rattle.front_end.specs.Turns.{Due, AreCallsOf, is_replied, dues_of, answer_text}
+use Rattle.front_end.specs.Faults.{CutsNext, StandsAt}
+use Rattle.front_end.specs.Turns.{Due, AreCallsOf, is_replied, dues_behind, dues_of, answer_text}
 use Rattle.front_end.specs.declared.end.ConnectionFault.{ConnectionFault}
 use Rattle.front_end.specs.declared.end.ConnectionFault.TheVariants.{ReadFault, WriteFault, Want}
 
@@ -19,7 +19,7 @@ first-none told (due ∷ dues) = refl
 
 -- nothing of a request was done
 pub broken-none : {C : Type 0} (ways : Ways C) (told : Option ℕ) (before after : C) (held : List ℕ) (fault : ConnectionFault) (request : Request)
-    → StandsAt ways before after fault → IsBroken ways told (stand before held) (stand after held) fault request
+    → StandsAt ways told before (dues_of request) after fault → IsBroken ways told (stand before held) (stand after held) fault request
 broken-none ways told before after held fault request stands = record {
   calls = [];
   first = first-none told (dues_of request);
@@ -30,14 +30,14 @@ broken-none ways told before after held fault request stands = record {
   bytes = Appends-nil held;
 }
 
-pub stands-here : {C : Type 0} (ways : Ways C) (at : C) (fault : ConnectionFault) → StandsAt ways at at fault
-stands-here ways at ReadFault = refl
-stands-here ways at WriteFault = refl
-stands-here ways at Want = inl refl
+pub stands-here : {C : Type 0} (ways : Ways C) (told : Option ℕ) (at : C) (dues : List Due) (fault : ConnectionFault) → StandsAt ways told at dues at fault
+stands-here ways told at dues ReadFault = refl
+stands-here ways told at dues WriteFault = refl
+stands-here ways told at dues Want = inl refl
 
 -- the first call of a request found no memory
-pub broken-wanted : {C : Type 0} (ways : Ways C) (told : Option ℕ) (before after : C) (held : List ℕ) (request : Request) → ways.kept before after → IsBroken ways told (stand before held) (stand after held) Want request
-broken-wanted ways told before after held request kept = broken-none ways told before after held Want request (inr kept)
+pub broken-wanted : {C : Type 0} (ways : Ways C) (told : Option ℕ) (before after : C) (held : List ℕ) (request : Request) → CutsNext ways told before (dues_of request) after → IsBroken ways told (stand before held) (stand after held) Want request
+broken-wanted ways told before after held request cut = broken-none ways told before after held Want request (inr cut)
 
 -- all calls are the first calls
 first-whole : (told : Option ℕ) (dues : List Due) (calls : List Call) → AreCallsOf told true dues calls → AreCallsOf told false dues calls
@@ -65,7 +65,7 @@ written ways told before at held now request calls text (Err fault) are leads is
   first = first-whole told (dues_of request) calls are;
   led = at;
   leads = leads;
-  stands = stands-here ways at fault;
+  stands = stands-here ways told at (dues_behind (dues_of request) calls) fault;
   count = part.count;
   bytes = subst (λ (bs : List ℕ). Appends held now (take part.count bs)) is part.bytes;
 }
@@ -76,4 +76,4 @@ ends-calls false = refl
 
 -- nothing of a request was done, and there was no memory for its call
 pub broken-early : {C : Type 0} (ways : Ways C) (told : Option ℕ) (at : C) (held : List ℕ) (fault : ConnectionFault) (request : Request) → IsBroken ways told (stand at held) (stand at held) fault request
-broken-early ways told at held fault request = broken-none ways told at at held fault request (stands-here ways at fault)
+broken-early ways told at held fault request = broken-none ways told at at held fault request (stands-here ways told at (dues_of request) fault)

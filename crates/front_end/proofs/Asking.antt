@@ -10,7 +10,8 @@ use Rattle.memc_proto.specs.declared.end.CallEnd.{CallEnd}
 use Rattle.memc_proto.specs.declared.request.Request.TheVariants.{Get}
 use Rattle.front_end.specs.Answers.{Stand, stand, IsMade, IsKeyAnswered, IsAnswered, IsBroken}
 use Rattle.front_end.specs.Calls.{Made, Ways}
-use Rattle.front_end.specs.Turns.{Acts, AreCallsOf, is_reply, key_text, get_text}
+use Rattle.front_end.specs.Faults.{StandsAt}
+use Rattle.front_end.specs.Turns.{Acts, AreCallsOf, dues_behind, is_reply, key_text, get_text}
 use Rattle.front_end.specs.declared.end.ConnectionFault.{ConnectionFault}
 use Rattle.front_end.proofs.Answering.{no_calls, first-none, stands-here}
 
@@ -40,7 +41,8 @@ broken-more ways told before middle after fault with_cas key keys first rest = r
   first = (first.is_call, subst (λ (b : Bool). MatchBool b (AreCallsOf told false (map (λ k. Acts (act.Get k)) keys) rest.calls) (rest.calls ≡ [])) first.replied_is rest.first);
   led = rest.led;
   leads = (middle.caller, first.leads, rest.leads);
-  stands = rest.stands;
+  stands = subst (λ (b : Bool). StandsAt ways told rest.led (if b then dues_behind (map (λ k. Acts (act.Get k)) keys) rest.calls else []) after.caller fault)
+      first.replied_is rest.stands;
   count = length (key_text with_cas key first.call) + rest.count;
   bytes = subst (Appends before.held after.held)
       (sym (take-append-add (key_text with_cas key first.call) (get_text with_cas keys rest.calls) rest.count)
@@ -67,7 +69,7 @@ key-broken ways told before after held now fault with_cas key keys end made part
   first = ((made.act_is, made.moment), rest-none told keys (is_reply end));
   led = after;
   leads = (after, made.made, refl);
-  stands = stands-here ways after fault;
+  stands = stands-here ways told after (if is_reply end then map (λ k. Acts (act.Get k)) keys else []) fault;
   count = min part.count (length (end_text key with_cas end));
   bytes = subst (Appends held now) (front_of part.count (end_text key with_cas end) (if is_reply end then get_text with_cas keys [] else [])) part.bytes;
 }

@@ -28,11 +28,29 @@ pub breaks-early : {C : Type 0} (ways : Ways C) (told : Option ℕ) (at : C) (he
 breaks-early ways told at held fault [] some = absurd (some refl)
 breaks-early ways told at held fault (request ∷ others) some = broken-early ways told at held fault request
 
--- there was no memory for the call of the first request that waits
-pub breaks-wanted : {C : Type 0} (ways : Ways C) (told : Option ℕ) (before after : C) (held : List ℕ) (waiting : List Request)
-    → (waiting ≡ [] → ⊥) → ways.kept before after → BreaksAt ways told (stand before held) (stand after held) Want waiting
-breaks-wanted ways told before after held [] some kept = absurd (some refl)
-breaks-wanted ways told before after held (request ∷ others) some kept = broken-wanted ways told before after held request kept
+-- there was no memory for the call that was due
+pub breaks-wanted : {C : Type 0} (ways : Ways C) (told : Option ℕ) (before after : C) (held : List ℕ) (op : Asked) (waiting : List Request)
+    → IsDue told waiting (due.Call op) → ways.kept before op after → BreaksAt ways told (stand before held) (stand after held) Want waiting
+breaks-wanted ways told before after held op [] is kept = absurd is
+breaks-wanted ways told before after held op (Get [] with_cas ∷ others) is kept = absurd (cc is)
+breaks-wanted ways told before after held op (Get (key ∷ keys) with_cas ∷ others) is kept = broken-wanted ways told before after held (Get (key ∷ keys) with_cas) (op, is.0, is.1, kept)
+breaks-wanted ways told before after held op (Change asked noreply ∷ others) is kept = broken-wanted ways told before after held (Change asked noreply) (op, is.0, is.1, kept)
+breaks-wanted ways told before after held op (Fail at keep ∷ others) is kept = absurd (cc is)
+breaks-wanted ways told before after held op (Version ∷ others) is kept = absurd (cc is)
+breaks-wanted ways told before after held op (Quit ∷ others) is kept = absurd (cc is)
+breaks-wanted ways told before after held op (Refused refusal ∷ others) is kept = absurd (cc is)
+
+-- there was none for the order that was due
+pub breaks-unmade : {C : Type 0} (ways : Ways C) (told : Option ℕ) (before after : C) (held : List ℕ) (at : ProcessId) (keep : ℕ) (waiting : List Request)
+    → IsDue told waiting (due.Fail at keep) → ways.unmade before after → BreaksAt ways told (stand before held) (stand after held) Want waiting
+breaks-unmade ways told before after held at keep [] is unmade = absurd is
+breaks-unmade ways told before after held at keep (Get [] with_cas ∷ others) is unmade = absurd (cc is)
+breaks-unmade ways told before after held at keep (Get (key ∷ keys) with_cas ∷ others) is unmade = absurd is
+breaks-unmade ways told before after held at keep (Change asked noreply ∷ others) is unmade = absurd is
+breaks-unmade ways told before after held at keep (Fail process kept ∷ others) is unmade = broken-wanted ways told before after held (Fail process kept) unmade
+breaks-unmade ways told before after held at keep (Version ∷ others) is unmade = absurd (cc is)
+breaks-unmade ways told before after held at keep (Quit ∷ others) is unmade = absurd (cc is)
+breaks-unmade ways told before after held at keep (Refused refusal ∷ others) is unmade = absurd (cc is)
 
 key-steps : {C : Type 0} (ways : Ways C) (told : Option ℕ) (before after : Stand C) (with_cas : Bool) (key more : List ℕ) (keys : List (List ℕ)) (others left : List Request) (replied : Bool)
     → IsKeyAnswered ways told before after with_cas key replied → left ≡ (if not replied then others else Get (more ∷ keys) with_cas ∷ others)

@@ -10,7 +10,7 @@ use Rattle.memc_proto.specs.declared.end.CallEnd.{CallEnd}
 use Rattle.memc_proto.specs.declared.request.Request.{Request}
 use Rattle.front_end.specs.Calls.{Call, Ways, LeadsBy, Leads}
 use Rattle.front_end.specs.Faults.{StandsAt}
-use Rattle.front_end.specs.Turns.{Exchange, Acts, IsMoment, IsCallOf, AreCallsOf, AreWhole, dues_of}
+use Rattle.front_end.specs.Turns.{Exchange, Acts, IsMoment, IsCallOf, AreCallsOf, AreWhole, dues_behind, dues_of}
 use Rattle.front_end.specs.Turns.{is_replied, key_text, answer_text, calls_in, text_in, requests_in}
 use Rattle.front_end.specs.declared.end.ConnectionFault.{ConnectionFault}
 
@@ -56,7 +56,7 @@ module _ {C : Type 0} (ways : Ways C) (told : Option ℕ) where
     pub first : AreCallsOf told false (dues_of request) calls
     pub led : C
     pub leads : Leads ways before.caller calls led
-    pub stands : StandsAt ways led after.caller fault
+    pub stands : StandsAt ways told led (dues_behind (dues_of request) calls) after.caller fault
     pub count : ℕ
     pub bytes : Appends before.held after.held (take count (answer_text request calls))
 

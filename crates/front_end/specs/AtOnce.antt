@@ -27,7 +27,8 @@ module _ {C : Type 0} (ways : Ways C) (later : C → C → Type 0) where
     ways = record {
       made = λ before op end after. HasMade before.caller op end after.caller;
       failed = λ before at keep end after. ways.failed before.caller at keep end after.caller;
-      kept = λ before after. ways.kept before.caller after.caller;
+      kept = λ before op after. ways.kept before.caller op after.caller;
+      unmade = λ before after. ways.unmade before.caller after.caller;
     };
     lent = λ now _. IsSome now.ended;
     opened = λ now _ op began. IsKept now.ended began.caller op now.caller;

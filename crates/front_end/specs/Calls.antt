@@ -10,11 +10,13 @@ pub data Call : Type 0 where
   Made : Asked → CallEnd → Call
   Failed : ProcessId → ℕ → FailEnd → Call
 
--- the relations of a caller, which its trait tells
+-- the relations of a caller, which its trait tells: what a call and an order may come to, and what a call for an op and an order
+-- leave that found no memory
 pub record Ways (C : Type 0) : Type 1 where
   pub made : C → Asked → CallEnd → C → Type 0
   pub failed : C → ProcessId → ℕ → FailEnd → C → Type 0
-  pub kept : C → C → Type 0
+  pub kept : C → Asked → C → Type 0
+  pub unmade : C → C → Type 0
 
 -- a call may lead from one caller to another
 abbrev pub LeadsBy : {C : Type 0} → Ways C → C → Call → C → Type 0

@@ -1,9 +1,11 @@
 -- What a fault of a connection tells.
-use Rattle.std.specs.Prelude.{◌≡◌, ℕ, ◌≤◌, ◌⊎◌, Result, IfErr, ⊤}
+use Rattle.std.specs.Prelude.{◌≡◌, ℕ, ◌≤◌, ◌⊎◌, List, [], ◌∷◌, Option, Result, IfErr, ⊤}
 use Rattle.edge_io.specs.Faults.{Rose}
 use Rattle.edge_io.specs.declared.fault.SinkFault.{SinkFault}
 use Rattle.edge_io.specs.declared.fault.SinkFault.TheVariants as sink
+use Rattle.memc_table.specs.Asked.{Asked}
 use Rattle.front_end.specs.Calls.{Ways}
+use Rattle.front_end.specs.Turns.{Due, Acts, Fails, IsMoment}
 use Rattle.front_end.specs.declared.end.ConnectionFault.{ConnectionFault}
 use Rattle.front_end.specs.declared.end.ConnectionFault.TheVariants.{ReadFault, WriteFault, Want}
 
@@ -23,8 +25,14 @@ pub record HasSinkCause {T : Type 0} (before now : ℕ) (result : Result T Conne
   pub later : before ≤ now
   pub cause : IfErr result (IsOfSink before now)
 
--- the caller stands where its calls led, or a further call found no memory
-abbrev pub StandsAt : {C : Type 0} → Ways C → C → C → ConnectionFault → Type 0
-StandsAt ways led after Want = (after ≡ led) ⊎ ways.kept led after
-StandsAt ways led after WriteFault = after ≡ led
-StandsAt ways led after ReadFault = after ≡ led
+-- the first of the calls that are due found no memory
+abbrev pub CutsNext : {C : Type 0} → Ways C → Option ℕ → C → List Due → C → Type 0
+CutsNext ways told led [] after = ⊥
+CutsNext ways told led (Acts asked ∷ _) after = (op : Asked) × (op.act ≡ asked) × IsMoment told op.moment × ways.kept led op after
+CutsNext ways told led (Fails _ _ ∷ _) after = ways.unmade led after
+
+-- the caller stands where its calls led, or the next of those that are due found no memory
+abbrev pub StandsAt : {C : Type 0} → Ways C → Option ℕ → C → List Due → C → ConnectionFault → Type 0
+StandsAt ways told led dues after Want = (after ≡ led) ⊎ CutsNext ways told led dues after
+StandsAt ways told led dues after WriteFault = after ≡ led
+StandsAt ways told led dues after ReadFault = after ≡ led

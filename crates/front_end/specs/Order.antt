@@ -15,12 +15,14 @@ pub record IsOrder {C : Type 0} (later : C → C → Type 0) : Type 0 where
 pub record LeadsOn {C : Type 0} (ways : Ways C) (later : C → C → Type 0) : Type 0 where
   pub made : (before : C) (op : Asked) (end : CallEnd) (after : C) → ways.made before op end after → later before after
   pub failed : (before : C) (at : ProcessId) (keep : ℕ) (end : FailEnd) (after : C) → ways.failed before at keep end after → later before after
-  pub kept : (before after : C) → ways.kept before after → later before after
+  pub kept : (before : C) (op : Asked) (after : C) → ways.kept before op after → later before after
+  pub unmade : (before after : C) → ways.unmade before after → later before after
 
 -- what the calls of a connection may come to among those of others: each begins where its last one ended, or later
 abbrev pub among : {C : Type 0} → (C → C → Type 0) → Ways C → Ways C
 among {C} later ways = record {
   made = λ last op end after. (before : C) × later last before × ways.made before op end after;
   failed = λ last at keep end after. (before : C) × later last before × ways.failed before at keep end after;
-  kept = λ last after. (before : C) × later last before × ways.kept before after;
+  kept = λ last op after. (before : C) × later last before × ways.kept before op after;
+  unmade = λ last after. (before : C) × later last before × ways.unmade before after;
 }

@@ -52,6 +52,12 @@ AreCallsOf told all [] (_ ∷ _) = ⊥
 AreCallsOf told all (_ ∷ _) [] = all ≡ false
 AreCallsOf told all (due ∷ dues) (call ∷ calls) = IsCallOf told due call × MatchBool (is_replied call) (AreCallsOf told all dues calls) (calls ≡ [])
 
+-- what is due behind calls that were made: nothing behind one that didn't end by a reply
+abbrev pub dues_behind : List Due → List Call → List Due
+dues_behind dues [] = dues
+dues_behind [] (_ ∷ _) = []
+dues_behind (_ ∷ dues) (call ∷ calls) = if is_replied call then dues_behind dues calls else []
+
 -- the text of a call on a key of a get
 abbrev pub key_text : Bool → List ℕ → Call → List ℕ
 key_text with_cas key (Made _ end) = end_text key with_cas end

@@ -9,7 +9,7 @@ use std::alloc::AllocError;
 
 /// Who makes the calls of a connection.
 pub trait Caller {
-    // What a call may come to, what the order that a process fail may come to, and what may stand after want of memory.
+    // What a call may come to, what the order that a process fail may come to, and what each of them may leave at want of memory.
     ghost ways: { Ways Self };
 
     // Whether a caller comes behind another: each behind itself, one behind the other, and after a call behind where it began.
@@ -22,18 +22,18 @@ pub trait Caller {
     /// Makes one call to its end.
     fn call(&mut self, op: &Op) -> Result<CallEnd, AllocError>
         ensures made { IfOk result (λ end. ways.made self.old op.now end self.new) }
-        ensures want { OnErr result (ways.kept self.old self.new) };
+        ensures want { OnErr result (ways.kept self.old op.now self.new) };
 
     /// Lets a process fail, of which each link keeps its first `keep` messages.
     fn fail(&mut self, at: ProcessId, keep: u32) -> Result<FailEnd, AllocError>
         ensures failed { IfOk result (λ end. ways.failed self.old at keep end self.new) }
-        ensures want { OnErr result (ways.kept self.old self.new) };
+        ensures want { OnErr result (ways.unmade self.old self.new) };
 }
 
 /// Makes a call to its end.
 pub(crate) fn make_call<C: Caller>(caller: &mut C, op: Op) -> Result<CallEnd, AllocError>
     ensures made { IfOk result (λ end. C.ways.made caller.old op end caller.new) }
-    ensures want { OnErr result (C.ways.kept caller.old caller.new) }
+    ensures want { OnErr result (C.ways.kept caller.old op caller.new) }
 {
     caller.call(&op)
 }

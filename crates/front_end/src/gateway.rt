@@ -33,7 +33,7 @@ pub trait Gateway {
         ensures full { result ≡ Ok None → self.new ≡ self.old }
         ensures later { rules.later self.old self.new }
         ensures lends_none { OnErr result (LendsNone rules self.old self.new) }
-        ensures want { OnErr result (rules.ways.kept self.old self.new) };
+        ensures want { OnErr result (rules.ways.kept self.old op self.new) };
 
     /// The end of an open call, if it has come. The call is over then, and its caller free.
     fn take_end(&mut self, call: &Self::Call) -> Option<CallEnd>
@@ -51,5 +51,5 @@ pub trait Gateway {
         ensures others { KeepsOpen rules self.old self.new }
         ensures lends { LendsNone rules self.old self.new }
         ensures later { rules.later self.old self.new }
-        ensures want { OnErr result (rules.ways.kept self.old self.new) };
+        ensures want { OnErr result (rules.ways.unmade self.old self.new) };
 }

@@ -7,7 +7,8 @@ abbrev pub told_ways : {C : Type 0} → Ways C → Ways (ToldCaller C)
 told_ways ways = record {
   made = λ before op end after. ways.made before.caller op end after.caller;
   failed = λ before at keep end after. ways.failed before.caller at keep end after.caller;
-  kept = λ before after. ways.kept before.caller after.caller;
+  kept = λ before op after. ways.kept before.caller op after.caller;
+  unmade = λ before after. ways.unmade before.caller after.caller;
 }
 
 abbrev pub told_order : {C : Type 0} (later : C → C → Type 0) → IsOrder later → IsOrder (λ (before after : ToldCaller C). later before.caller after.caller)
@@ -21,5 +22,6 @@ abbrev pub told_onward : {C : Type 0} (ways : Ways C) (later : C → C → Type 
 told_onward ways later onward = record {
   made = λ before op end after is. onward.made before.caller op end after.caller is;
   failed = λ before at keep end after is. onward.failed before.caller at keep end after.caller is;
-  kept = λ before after is. onward.kept before.caller after.caller is;
+  kept = λ before op after is. onward.kept before.caller op after.caller is;
+  unmade = λ before after is. onward.unmade before.caller after.caller is;
 }

@@ -65,13 +65,14 @@ pub record IsMade (began : Gateway) (op : Asked) (end : CallEnd) (after : Gatewa
 abbrev pub IsLater : Gateway → Gateway → Type 0
 IsLater before after = Comes before.member after.member
 
--- the relations of a member's gateway, which takes no orders that a process fail
+-- the relations of a member's gateway, which takes no orders that a process fail; a call that found no memory has changed nothing
 abbrev pub member_rules : Rules Gateway OwnCall
 member_rules = record {
   ways = record {
     made = IsMade;
     failed = λ before at keep end after. (end ≡ Off) × IsLater before after;
-    kept = IsLater;
+    kept = λ before op after. after ≡ before;
+    unmade = λ before after. ⊥;
   };
   lent = IsLent;
   opened = IsOpen;

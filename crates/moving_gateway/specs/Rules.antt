@@ -38,6 +38,10 @@ module _ {G K : Type 0} (inner : Rules G K) where
   abbrev pub IsMade : MovingGateway G → Asked → CallEnd → MovingGateway G → Type 0
   IsMade began op end after = MatchBool (is_refused began op) (HasMoved began end after) (IsPassed began op end after)
 
+  -- what a call left that found no memory: nothing, or what the inner gateway made of it with the base taken off
+  abbrev pub HasLeft : MovingGateway G → Asked → MovingGateway G → Type 0
+  HasLeft before op after = (after ≡ before) ⊎ inner.ways.kept before.inner (op_in before.bases.items before.shape.k op) after.inner
+
   -- a call that began there is open at the inner gateway
   pub record IsOpen (now : MovingGateway G) (call : K) (op : Asked) (began : MovingGateway G) : Type 0 where
     pub passes : is_refused began op ≡ false
@@ -66,7 +70,8 @@ module _ {G K : Type 0} (inner : Rules G K) where
     ways = record {
       made = IsMade;
       failed = λ before at keep end after. inner.ways.failed before.inner at keep end after.inner;
-      kept = λ before after. (after ≡ before) ⊎ inner.ways.kept before.inner after.inner;
+      kept = HasLeft;
+      unmade = λ before after. inner.ways.unmade before.inner after.inner;
     };
     lent = IsLent;
     opened = IsOpened;

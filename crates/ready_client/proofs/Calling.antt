@@ -23,7 +23,7 @@ use Rattle.front_end.specs.declared.end.ConnectionFault.{ConnectionFault}
 use Rattle.front_end.specs.declared.end.ConnectionFault.TheVariants.{Want}
 use Rattle.front_end.specs.declared.end.End.{End}
 use Rattle.front_end.proofs.Serving.{goes_on-none}
-use Rattle.front_end.proofs.Settling.{breaks-early, breaks-wanted, call-steps, call-breaks, order-steps, order-breaks, text-steps, text-breaks}
+use Rattle.front_end.proofs.Settling.{breaks-early, breaks-unmade, breaks-wanted, call-steps, call-breaks, order-steps, order-breaks, text-steps, text-breaks}
 use Rattle.ready_client.specs.Coming.{Comes, HasComeTo, HasCall, IsUnderWay, KeepsCall, needs_call}
 use Rattle.ready_client.proofs.Coming.{more, halts, under-of}
 use Rattle.ready_client.proofs.Telling.{settled, told-of, part}
@@ -124,14 +124,25 @@ wants-first rules told input input_now first now before held was calling calling
     (under-of (among rules.later rules.ways) told input input_now (stand first before) (stand come.last held) was some come.come)
     (breaks-early (among rules.later rules.ways) told come.last held Want was.waiting some) (record { later = omega arith; cause = tt }))
 
--- there was none for a call or an order
-pub wants-call : {G K : Type 0} (rules : Rules G K) → IsOrder rules.later → (told : Option ℕ) (input input_now : Input) (first now next : G) (before held : List ℕ) (was : Progress) (calling calling_now : Option K) → was.waiting ≢ [] → calling_now ≡ None → rules.ways.kept now next
+-- there was none for the call that is due
+pub wants-call : {G K : Type 0} (rules : Rules G K) → IsOrder rules.later → (told : Option ℕ) (input input_now : Input) (first now next : G) (before held : List ℕ) (was : Progress) (calling calling_now : Option K) (op : Asked)
+    → IsDue told was.waiting (due.Call op) → calling_now ≡ None → rules.ways.kept now op next
     → Comes rules told input input_now first before now held was calling None → Comes rules told input input_now first before next held was calling_now (Some (Err Want))
-wants-call rules order told input input_now first now next before held was calling calling_now some none kept come =
+wants-call rules order told input input_now first now next before held was calling calling_now op is none kept come =
     comes-to rules order told input input_now first next before held was calling_now (Some (Err Want)) none
     (halts (among rules.later rules.ways) told input input_now (stand first before) (stand come.last held) (stand next held) was 0 0 Want
-    (under-of (among rules.later rules.ways) told input input_now (stand first before) (stand come.last held) was some come.come)
-    (breaks-wanted (among rules.later rules.ways) told come.last next held was.waiting some (now, come.later, kept)) (record { later = omega arith; cause = tt }))
+    (under-of (among rules.later rules.ways) told input input_now (stand first before) (stand come.last held) was (due-some told was.waiting (due.Call op) is) come.come)
+    (breaks-wanted (among rules.later rules.ways) told come.last next held op was.waiting is (now, come.later, kept)) (record { later = omega arith; cause = tt }))
+
+-- there was none for the order that is due
+pub wants-order : {G K : Type 0} (rules : Rules G K) → IsOrder rules.later → (told : Option ℕ) (input input_now : Input) (first now next : G) (before held : List ℕ) (was : Progress) (at : ProcessId) (keep : ℕ)
+    → IsDue told was.waiting (due.Fail at keep) → rules.ways.unmade now next
+    → Comes rules told input input_now first before now held was None None → Comes rules told input input_now first before next held was None (Some (Err Want))
+wants-order rules order told input input_now first now next before held was at keep is unmade come =
+    comes-to rules order told input input_now first next before held was None (Some (Err Want)) refl
+    (halts (among rules.later rules.ways) told input input_now (stand first before) (stand come.last held) (stand next held) was 0 0 Want
+    (under-of (among rules.later rules.ways) told input input_now (stand first before) (stand come.last held) was (due-some told was.waiting (due.Fail at keep) is) come.come)
+    (breaks-unmade (among rules.later rules.ways) told come.last next held at keep was.waiting is (now, come.later, unmade)) (record { later = omega arith; cause = tt }))
 
 -- an order was given, and its text is written
 pub orders : {G K : Type 0} (rules : Rules G K) (told : Option ℕ) (input input_now : Input) (first now next : G) (before sent out out_now : List ℕ) (was then : Progress) (calling : Option K) (at : ProcessId) (keep : ℕ) (end : FailEnd)

@@ -61,13 +61,13 @@ impl<'t, R> Till<'t, R> {
 impl<R: Wait> Caller for Till<'_, R> {
     ghost use Rattle.std.specs.Prelude.{⊤};
 
-    ghost ways = { record { made = λ _ _ _ _. ⊤; failed = λ _ _ _ _ _. ⊤; kept = λ _ _. ⊤ } };
+    ghost ways = { record { made = λ _ _ _ _. ⊤; failed = λ _ _ _ _ _. ⊤; kept = λ _ _ _. ⊤; unmade = λ _ _. ⊤ } };
 
     ghost later = { λ _ _. ⊤ };
 
     ghost order = { record { same = λ _. tt; on = λ _ _ _ _ _. tt } };
 
-    ghost onward = { record { made = λ _ _ _ _ _. tt; failed = λ _ _ _ _ _ _. tt; kept = λ _ _ _. tt } };
+    ghost onward = { record { made = λ _ _ _ _ _. tt; failed = λ _ _ _ _ _ _. tt; kept = λ _ _ _ _. tt; unmade = λ _ _ _. tt } };
 
     fn call(&mut self, op: &Op) -> Result<CallEnd, AllocError> {
         let mut table = self.table.lock(&self.rt);

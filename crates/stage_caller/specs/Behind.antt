@@ -11,7 +11,7 @@ use Rattle.front_end.specs.Order.{IsOrder, LeadsOn}
 use Rattle.group_stage.specs.Seated.{view_of}
 use Rattle.group_stage.specs.declared.view.Numbered.{Numbered}
 use Rattle.stage_caller.specs.Calling.{IsSame}
-use Rattle.stage_caller.specs.Ordering.{IsKept, HasCalled, HasGone, IsOrdered}
+use Rattle.stage_caller.specs.Ordering.{IsKept, HasCalled, HasGone, HasMadeNone, IsOrdered}
 use Rattle.stage_caller.specs.declared.caller.StageCaller.{StageCaller}
 
 -- what the seat of the first made stands at the front of what that of the last made
@@ -23,7 +23,7 @@ pub record IsBehind (first last : StageCaller) : Type 0 where
 
 -- what a caller comes to by its calls and orders
 abbrev pub stage_ways : Ways StageCaller
-stage_ways = record { made = HasCalled; failed = IsOrdered; kept = HasGone }
+stage_ways = record { made = HasCalled; failed = IsOrdered; kept = HasGone; unmade = HasMadeNone }
 
 at_itself : (c : StageCaller) → IsBehind c c
 at_itself c = record {
@@ -55,5 +55,6 @@ pub stage_onward : LeadsOn stage_ways IsBehind
 stage_onward = record {
   made = λ before op end after is. record { kept = is.same; same = is.called.come.same; more = is.called.come.events; made = is.called.come.made };
   failed = ordered;
-  kept = λ before after is. record { kept = is.same; same = is.stopped.come.same; more = is.stopped.come.events; made = is.stopped.come.made };
+  kept = λ before op after is. record { kept = is.same; same = is.stopped.come.same; more = is.stopped.come.events; made = is.stopped.come.made };
+  unmade = λ before after is. record { kept = is.same; same = is.idle.same; more = []; made = is.idle.made ∙ sym (append-nil (view_of before.seat).made) };
 }

@@ -94,8 +94,7 @@ pub record IsCalled (before : Seat) (op : Asked) (phase : Phase) (end : CallEnd)
   pub come : HasCome before op phase after last
   pub over : IsOver after last end
 
--- what stands after want of memory: the events of a call that was cut short
-pub record HasStopped (before : Seat) (phase : Phase) (after : Seat) : Type 0 where
-  pub op : Asked
+-- what a call for an op made of its seat since a phase before want of memory cut it short
+pub record HasStopped (before : Seat) (op : Asked) (phase : Phase) (after : Seat) : Type 0 where
   pub last : Next
   pub come : HasCome before op phase after last

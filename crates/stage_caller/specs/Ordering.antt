@@ -22,10 +22,10 @@ pub record HasCalled (before : StageCaller) (op : Asked) (end : CallEnd) (after 
   pub same : IsKept before after
   pub called : IsCalled before.seat op Asks end after.seat
 
--- what stands after want of memory: the events that were made before it
-pub record HasGone (before after : StageCaller) : Type 0 where
+-- a call that found no memory has made the events that it came to before
+pub record HasGone (before : StageCaller) (op : Asked) (after : StageCaller) : Type 0 where
   pub same : IsKept before after
-  pub stopped : HasStopped before.seat Asks after.seat
+  pub stopped : HasStopped before.seat op Asks after.seat
 
 -- what stands of an order after want of memory: no event was made
 pub record HasMadeNone (before after : StageCaller) : Type 0 where

@@ -48,7 +48,7 @@ impl<'a> StageCaller<'a> {
         requires asked { call < self.old.seat.asks }
         ensures same { IsKept self.old self.new }
         ensures called { IfOk result (λ end. IsCalled self.old.seat op.now (Waits call) end self.new.seat) }
-        ensures stopped { OnErr result (HasStopped self.old.seat (Waits call) self.new.seat) }
+        ensures stopped { OnErr result (HasStopped self.old.seat op.now (Waits call) self.new.seat) }
     {
         let from_data = &mut Heads::new();
         make_call(
@@ -86,7 +86,6 @@ impl<'a> StageCaller<'a> {
 
 impl<'a> Caller for StageCaller<'a> {
     ghost use Rattle.stage_caller.specs.Behind.{IsBehind, stage_onward, stage_order, stage_ways};
-    ghost use Rattle.stage_caller.specs.Ordering.{HasGone, HasMadeNone, IsOrdered};
 
     ghost ways = { stage_ways };
 
@@ -100,11 +99,7 @@ impl<'a> Caller for StageCaller<'a> {
         make_call(self.stage, &mut self.seat, &mut self.heads, op, Phase::Asks)
     }
 
-    fn fail(&mut self, at: ProcessId, keep: u32) -> Result<FailEnd, AllocError>
-        ensures failed { IfOk result (λ end. IsOrdered self.old at keep end self.new) }
-        ensures want { OnErr result (HasGone self.old self.new) }
-        ensures unmade { OnErr result (HasMadeNone self.old self.new) }
-    {
+    fn fail(&mut self, at: ProcessId, keep: u32) -> Result<FailEnd, AllocError> {
         if !self.control {
             return Ok(FailEnd::Off);
         }

@@ -32,7 +32,7 @@ pub(crate) fn make_call(
     requires asked { IsAsked seat.old.asks start }
     ensures seat { IsOf stage.now seat.new }
     ensures called { IfOk result (λ end. IsCalled seat.old op.now start end seat.new) }
-    ensures stopped { OnErr result (HasStopped seat.old start seat.new) }
+    ensures stopped { OnErr result (HasStopped seat.old op.now start seat.new) }
 {
     let shape = stage.shape();
     let partition = home(op.act().key(), shape.k());

@@ -1,8 +1,7 @@
 ghost use Rattle.std.specs.Prelude.{◌≡◌, ◌↔◌, IsTrue, Some, IfOk, OnErr};
 ghost use Rattle.group_types.specs.Names.{IsProcess};
 ghost use Rattle.group_stage.specs.Seated.{IsOf, shape_of};
-ghost use Rattle.stage_caller.specs.Calling.{HasStopped, IsIdle};
-ghost use Rattle.stage_caller.specs.declared.phase.Phase.TheVariants.{Asks};
+ghost use Rattle.stage_caller.specs.Calling.{IsIdle};
 ghost use Rattle.stage_caller.specs.Failing.{IsFailAnswer, IsFailed, failed_to};
 
 use group_calls::Answer;
@@ -24,7 +23,6 @@ pub(crate) fn fail_process(
     ensures seat { IsOf stage.now seat.new }
     ensures failed { IfOk result (λ end. IsFailed seat.old at keep end seat.new) }
     ensures idle { OnErr result (IsIdle seat.old seat.new) }
-    ensures stopped { OnErr result (HasStopped seat.old Asks seat.new) }
 {
     'tries: loop {
         match stage.try_fail(seat, at, keep)? {

@@ -1,8 +1,7 @@
 -- Callers of one group, of which one comes behind another.
-use Rattle.std.specs.Prelude.{ℕ, ◌≡◌, ◌++◌, ◌⊎◌, List, [], ◌∷◌}
-use Rattle.std.proofs.Common.{refl, sym, ap, ◌∙◌, subst, inl, inr}
+use Rattle.std.specs.Prelude.{ℕ, ◌≡◌, ◌++◌, List, [], ◌∷◌}
+use Rattle.std.proofs.Common.{refl, sym, ap, ◌∙◌, subst}
 use Rattle.group_types.specs.declared.process.ProcessId.{ProcessId}
-use Rattle.memc_table.specs.Asked.{Asked}
 use Rattle.memc_proto.specs.declared.end.FailEnd.{FailEnd}
 use Rattle.memc_proto.specs.declared.end.FailEnd.TheVariants as ends
 use Rattle.front_end.specs.Calls.{Ways}
@@ -10,7 +9,6 @@ use Rattle.front_end.specs.Order.{IsOrder, LeadsOn}
 use Rattle.group_calls.specs.declared.event.Event.{Event}
 use Rattle.group_calls.specs.declared.event.Event.TheVariants.{Fail}
 use Rattle.group_run.specs.World.{World, step, world_after}
-use Rattle.world_caller.specs.Calling.{HasStopped}
 use Rattle.world_caller.specs.Callers.{GroupCaller, IsSame, HasCalled, HasGone, HasFailed, IsOrdered}
 
 -- the group of the last is that of the first after some events
@@ -19,9 +17,9 @@ pub record IsBehind (first last : GroupCaller) : Type 0 where
   pub events : List Event
   pub after : last.world ≡ world_after first.world events
 
--- what a caller comes to by its calls and orders
+-- what a caller comes to by its calls and orders; an order that found no memory has made nothing
 abbrev pub world_ways : Ways GroupCaller
-world_ways = record { made = HasCalled; failed = IsOrdered; kept = HasGone }
+world_ways = record { made = HasCalled; failed = IsOrdered; kept = HasGone; unmade = λ before after. after ≡ before }
 
 both : (w : World) (es fs : List Event) → world_after w (es ++ fs) ≡ world_after (world_after w es) fs
 both w [] fs = refl
@@ -47,13 +45,6 @@ ordered before p keep ends.Worn after is = subst (IsBehind before) (sym is.2) (a
 ordered before p keep ends.Made after is = failed before p keep ends.Made after is
 ordered before p keep ends.AlreadyDead after is = failed before p keep ends.AlreadyDead after is
 
-gone : (before after : GroupCaller) → HasGone before after → IsBehind before after
-gone before after is = by_stop is.stopped
-  where
-    by_stop : (after.world ≡ before.world) ⊎ ((op : Asked) × HasStopped before.caller op before.world after.world) → IsBehind before after
-    by_stop (inl stayed) = record { same = is.same; events = []; after = stayed }
-    by_stop (inr (op, stopped)) = record { same = is.same; events = stopped.come.events; after = stopped.come.after }
-
 pub world_order : IsOrder IsBehind
 world_order = record { same = at_itself; on = further }
 
@@ -61,5 +52,6 @@ pub world_onward : LeadsOn world_ways IsBehind
 world_onward = record {
   made = λ before op end after is. record { same = is.same; events = is.called.events; after = is.called.after };
   failed = ordered;
-  kept = gone;
+  kept = λ before op after is. record { same = is.same; events = is.stopped.come.events; after = is.stopped.come.after };
+  unmade = λ before after stayed. subst (IsBehind before) (sym stayed) (at_itself before);
 }

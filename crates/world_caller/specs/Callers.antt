@@ -1,5 +1,5 @@
 -- A caller of one group, and what its calls make of it.
-use Rattle.std.specs.Prelude.{ℕ, ◌≡◌, ◌≤◌, ◌⊎◌, Bool, true, false, Option, Some, None}
+use Rattle.std.specs.Prelude.{ℕ, ◌≡◌, ◌≤◌, Bool, true, false, Option, Some, None}
 use Rattle.group_types.specs.Names.{IsProcess}
 use Rattle.group_types.specs.declared.process.ProcessId.{ProcessId}
 use Rattle.memc_table.specs.Asked.{Asked}
@@ -28,10 +28,10 @@ pub record HasCalled (before : GroupCaller) (op : Asked) (end : CallEnd) (after 
   pub same : IsSame before after
   pub called : IsCalled before.caller op before.world end after.world
 
--- what stands after want of memory: no event, or those of a call that was cut short
-pub record HasGone (before after : GroupCaller) : Type 0 where
+-- a call that found no memory has made the events that it came to before
+pub record HasGone (before : GroupCaller) (op : Asked) (after : GroupCaller) : Type 0 where
   pub same : IsSame before after
-  pub stopped : (after.world ≡ before.world) ⊎ ((op : Asked) × HasStopped before.caller op before.world after.world)
+  pub stopped : HasStopped before.caller op before.world after.world
 
 -- such orders are taken, and the group has the process
 pub record IsTaken (c : GroupCaller) (p : ProcessId) : Type 0 where

