@@ -1,6 +1,6 @@
 #!/usr/bin/env python3
 """Writes BELIEVE.md: which definitions a reader has to believe, behind what a client asks for first, behind the headline, behind the laws of
-a group over machines, and behind run_program's clauses.
+a group over machines, and behind the clauses of run_program and of run_words.
 
 It follows, from each root, the names that a definition of specs/ cites: definitions of its own file, and those that a
 `use` line brings, also of definitions in a `module _`. Types that are declared in src/ are counted by the lines of their declaration there. `--check` writes
@@ -19,6 +19,7 @@ ROOTS = [
     ("The headline, beside these", [("law_headline", "Laws", "HeadlineAlways")]),
     ("A group over machines, beside these", [("group_wire", "Composition", "RunsCompose"), ("group_wire", "Shown", "ShownIsLogged")]),
     ("What `run_program` says, beside these", None),
+    ("What `run_words` says, beside these", [("group_program", "Run", "HasExited"), ("group_program", "Arguments", "words_behind"), ("group_program", "Arguments", "lacks_memory")]),
 ]
 HEAD = re.compile(r"^(?:abbrev |unfoldable )?pub (?:record |data )?(\S+)|^(?:abbrev|unfoldable|record|data) (\S+)")
 WORD = re.compile(r"[A-Za-z_◌][\w◌'≟-]*")

@@ -15,12 +15,12 @@ pub(crate) struct KeptSource<S> {
 impl<S> KeptSource<S> {
     ghost use Rattle.std.specs.Prelude.{◌≡◌};
 
-    /// A source of which nothing was read, and that keeps what is, or nothing.
-    pub(crate) fn new(alloc: Global, source: S, keeps: bool) -> KeptSource<S> {
+    /// A source of which nothing was read, and that keeps what is.
+    pub(crate) fn new(alloc: Global, source: S) -> KeptSource<S> {
         KeptSource {
             source,
             kept: Vec::new(alloc),
-            keeps,
+            keeps: true,
         }
     }
 

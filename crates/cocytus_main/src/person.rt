@@ -1,9 +1,10 @@
+use crate::kept_source::KeptSource;
 use carry_serve::CarryReport;
 use edge_io::{WriteEdge, write_all};
-use group_program::{Finding, Notice, Settings, Status, help_at, loss_of, notice_of};
+use group_program::{Explain, Finding, Notice, Settings, Status, help_at, loss_of, notice_of};
 use group_types::ProcessId;
 use member_serve::{Level, Report};
-use ready_worker::Watch;
+use ready_worker::{ToldEdge, Watch};
 use std::net::SocketAddr;
 use std::{env, io};
 use watch_serve::WatchReport;
@@ -25,20 +26,6 @@ impl Person {
         }
     }
 
-    /// Tells how a command with these words ended, which read this script, and why no connection could be accepted.
-    pub(crate) fn explain(
-        &self,
-        words: &[String],
-        status: Status,
-        script: &[u8],
-        error: Option<&io::Error>,
-    ) {
-        if let Ok(help) = help_at(self.rt.alloc(), words, status, script) {
-            self.say(&help);
-        }
-        self.say_error(error);
-    }
-
     fn say_error(&self, error: Option<&io::Error>) {
         if let Some(error) = error {
             if let Ok(line) = format!(in self.rt.alloc(); "{error}\n") {
@@ -56,6 +43,21 @@ impl Person {
 
     fn say(&self, text: &str) {
         let _ = write_all(&mut WriteEdge::new(self.rt.stderr()), text.as_bytes());
+    }
+}
+
+impl<'w, S, N, W: Watch> Explain<KeptSource<S>, ToldEdge<'w, N, W>> for Person {
+    fn explain(
+        &self,
+        words: &[String],
+        status: Status,
+        source: &KeptSource<S>,
+        port: &ToldEdge<'w, N, W>,
+    ) {
+        if let Ok(help) = help_at(self.rt.alloc(), words, status, source.kept()) {
+            self.say(&help);
+        }
+        self.say_error(port.last_error());
     }
 }
 

@@ -1,3 +1,4 @@
 mod Accepting
+mod Behind
 mod Refusing
 pub mod Telling

@@ -1,7 +1,9 @@
+pub mod Arguments
 pub mod Carrying
 pub mod Frames
 pub mod Member
 pub mod Program
+pub mod Run
 pub mod Serving
 pub mod Session
 pub mod Verifying
