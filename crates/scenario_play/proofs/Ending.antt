@@ -4,7 +4,7 @@ use Rattle.std.proofs.Math.Seq.{take-length}
 use Rattle.std.proofs.lemmas.Bool.Decides.{nat_tests}
 use Rattle.edge_io.specs.Faults.{Rose}
 use Rattle.edge_io.specs.Moving.{Appends, Input, IsEnded, Takes}
-use Rattle.edge_io.specs.Writing.{HasWritten}
+use Rattle.edge_io.specs.Writing.{HasWritten, HasWrittenPart}
 use Rattle.edge_io.proofs.Moving.{Appends-nil, Appends-trans}
 use Rattle.scenario_play.specs.Ends.{HasPlayedScript, HasRead, HasTreated}
 use Rattle.scenario_play.specs.Language.{Language, told_in}
@@ -390,6 +390,7 @@ promised l Promise keeps a b status played = record {
 pub written-whole : (wanted : Status) (text : List ℕ) (before now : List ℕ) (faults_before faults_now : ℕ) → wanted ≡ Done → Appends before now text → IsWritten wanted text before now faults_before faults_now Done
 written-whole wanted text before now faults_before faults_now is bytes = record {
   told = inl (sym is);
+  short = λ want. absurd (cc want);
   done_bytes = λ _. bytes;
   bytes = record { middle = now; written = all-written before now text bytes; told = nothing-told now Done };
 }
@@ -399,9 +400,11 @@ abbrev pub IsFault : Status → ℕ → ℕ → Status → Type 0
 IsFault wanted before now s = ((s ≡ WriteFault) × Rose before now) ⊎ (s ≡ Want) ⊎ (TellsOfScript s × (s ≡ wanted))
 
 pub written-part : (wanted : Status) (text : List ℕ) (before middle now : List ℕ) (faults_before faults_middle faults_now : ℕ) (s status : Status) → IsFault wanted faults_before faults_middle s
-    → HasWritten before middle text → (status ≡ s) ⊎ (status ≡ Want) → TellsFront middle now status → faults_middle ≤ faults_now → IsWritten wanted text before now faults_before faults_now status
-written-part wanted text before middle now faults_before faults_middle faults_now s status fault written is front more = record {
+    → HasWritten before middle text → (middle ≡ before) ⊎ HasWrittenPart before middle text → (status ≡ s) ⊎ (status ≡ Want) → TellsFront middle now status → faults_middle ≤ faults_now
+    → IsWritten wanted text before now faults_before faults_now status
+written-part wanted text before middle now faults_before faults_middle faults_now s status fault written unfinished is front more = record {
   told = which fault is;
+  short = λ want. record { middle = middle; unfinished = unfinished; told = subst (TellsFront middle now) want front };
   done_bytes = λ done. absurd (never fault is done);
   bytes = record { middle = middle; written = written; told = front };
 }

@@ -17,6 +17,12 @@ pub record IsUntreated (transcript : List ℕ → List ℕ) (script before now :
 abbrev pub IsPlayedInPart : (List ℕ → List ℕ) → List ℕ → List ℕ → List ℕ → Type 0
 IsPlayedInPart transcript script before now = IsUntreated transcript script before now ⊎ HasWrittenPart before now (transcript script)
 
+-- there was no memory before a text was written whole: nothing of it was written, or not the whole, and a last line came behind
+pub record WantsWithinText (text before now : List ℕ) : Type 0 where
+  pub middle : List ℕ
+  pub unfinished : (middle ≡ before) ⊎ HasWrittenPart before middle text
+  pub told : TellsFront middle now Want
+
 -- there was no memory before it was played to its end: nothing was written, or it is unfinished, and a last line came behind
 pub record WantsWithin (transcript : List ℕ → List ℕ) (script before now : List ℕ) : Type 0 where
   pub middle : List ℕ

@@ -4,7 +4,7 @@ use Rattle.edge_io.specs.Faults.{Rose}
 use Rattle.edge_io.specs.Moving.{Appends, Input, IsEnded, Takes}
 use Rattle.scenario_play.specs.Language.{Language, told_in}
 use Rattle.scenario_play.specs.Outside.{EndsWith, Outside, StopsWithin, TellsFront}
-use Rattle.scenario_play.specs.Part.{WantsWithin}
+use Rattle.scenario_play.specs.Part.{WantsWithin, WantsWithinText}
 use Rattle.scenario_play.specs.Status.{IsEarly, IsRefusal, IsTold, IsUnread, last_line}
 use Rattle.scenario_play.specs.declared.status.Status.{Status}
 use Rattle.scenario_play.specs.declared.status.Status.TheVariants.{Done, TooLong, Want, WriteFault}
@@ -29,6 +29,7 @@ pub record IsPlayed (l : Language) (before now : Outside) (status : Status) : Ty
 -- a text was written, where this status is wanted
 pub record IsWritten (wanted : Status) (text before now : List ℕ) (faults_before faults_now : ℕ) (status : Status) : Type 0 where
   pub told : (status ≡ wanted) ⊎ (status ≡ Want) ⊎ ((status ≡ WriteFault) × Rose faults_before faults_now)
+  pub short : status ≡ Want → WantsWithinText text before now
   pub done_bytes : status ≡ Done → Appends before now text
   pub bytes : StopsWithin before now text status
 

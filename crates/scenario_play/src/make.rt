@@ -1,7 +1,7 @@
-ghost use Rattle.std.specs.Prelude.{◌≡◌, ◌≤◌, ◌⊎◌, OnOk, IfErr};
+ghost use Rattle.std.specs.Prelude.{◌≡◌, ◌≤◌, ◌⊎◌, OnErr, OnOk, IfErr};
 ghost use Rattle.edge_io.specs.Moving.{Appends};
 ghost use Rattle.edge_io.specs.Faults.{Rose};
-ghost use Rattle.edge_io.specs.Writing.{HasWritten};
+ghost use Rattle.edge_io.specs.Writing.{HasWritten, HasWrittenPart};
 ghost use Rattle.scenario_make.specs.Script.{script_text};
 ghost use Rattle.scenario_play.specs.Played.{IsWritten};
 
@@ -26,6 +26,8 @@ pub fn make<K: Sink>(alloc: Global, number: u64, sink: &mut K) -> Status
 fn write_script<K: Sink>(alloc: Global, number: u64, sink: &mut K) -> Result<(), Status>
     ensures whole { OnOk result (Appends (K.held sink.old) (K.held sink.new) (script_text number)) }
     ensures part { HasWritten (K.held sink.old) (K.held sink.new) (script_text number) }
+    ensures short { OnErr result ((K.held sink.new ≡ K.held sink.old)
+        ⊎ HasWrittenPart (K.held sink.old) (K.held sink.new) (script_text number)) }
     ensures later { K.faults sink.old ≤ K.faults sink.new }
     ensures fault { IfErr result (λ status. ((status ≡ Status.WriteFault)
         × Rose (K.faults sink.old) (K.faults sink.new)) ⊎ (status ≡ Status.Want)) }

@@ -1,8 +1,8 @@
-ghost use Rattle.std.specs.Prelude.{◌≡◌, ◌≤◌, ◌⊎◌, IfOk, IfErr, OnOk};
+ghost use Rattle.std.specs.Prelude.{◌≡◌, ◌≤◌, ◌⊎◌, IfOk, IfErr, OnErr, OnOk};
 ghost use Rattle.edge_io.specs.Moving.{Appends};
 ghost use Rattle.std.specs.String.{string_bytes};
 ghost use Rattle.edge_io.specs.Faults.{Rose};
-ghost use Rattle.edge_io.specs.Writing.{HasWritten};
+ghost use Rattle.edge_io.specs.Writing.{HasWritten, HasWrittenPart};
 ghost use Rattle.scenario_make.specs.Script.{script_text};
 ghost use Rattle.scenario_play.specs.Played.{IsWritten};
 ghost use Rattle.scenario_play.specs.Status.{TellsOfScript, status_for};
@@ -34,6 +34,8 @@ pub fn trial<K: Sink>(alloc: Global, number: u64, sink: &mut K) -> Status
 fn write_trial<K: Sink>(alloc: Global, number: u64, sink: &mut K) -> Result<(), Status>
     ensures whole { OnOk result (Appends (K.held sink.old) (K.held sink.new) (trial_text number)) }
     ensures part { HasWritten (K.held sink.old) (K.held sink.new) (trial_text number) }
+    ensures short { OnErr result ((K.held sink.new ≡ K.held sink.old)
+        ⊎ HasWrittenPart (K.held sink.old) (K.held sink.new) (trial_text number)) }
     ensures told { OnOk result (status_for (script_text number) ≡ Status.Done) }
     ensures later { K.faults sink.old ≤ K.faults sink.new }
     ensures fault { IfErr result (λ status. ((status ≡ Status.WriteFault) × Rose (K.faults sink.old) (K.faults sink.new))
