@@ -6,7 +6,7 @@ use scenario_play::Status;
 use std::process::ExitCode;
 
 /// What a program ends with whose command ended so: the status's number.
-pub fn exit_of(status: Status) -> ExitCode
+pub(crate) fn exit_of(status: Status) -> ExitCode
     ensures { exit_status result ≡ number_of_status status }
 {
     ExitCode::from(status.number())

@@ -32,7 +32,6 @@ mod watching;
 
 pub use carry_stop::CarryStop;
 pub use edges::Edges;
-pub use ending::exit_of;
 pub use explain::Explain;
 pub use group_server::{Finding, Notice, Settings, Silent};
 pub use help::help_at;
@@ -46,4 +45,3 @@ pub use notice::{loss_of, notice_of};
 pub use program::run_program;
 pub use run::run_words;
 pub use scenario_play::Status;
-pub use scenario_play::tell::tell;
