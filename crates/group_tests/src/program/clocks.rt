@@ -10,7 +10,7 @@ use std::thread::Threads;
 
 /// A clock that is one second later each time that it is read.
 #[derive(Drop)]
-struct Ticking(AtomicU64);
+pub(crate) struct Ticking(pub(crate) AtomicU64);
 
 impl Clock for Ticking {
     ghost use Rattle.std.specs.Prelude.{None};
