@@ -1,7 +1,6 @@
 use Rattle.std.proofs.Common.{◌≡◌, ℕ, ◌+◌, min, map, Bool, true, false, List, [], ◌∷◌, ◌++◌, length, take, Option, MatchBool, if◌then◌else◌, append-nil, refl, sym, ap, ◌∙◌, subst, arith}
 use Rattle.edge_io.proofs.Moving.{Appends-trans}
 use Rattle.std.proofs.Math.Seq.{take-append-add}
-use Rattle.std.proofs.lemmas.List.{take-append-le, take_min}
 use Rattle.edge_io.specs.Moving.{Appends}
 use Rattle.edge_io.specs.Writing.{HasWritten}
 use Rattle.memc_table.specs.declared.act.Act.TheVariants as act
@@ -14,10 +13,7 @@ use Rattle.front_end.specs.Faults.{StandsAt}
 use Rattle.front_end.specs.Turns.{Acts, AreCallsOf, dues_behind, is_reply, key_text, get_text}
 use Rattle.front_end.specs.declared.end.ConnectionFault.{ConnectionFault}
 use Rattle.front_end.proofs.Answering.{no_calls, first-none, stands-here}
-
--- the front of a text is a front of what begins with it
-front_of : (n : ℕ) (text more : List ℕ) → take n text ≡ take (min n (length text)) (text ++ more)
-front_of n text more = sym (take_min n text) ∙ sym (take-append-le (min n (length text)) text more (omega arith))
+use Rattle.front_end.proofs.Writing.{front_of}
 
 rest-none : (told : Option ℕ) (keys : List (List ℕ)) (b : Bool) → MatchBool b (AreCallsOf told false (map (λ key. Acts (act.Get key)) keys) []) (no_calls ≡ [])
 rest-none told keys true = first-none told (map (λ key. Acts (act.Get key)) keys)

@@ -7,3 +7,4 @@ pub mod Serving
 pub mod Settling
 pub mod Stepping
 pub mod Turning
+pub mod Writing

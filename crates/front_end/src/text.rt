@@ -9,10 +9,9 @@ use crate::end::ConnectionFault;
 use edge_io::{Sink, write_all};
 use group_types::Key;
 use memc_proto::{CallEnd, end_of_items, plain_text, write_reply};
-use memc_table::Reply;
 use std::alloc::Global;
 
-/// Writes the text of the end of the call on the last key of a get, and `END` behind it where it is a reply.
+/// Writes the text of the end of the call on the last key of a get, and then `END` where it is a reply.
 pub(crate) fn write_last<K: Sink>(
     alloc: Global,
     sink: &mut K,
@@ -24,14 +23,12 @@ pub(crate) fn write_last<K: Sink>(
     ensures part { HasWritten (K.held sink.old) (K.held sink.new) (last_text key.now with_cas end.now) }
     ensures cause { HasSinkCause (K.faults sink.old) (K.faults sink.new) result }
 {
-    if let CallEnd::Reply(Reply::Miss) = end {
-        return write_text(sink, end_of_items());
-    }
-    let mut text = Vec::from(write_reply(alloc, key, with_cas, end)?);
+    write_end(alloc, sink, key, with_cas, end)?;
     if is_reply(end) {
-        text.extend_from_slice(end_of_items())?;
+        write_text(sink, end_of_items())
+    } else {
+        Ok(())
     }
-    write_text(sink, &text)
 }
 
 /// Whether a call ended by a reply.
