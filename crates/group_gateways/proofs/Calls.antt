@@ -28,11 +28,11 @@ module _ {G K : Type 0} (inner : Rules G K) (order : IsOrder inner.later) (befor
   }
 
   -- the group's gateway was kept so
-  pub is-kept : inner.ways.kept one two → IsKeptThere inner before after
-  is-kept kept = record {
-    group = group;
-    kept = both-at inner.ways.kept (gateway_in before group) (gateway_in after group) one two changed.was changed.is kept;
-    others = changed.others;
+  pub is-kept : (op : Asked) → group ≡ group_for before op → inner.ways.kept one op two → IsKeptThere inner before op after
+  is-kept op is kept = record {
+    kept = subst (λ (i : ℕ). Both (λ (was now : G). inner.ways.kept was op now) (gateway_in before i) (gateway_in after i)) is
+        (both-at (λ (was now : G). inner.ways.kept was op now) (gateway_in before group) (gateway_in after group) one two changed.was changed.is kept);
+    others = λ j other. changed.others j (λ same. other (same ∙ is));
   }
 
   -- the end of a call of the group is that of its gateway

@@ -40,11 +40,10 @@ module _ {G K : Type 0} (inner : Rules G K) where
     pub made : Both (λ before now. inner.ways.made before op end now) (gateway_in began (group_for began op)) (gateway_in after (group_for began op))
     pub later : AllAreLater began after
 
-  -- one gateway was kept so, and all others stayed
-  pub record IsKeptThere (before after : GroupGateways G) : Type 0 where
-    pub group : ℕ
-    pub kept : Both inner.ways.kept (gateway_in before group) (gateway_in after group)
-    pub others : (j : ℕ) → j ≢ group → gateway_in after j ≡ gateway_in before j
+  -- what a call left that found no memory: the gateway of the group of the op's key was left so, and all others stayed
+  pub record IsKeptThere (before : GroupGateways G) (op : Asked) (after : GroupGateways G) : Type 0 where
+    pub kept : Both (λ was now. inner.ways.kept was op now) (gateway_in before (group_for before op)) (gateway_in after (group_for before op))
+    pub others : (j : ℕ) → j ≢ group_for before op → gateway_in after j ≡ gateway_in before j
 
   -- a call that began there is open at the gateway of the group of the op's key
   pub record IsOpenThere (now : GroupGateways G) (call : GroupCall K) (op : Asked) (began : GroupGateways G) : Type 0 where
@@ -60,6 +59,7 @@ module _ {G K : Type 0} (inner : Rules G K) where
       made = IsMadeThere;
       failed = λ before at keep end after. (end ≡ Off) × (after ≡ before);
       kept = IsKeptThere;
+      unmade = λ before after. ⊥;
     };
     lent = λ now call. HoldsOf (λ gateway. inner.lent gateway call.inner) (gateway_in now call.group);
     opened = IsOpenThere;

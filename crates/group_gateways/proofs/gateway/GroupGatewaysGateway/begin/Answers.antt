@@ -32,9 +32,10 @@ returns-in_err-inner-clause-lends_none g c =
 pub returns-in_err-inner-clause-want : goal.returns-in_err-inner-clause-want
 returns-in_err-inner-clause-want g c =
     let told : c.from_residual.result ≡ Err c.in_err-inner.field-0.0 = search rules in
+    let is : c.group_of-group.result ≡ group_for c.args.self.now c.args.op = search rules in
     rw told (is-kept g.G.Gateway.rules g.G.Gateway.order c.args.self.now _ c.group_of-group.result c.index_mut.result.now c.begin.new.self
     (has_changed c.args.self.now _ c.group_of-group.result c.index_mut.result.now c.begin.new.self (search rules) c.index_mut.ensures.value refl refl)
-    c.in_err-inner.ensures.want)
+    c.args.op is c.in_err-inner.ensures.want)
 
 pub returns-in-Some-clause-begun : goal.returns-in-Some-clause-begun
 returns-in-Some-clause-begun g c =
