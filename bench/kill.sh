@@ -1,5 +1,6 @@
 #!/bin/sh
-# Groups of members under fire, by hand: sh bench/kill.sh [RUNS [SHAPE [PROGRAM]]], 10 runs of "4 2" where nothing is said. Without a program it is
+# Groups of members under fire, by hand: sh bench/kill.sh [RUNS [SHAPE [PROGRAM]]], 10 runs of "4 2" where nothing is said; "4 2 3" has three groups of
+# the shape on the same members. Without a program it is
 # built first, without a proof and with checks (examples/machines/unproved.sh). Each run starts a group on this machine anew, loads it, and kills,
 # stops, slows or cuts off members, by a plan drawn from its seed (machines/README.md); then every key is read at each member that lives, and the
 # clients' records are judged (machines/linear.py, which is tried first). A line for each run, then a summary; the status is 1 where a run was wrong.

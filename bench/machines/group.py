@@ -57,10 +57,10 @@ class Member:
 
 
 class Group:
-    """The members of a group of a shape, in a folder that keeps their settings and what they write."""
+    """The members of a group of a shape, or of several on the same machines, in a folder that keeps their settings and what they write."""
 
-    def __init__(self, program, folder, k, m, block, blocks, patience=5):
-        self.program, self.folder, self.k, self.m = program, folder, k, m
+    def __init__(self, program, folder, k, m, block, blocks, patience=5, groups=1):
+        self.program, self.folder, self.k, self.m, self.groups = program, folder, k, m, groups
         self.block, self.blocks, self.patience = block, blocks, patience
         names = [f"d{n}" for n in range(k)] + [f"p{n}" for n in range(m)]
         self.host, self.key = own_host(), os.urandom(16).hex()
@@ -72,6 +72,7 @@ class Group:
         """The settings, with other ports for the links to some members."""
         lines = [f'group = "{self.key}"', f"k = {self.k}", f"m = {self.m}", f"block = {self.block}", f"blocks = {self.blocks}",
                  f"patience = {self.patience}", f"one_word = {'true' if self.k <= self.m else 'false'}"]
+        lines += [f"groups = {self.groups}"] if self.groups > 1 else []
         for each in self.members:
             lines += ["[[members]]", f'name = "{each.name}"', f'link = "{self.host}:{links.get(each.index, each.link)}"',
                       f'client = "{self.host}:{each.client}"', f'control = "{self.host}:{each.control}"']
@@ -161,10 +162,15 @@ class Group:
     async def taken(self, member):
         """Waits until all that live have taken the death of a member."""
         async def has_taken(at):
-            while not any(line.startswith("taken ") and member.name in line.split() for line in await self.ask(at, "status")):
+            while not self.have_taken(await self.ask(at, "status"), member):
                 await asyncio.sleep(0.02)
         for each in self.answering():
             await self.await_that(60.0, f"{each.name} takes the death of {member.name}", has_taken(each))
+
+    def have_taken(self, status, member):
+        """Whether a status says that the death of a member is taken in each group."""
+        told = [line for line in status if line.startswith("taken ") or line.startswith("group ") and line.split()[2] == "taken"]
+        return len(told) == self.groups and all(member.name in line.split() for line in told)
 
     async def idle(self):
         """Waits until no call is left at those that live, once all clients are gone. What is left there else."""

@@ -1,5 +1,5 @@
-"""Groups under fire: kill.py PROGRAM FOLDER [RUNS [SHAPE [SEED [PLAN [JOBS]]]]]. Each run starts a group of the shape ("4 2") anew, loads it, and does to it
-what plans.py says, all drawn from its seed; JOBS of them are under way at once. A line of a table for each run; what is needed to look at a wrong one stays
+"""Groups under fire: kill.py PROGRAM FOLDER [RUNS [SHAPE [SEED [PLAN [JOBS]]]]]. Each run starts a group of the shape ("4 2"), or several of it on the same
+machines ("4 2 3" for three), anew, loads it, and does to it what plans.py says, all drawn from its seed; JOBS of them are under way at once. A line of a table for each run; what is needed to look at a wrong one stays
 in the folder, under its seed."""
 import asyncio
 import collections

@@ -20,14 +20,14 @@ class Run:
 
     def __init__(self, program, folder, shape, seed, plan):
         self.seed, self.folder, self.rng = seed, folder, random.Random(seed)
-        k, m = (int(each) for each in shape.split())
+        k, m, groups = ([int(each) for each in shape.split()] + [1])[:3]
         self.plan = plan or self.rng.choice(list(PLANS))
         # A lost value is decoded block by block: where values are large, blocks of 256 bytes would make a loss last a minute.
         most, blocks = self.rng.choice([(4_096, [256, 1024, 4096]), (65_536, [1024, 4096, 16_384]), (1_048_576, [16_384, 65_536])])
         block = self.rng.choice(blocks)
         # Members let their clients go soon where that is waited for; else a machine that other work has would make them.
         patience = 5 if self.plan in HAUNTING else 60
-        self.group = Group(program, folder, k, m, block, 2**26 // block, patience)
+        self.group = Group(program, folder, k, m, block, 2**26 // block, patience, groups)
         self.ledger = Ledger(seed, most)
         self.seconds = 2.0 + 3.0 * self.rng.random()
         # No more than 400 requests under way: a build with checks answers some 100 a second.

@@ -2,7 +2,7 @@ use crate::carrying::Carrying;
 use crate::group::Head;
 use crate::report::CarryReport;
 use crate::stop::Stop;
-use crate::whole::is_whole;
+use crate::whole::{is_of_several, is_whole};
 use carry_words::{Word, base_at, is_at_rest};
 use std::alloc::AllocError;
 use std::net::Net;
@@ -66,6 +66,7 @@ impl<R: Net + time::Clock, W: CarryReport> Carrying<'_, R, W> {
             let address = self.old.control_at(x);
             match self.ask(address, Word::Status)? {
                 Some(status) => {
+                    self.refuse_several(status.as_slice())?;
                     rests = self.rests(status.as_slice())? && rests;
                     self.note_heads_of_old(x, status.as_slice())?;
                 }
@@ -73,6 +74,17 @@ impl<R: Net + time::Clock, W: CarryReport> Carrying<'_, R, W> {
             }
         }
         Ok(rests && self.old.has_heads())
+    }
+
+    // Members of several groups aren't carried: a person is told so.
+    fn refuse_several(&self, status: &[u8]) -> Result<(), Stop> {
+        if !is_of_several(status) {
+            return Ok(());
+        }
+        self.warn(format!(in self.alloc;
+            "a member has several groups, and only the items of one can be carried"
+        )?);
+        Err(Stop::Told)
     }
 
     // Whether the status of a member of the old group says that it is at rest, and that each that doesn't answer is dead.
@@ -96,6 +108,7 @@ impl<R: Net + time::Clock, W: CarryReport> Carrying<'_, R, W> {
             let answer = self.ask(address, Word::Status)?;
             self.new.note(x, answer.is_some());
             if let Some(status) = answer {
+                self.refuse_several(status.as_slice())?;
                 'partitions: for d in 0..self.settings.k as usize {
                     if let Some(base) = base_at(self.alloc, status.as_slice(), d as u64)? {
                         self.new.set_head(d, Head { member: x, base });

@@ -15,6 +15,16 @@ pub(crate) fn is_whole(status: &[u8], there: usize) -> bool {
     members > 0 && dead.saturating_add(there as u64) == members
 }
 
+/// Whether a status is of a member of several groups: only such a one tells how many there are.
+pub(crate) fn is_of_several(status: &[u8]) -> bool {
+    'lines: for line in status.split(|byte| *byte == b'\n') {
+        if line.starts_with(b"groups ") {
+            return true;
+        }
+    }
+    false
+}
+
 /// How many members a group of a shape has: the first two of its numbers together.
 fn members_of(shape: &[u8]) -> u64 {
     let mut sum: u64 = 0;

@@ -1,5 +1,5 @@
 -- The bases of a group's partitions, with which its numbers go on from those of an earlier group.
-use Rattle.std.specs.Prelude.{ℕ, ◌==◌, Bool, true, ◌&&◌, List, [], ◌∷◌, length, codes, Option, Some, None, option_and_then, option_map}
+use Rattle.std.specs.Prelude.{ℕ, ◌*◌, ◌==◌, Bool, true, ◌&&◌, List, [], ◌∷◌, length, codes, Option, Some, None, option_and_then, option_map}
 use Rattle.std.specs.Option.{is_some}
 use Rattle.toml.specs.Data.{Data, Items, no_items, item, Members, as_array, get_member}
 use Rattle.group_types.specs.Dimensions.{Dimensions}
@@ -24,10 +24,10 @@ abbrev pub all_numbers : Items → Bool
 all_numbers no_items = true
 all_numbers (item d ds) = is_some (number 0 most_base (Some d)) && all_numbers ds
 
--- the bases of k partitions
+-- the bases of so many partitions
 abbrev pub bases : ℕ → Option Data → Option (List ℕ)
-bases k found = only (λ ns. length ns == k) (option_map numbers (only all_numbers (option_and_then as_array found)))
+bases count found = only (λ ns. length ns == count) (option_map numbers (only all_numbers (option_and_then as_array found)))
 
--- a base for each partition, or none
-abbrev pub bases_in : Dimensions → Members → Option (List ℕ)
-bases_in shape ms = or_else [] (bases shape.k) (get_member (codes "base") ms)
+-- a base for each partition of so many groups, or none
+abbrev pub bases_in : ℕ → Dimensions → Members → Option (List ℕ)
+bases_in groups shape ms = or_else [] (bases (groups * shape.k)) (get_member (codes "base") ms)

@@ -47,6 +47,10 @@ patience_in ms = or_else 10 (number 1 3600) (get_member (codes "patience") ms)
 abbrev pub one_word_in : Dimensions → Members → Option Bool
 one_word_in shape ms = only (λ b. nat_lt shape.m shape.k || b) (or_else false truth (get_member (codes "one_word") ms))
 
+-- how many groups the members make up
+abbrev pub groups_in : Members → Option ℕ
+groups_in ms = or_else 1 (number 1 16) (get_member (codes "groups") ms)
+
 -- the keys of a member's settings
 abbrev pub settings_keys : List (List ℕ)
-settings_keys = codes "group" ∷ codes "k" ∷ codes "m" ∷ codes "blocks" ∷ codes "block" ∷ codes "members" ∷ codes "name" ∷ codes "order" ∷ codes "patience" ∷ codes "one_word" ∷ codes "base" ∷ codes "watch" ∷ []
+settings_keys = codes "group" ∷ codes "k" ∷ codes "m" ∷ codes "blocks" ∷ codes "block" ∷ codes "members" ∷ codes "name" ∷ codes "order" ∷ codes "patience" ∷ codes "one_word" ∷ codes "groups" ∷ codes "base" ∷ codes "watch" ∷ []

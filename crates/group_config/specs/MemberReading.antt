@@ -1,11 +1,11 @@
 -- What a text of a member's settings gives: the first of its checks that fails, in their order, or the settings.
-use Rattle.std.specs.Prelude.{ℕ, ◌≡◌, ◌⊎◌, ◌<◌, List, length, codes, if◌then◌else◌, Option, Result, Ok, Err, ⊤}
+use Rattle.std.specs.Prelude.{ℕ, ◌≡◌, ◌⊎◌, ◌<◌, ◌≤◌, List, length, codes, if◌then◌else◌, Option, Result, Ok, Err, ⊤}
 use Rattle.toml.specs.Data.{Members, get_member}
 use Rattle.group_types.specs.Dimensions.{Dimensions, processes_of}
 use Rattle.group_types.specs.declared.config_key.ConfigKey.{ConfigKey}
 use Rattle.group_config.specs.Bases.{bases_in}
 use Rattle.group_config.specs.Keys.{all_among}
-use Rattle.group_config.specs.MemberKeys.{group_in, one_word_in, order_in, patience_in, settings_keys}
+use Rattle.group_config.specs.MemberKeys.{group_in, groups_in, one_word_in, order_in, patience_in, settings_keys}
 use Rattle.group_config.specs.MemberTable.{members_of, own_of}
 use Rattle.group_config.specs.Reading.{IsDocument, IsNoDocument, check, follow, shape_of}
 use Rattle.group_config.specs.declared.member_entry.MemberEntry.{MemberEntry}
@@ -27,10 +27,11 @@ behind_members word ms group shape members =
     check key.Order (order_in ms) (λ order.
     check key.Patience (patience_in ms) (λ patience.
     check key.OneWord (one_word_in shape ms) (λ one_word.
-    check key.Base (bases_in shape ms) (λ base.
+    check key.Groups (groups_in ms) (λ groups.
+    check key.Base (bases_in groups shape ms) (λ base.
     if all_among settings_keys ms
-    then Ok (record { group = group; shape = shape; members = members; own = own; order = order; patience = patience; one_word = one_word; base = base })
-    else Err key.Unknown)))))
+    then Ok (record { group = group; shape = shape; members = members; own = own; order = order; patience = patience; one_word = one_word; groups = groups; base = base })
+    else Err key.Unknown))))))
 
 -- what a document gives: the first key whose check fails, or settings
 abbrev pub settings_of : Option (List ℕ) → Members → Result MemberSettings MemberKey
@@ -65,3 +66,5 @@ MemberComesOf word text (Err Want) = ⊤
 pub record HasMembers (settings : MemberSettings) : Type 0 where
   pub count : length settings.members ≡ processes_of settings.shape
   pub own : settings.own < processes_of settings.shape
+  pub some : 1 ≤ settings.groups
+  pub few : settings.groups ≤ 16

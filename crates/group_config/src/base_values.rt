@@ -12,22 +12,26 @@ use toml::Value;
 /// The largest base.
 const MOST_BASE: u64 = 4_611_686_018_427_387_904;
 
-/// The bases of k partitions that a value is, or none where there is no value.
+/// The bases of so many partitions that a value is, or none where there is no value.
 pub(crate) fn bases_or_none(
     alloc: Global,
     value: Option<&Value>,
-    k: u32,
+    count: u32,
 ) -> Result<Option<BaseList>, AllocError>
-    ensures { IfOk result (λ found. found ≡ or_else [] (bases k) (data_of value.entry)) }
+    ensures { IfOk result (λ found. found ≡ or_else [] (bases count) (data_of value.entry)) }
 {
     match value {
         None => Ok(Some(BaseList::new(alloc))),
-        Some(_) => bases_of(alloc, value, k),
+        Some(_) => bases_of(alloc, value, count),
     }
 }
 
-fn bases_of(alloc: Global, value: Option<&Value>, k: u32) -> Result<Option<BaseList>, AllocError>
-    ensures { IfOk result (λ found. found ≡ bases k (data_of value.entry)) }
+fn bases_of(
+    alloc: Global,
+    value: Option<&Value>,
+    count: u32,
+) -> Result<Option<BaseList>, AllocError>
+    ensures { IfOk result (λ found. found ≡ bases count (data_of value.entry)) }
 {
     let Some(items) = items_of(value) else {
         return Ok(None);
@@ -36,7 +40,7 @@ fn bases_of(alloc: Global, value: Option<&Value>, k: u32) -> Result<Option<BaseL
         return Ok(None);
     }
     let list = copied(alloc, items.as_slice())?;
-    if list.as_slice().len() == k as usize {
+    if list.as_slice().len() == count as usize {
         Ok(Some(list))
     } else {
         Ok(None)

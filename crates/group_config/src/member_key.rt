@@ -23,6 +23,8 @@ pub enum MemberKey {
     Order,
     Patience,
     OneWord,
+    /// How many groups the members make up.
+    Groups,
     /// The base of each partition.
     Base,
     /// There is a key that settings don't have.
@@ -66,11 +68,12 @@ impl MemberKey {
                 "one_word is true or false, and false where it is left out: where k is not above m it has to be true, \
                 since two words that differ could split the group there"
             }
+            MemberKey::Groups => "groups is 1 to 16, and 1 where it is left out",
             MemberKey::Base => {
-                "base is a list of k numbers of 0 to 2^62, one for each partition, and all 0 where it is left out"
+                "base is a list of k numbers of 0 to 2^62 for each group, one for each partition, and all 0 where it is left out"
             }
             MemberKey::Unknown => {
-                "the keys are group, k, m, blocks, block, members, name, order, patience, one_word, base and watch"
+                "the keys are group, k, m, blocks, block, members, name, order, patience, one_word, groups, base and watch"
             }
             MemberKey::Watch => "watch is a table of the keys etcd and seconds",
             MemberKey::WatchEtcd => {
@@ -98,6 +101,7 @@ impl fmt::Display for MemberKey {
             MemberKey::Order => f.write_str("order"),
             MemberKey::Patience => f.write_str("patience"),
             MemberKey::OneWord => f.write_str("one_word"),
+            MemberKey::Groups => f.write_str("groups"),
             MemberKey::Base => f.write_str("base"),
             MemberKey::Unknown => f.write_str("unknown"),
             MemberKey::Watch => f.write_str("watch"),

@@ -21,14 +21,14 @@ use std::alloc::Global;
 use toml::{Table, Value};
 
 /// The keys of a member's settings.
-pub(crate) const MEMBER_KEYS: [&str; 12] = [
+pub(crate) const MEMBER_KEYS: [&str; 13] = [
     "group", "k", "m", "blocks", "block", "members", "name", "order", "patience", "one_word",
-    "base", "watch",
+    "groups", "base", "watch",
 ];
 
 /// Reads the settings of a member, whose name is the word where there is one. A key that is wrong is told by the first
-/// check that fails: the text is TOML; then group, k, m, block, blocks, members, name, order, patience, one_word and base,
-/// each there if it is required, of its kind and within its range; then no other key but watch, which another call reads.
+/// check that fails: the text is TOML; then group, k, m, block, blocks, members, name, order, patience, one_word, groups and
+/// base, each there if it is required, of its kind and within its range; then no other key but watch, which another call reads.
 pub fn read_member_settings(
     alloc: Global,
     text: &[u8],
@@ -93,7 +93,11 @@ fn behind_members(
     let Some(one_word) = one_word_of(value_at(table, "one_word"), shape) else {
         return Err(bad(MemberKey::OneWord));
     };
-    let Some(base) = bases_or_none(alloc, value_at(table, "base"), shape.k())? else {
+    let Some(groups) = number_or(value_at(table, "groups"), 1, 1, 16) else {
+        return Err(bad(MemberKey::Groups));
+    };
+    let count = groups as u32 * shape.k();
+    let Some(base) = bases_or_none(alloc, value_at(table, "base"), count)? else {
         return Err(bad(MemberKey::Base));
     };
     if !all_known_in(table, &MEMBER_KEYS) {
@@ -107,6 +111,7 @@ fn behind_members(
         order,
         patience: patience as u32,
         one_word,
+        groups: groups as u32,
         base,
     })
 }

@@ -26,6 +26,9 @@ pub struct MemberSettings {
     pub patience: u32,
     /// Whether all members are told the same of who is dead.
     pub one_word: bool,
-    /// The base of each partition, by which its numbers go on from those of an earlier group: all 0 where there are none.
+    /// How many groups the members make up, 1 to 16, each with a process of every member.
+    pub groups: u32,
+    /// The base of each partition, those of the first group first, by which its numbers go on from those of an earlier group: all
+    /// 0 where there are none.
     pub base: BaseList,
 }

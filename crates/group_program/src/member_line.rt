@@ -53,6 +53,7 @@ fn key_line(key: MemberKey) -> &'static str
         MemberKey::Order => "fault: config order\n",
         MemberKey::Patience => "fault: config patience\n",
         MemberKey::OneWord => "fault: config one_word\n",
+        MemberKey::Groups => "fault: config groups\n",
         MemberKey::Base => "fault: config base\n",
         MemberKey::Watch => "fault: config watch\n",
         MemberKey::WatchEtcd => "fault: config watch.etcd\n",

@@ -1,34 +1,24 @@
 ghost use Rattle.member_links.specs.Ages.{NoneGoesBack};
 
-use crate::heard::Heard;
 use crate::link_event::LinkEvent;
 use crate::links::{MOST_MEMBERS, MemberLinks};
-use crate::newcomer::Newcomer;
+use crate::newcomer::Greeted;
 use crate::pipe::Pipe;
-use crate::port::Arrival;
 use crate::stage::Stage;
-use link_frames::{Frame, Hello};
+use link_frames::Frame;
+use mio::Registry;
 use mio::net::TcpStream;
-use mio::{Interest, Registry, Token};
 use std::alloc::AllocError;
 use std::io;
 use std::net::Net;
 
-/// The most connections that haven't greeted yet.
-const MOST_NEWCOMERS: usize = 32;
-
-/// How long the greeting of one that came is waited for, in milliseconds.
-const GREETING_WAIT: u64 = 10_000;
-
 #[tactic(auto, using(crate::proofs::Aging::aging))]
 impl MemberLinks {
-    /// Goes on with what is no link yet: accepts those of lower index, connects to those of higher index where they
-    /// weren't there before, and reads greetings.
+    /// Goes on with what is no link yet to those of higher index: connects to them where they weren't there before, and reads
+    /// their greetings.
     pub fn establish<N: Net>(&mut self, net: &N, registry: &Registry)
         ensures { NoneGoesBack self.old.links.items self.new.links.items }
     {
-        self.accept_all(registry);
-        self.hear_newcomers();
         'links: for x in 0..MOST_MEMBERS {
             if self.greeting.own < x {
                 self.approach(net, registry, x);
@@ -36,86 +26,33 @@ impl MemberLinks {
         }
     }
 
-    // Accepts what came at the port.
-    fn accept_all(&mut self, registry: &Registry)
-        ensures { NoneGoesBack self.old.links.items self.new.links.items }
-    {
-        'streams: for _ in 0..MOST_NEWCOMERS {
-            match self.port.accept() {
-                Arrival::Stream(stream) => self.admit(registry, stream),
-                Arrival::None | Arrival::Failed(_) => return,
-            }
-        }
-    }
-
-    // Waits for the greeting of one that came, where few do.
-    fn admit(&mut self, registry: &Registry, stream: TcpStream)
-        ensures { NoneGoesBack self.old.links.items self.new.links.items }
-    {
-        if self.newcomers.len() >= MOST_NEWCOMERS {
-            return;
-        }
-        if let Ok(pipe) = self.pipe_of(registry, stream) {
-            let until = self.now.saturating_add(GREETING_WAIT);
-            self.keep(Newcomer { pipe, until });
-        }
-    }
-
     /// A stream of frames, watched under a token of its own.
     pub(crate) fn pipe_of(&mut self, registry: &Registry, stream: TcpStream) -> io::Result<Pipe>
         ensures { NoneGoesBack self.old.links.items self.new.links.items }
     {
-        let mut stream = stream;
-        let token = self.next_token;
-        self.next_token = token.saturating_add(1);
-        let interest = Interest::READABLE | Interest::WRITABLE;
-        registry.register(&mut stream, Token(token), interest)?;
-        Ok(Pipe::new(self.alloc, self.greeting.shape, token, stream)?)
+        let token = self.tokens.take();
+        Pipe::watched(self.alloc, self.greeting.shape, registry, token, stream)
     }
 
-    // Reads the greetings of those that came.
-    fn hear_newcomers(&mut self)
+    /// One that came greets: it is linked, where its name is that of a member of this group that wasn't accepted before. One of
+    /// another group is given back.
+    pub fn welcome(&mut self, greeted: Greeted) -> Option<Greeted>
         ensures { NoneGoesBack self.old.links.items self.new.links.items }
     {
-        let count = self.newcomers.len();
-        'newcomers: for heard in 0..count {
-            self.hear_newcomer(count - 1 - heard);
-        }
-    }
-
-    // Reads the greeting of one that came.
-    fn hear_newcomer(&mut self, place: usize)
-        ensures { NoneGoesBack self.old.links.items self.new.links.items }
-    {
-        if place >= self.newcomers.len() {
-            return;
-        }
-        let mut newcomer = self.newcomers.swap_remove(place);
-        match newcomer.pipe.hear() {
-            Heard::Hello(hello) => self.judge(newcomer.pipe, hello),
-            Heard::Nothing => self.keep(newcomer),
-            Heard::Broken => {}
-            Heard::Said(_) | Heard::Other => self.tell(LinkEvent::Stranger),
+        match self.greeting.sender_of(&greeted.hello) {
+            Some(x) if x < self.greeting.own => {
+                self.answer(x, greeted.pipe);
+                None
+            }
+            _ => Some(greeted),
         }
     }
 
-    // Waits for the greeting of one that came, if it isn't late and few wait.
-    fn keep(&mut self, newcomer: Newcomer)
+    /// A program came that is no member.
+    pub fn note_stranger(&mut self)
         ensures { NoneGoesBack self.old.links.items self.new.links.items }
     {
-        if self.now < newcomer.until && self.newcomers.len() < MOST_NEWCOMERS {
-            let _ = self.newcomers.push(newcomer);
-        }
-    }
-
-    // One that came greets: it is linked, where its name is a member's that wasn't accepted before.
-    fn judge(&mut self, pipe: Pipe, hello: Hello)
-        ensures { NoneGoesBack self.old.links.items self.new.links.items }
-    {
-        match self.greeting.sender_of(&hello) {
-            Some(x) if x < self.greeting.own => self.answer(x, pipe),
-            _ => self.tell(LinkEvent::Stranger),
-        }
+        self.tell(LinkEvent::Stranger);
     }
 
     // A program greets in the name of the member at an index.

@@ -5,6 +5,7 @@
 
 mod accepting;
 mod connecting;
+mod door;
 mod frames;
 mod greeting;
 mod heard;
@@ -21,10 +22,12 @@ mod status;
 mod tokens;
 mod traffic;
 
+pub use door::Door;
 pub use greeting::{Greeting, process_of};
 pub use link_end::LinkEnd;
 pub use link_event::LinkEvent;
 pub use links::MemberLinks;
+pub use newcomer::{Greeted, Guest};
 pub use port::{Arrival, Port};
-pub use tokens::{FIRST_LINK, LINK_PORT};
+pub use tokens::{FIRST_LINK, LINK_PORT, LinkTokens};
 pub use traffic::Traffic;

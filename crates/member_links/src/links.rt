@@ -1,20 +1,15 @@
-ghost use Rattle.std.specs.Prelude.{◌≤◌, vec_len};
 ghost use Rattle.member_links.specs.Ages.{NoneGoesBack};
 
 use crate::greeting::{Greeting, process_of};
 use crate::link::Link;
 use crate::link_end::LinkEnd;
 use crate::link_event::LinkEvent;
-use crate::newcomer::Newcomer;
 use crate::pipe::PipeFault;
-use crate::port::Port;
 use crate::stage::Stage;
-use crate::tokens::{FIRST_LINK, LINK_PORT};
+use crate::tokens::LinkTokens;
 use group_types::ProcessId;
-use mio::Registry;
 use std::alloc::{AllocError, Global};
 use std::collections::VecDeque;
-use std::io;
 
 /// More members than a group has.
 pub(crate) const MOST_MEMBERS: u32 = 32;
@@ -25,28 +20,23 @@ pub struct MemberLinks {
     pub(crate) alloc: Global,
     pub(crate) greeting: Greeting,
     pub(crate) links: Vec<Link>,
-    pub(crate) newcomers: Vec<Newcomer>,
-    pub(crate) port: Port,
-    pub(crate) next_token: usize,
+    pub(crate) tokens: LinkTokens,
     pub(crate) now: u64,
     pub(crate) spelled: Vec<u8>,
     pub(crate) words: VecDeque<ProcessId>,
     pub(crate) events: VecDeque<LinkEvent>,
     pub(crate) end: Option<LinkEnd>,
-    ghost few: { vec_len newcomers ≤ 32 },
 }
 
 #[tactic(auto, using(crate::proofs::Aging::aging))]
 impl MemberLinks {
-    /// No link yet to the others of a group, the member being greeted as this and reached at this port.
-    pub fn new(alloc: Global, greeting: Greeting, port: Port) -> MemberLinks {
+    /// No link yet to the others of a group, the member being greeted as this. The streams of links are told of under these tokens.
+    pub fn new(alloc: Global, greeting: Greeting, tokens: LinkTokens) -> MemberLinks {
         MemberLinks {
             alloc,
             greeting,
             links: Vec::new(alloc),
-            newcomers: Vec::new(alloc),
-            port,
-            next_token: FIRST_LINK,
+            tokens,
             now: 0,
             spelled: Vec::new(alloc),
             words: VecDeque::new(alloc),
@@ -66,13 +56,6 @@ impl MemberLinks {
         Ok(())
     }
 
-    /// Connections of other members are told of from now on, under this token.
-    pub fn watch(&mut self, registry: &Registry, token: usize) -> io::Result<()>
-        ensures { NoneGoesBack self.old.links.items self.new.links.items }
-    {
-        self.port.watch(registry, token)
-    }
-
     /// It is so late, in milliseconds of a clock that never goes back.
     pub fn set_now(&mut self, now: u64)
         ensures { NoneGoesBack self.old.links.items self.new.links.items }
@@ -84,14 +67,8 @@ impl MemberLinks {
     pub fn note_ready(&mut self, token: usize, ends: bool)
         ensures { NoneGoesBack self.old.links.items self.new.links.items }
     {
-        if token == LINK_PORT {
-            return self.port.note_ready();
-        }
         'links: for x in 0..MOST_MEMBERS {
             self.note_link(x, token, ends);
-        }
-        'newcomers: for newcomer in self.newcomers.iter_mut() {
-            newcomer.pipe.note_ready(token, ends);
         }
     }
 

@@ -6,8 +6,10 @@ use edge_io::{Failed, Sink};
 use group_types::Shape;
 use link_frames::{Frame, LinkFault, LinkReader, Next};
 use mio::net::TcpStream;
+use mio::{Interest, Registry, Token};
 use outbox::{Outbox, Reading, Sending, TryEdge, TryStream};
 use std::alloc::{AllocError, Global};
+use std::io;
 
 /// The most bytes that one read takes.
 const PIECE: usize = 65_536;
@@ -47,7 +49,7 @@ pub(crate) struct Pipe {
 
 impl Pipe {
     /// A stream of which nothing was read, watched under this token.
-    pub(crate) fn new(
+    fn new(
         alloc: Global,
         shape: Shape,
         token: usize,
@@ -66,6 +68,20 @@ impl Pipe {
             greeting: Outbox::new(alloc),
             traffic: Traffic::none(),
         })
+    }
+
+    /// The same, told of by a registry from now on.
+    pub(crate) fn watched(
+        alloc: Global,
+        shape: Shape,
+        registry: &Registry,
+        token: usize,
+        stream: TcpStream,
+    ) -> io::Result<Pipe> {
+        let mut stream = stream;
+        let interest = Interest::READABLE | Interest::WRITABLE;
+        registry.register(&mut stream, Token(token), interest)?;
+        Ok(Pipe::new(alloc, shape, token, stream)?)
     }
 
     /// What is watched under a token became ready, and its peer may have closed it.

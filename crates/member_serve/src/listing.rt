@@ -1,6 +1,7 @@
 use crate::callers::Callers;
+use crate::seats::split_number;
 use crate::serving::Serving;
-use group_types::{Key, Partition};
+use group_types::Key;
 use item_index::Slot;
 use std::alloc::{AllocError, Global};
 
@@ -13,7 +14,8 @@ const NO_PARTITION: &str = "no partition has this number\n";
 
 const NO_HEAD: &str = "another member heads this partition\n";
 
-/// The items of a partition as they were when the first of them were listed, in the order of their keys.
+/// The items of a partition, by its number among those of all groups, as they were when the first of them were listed, in the
+/// order of their keys.
 #[derive(Drop)]
 pub(crate) struct Listing {
     partition: u32,
@@ -23,10 +25,11 @@ pub(crate) struct Listing {
 impl<R, W, G: Callers> Serving<'_, R, W, G> {
     /// Lists the items of a partition from a place on.
     pub(crate) fn answer_items(&mut self, at: usize, partition: u32, from: usize) {
-        if self.settings.shape.k() <= partition {
+        let (group, own) = split_number(self.settings.shape, partition);
+        if self.settings.groups <= group {
             return self.control.answer(at, NO_PARTITION);
         }
-        if !self.worker.gateway().is_head(Partition(partition)) {
+        if !self.worker.gateway().is_head(group, own) {
             return self.control.answer(at, NO_HEAD);
         }
         match self.page_of(partition, from) {
@@ -65,7 +68,8 @@ impl<R, W, G: Callers> Serving<'_, R, W, G> {
                 return Ok(listing);
             }
         }
-        let items = self.worker.gateway().items(Partition(partition))?;
+        let (group, own) = split_number(self.settings.shape, partition);
+        let items = self.worker.gateway().items(group, own)?;
         Ok(Listing {
             partition,
             items: items.unwrap_or(Vec::new(self.alloc)),

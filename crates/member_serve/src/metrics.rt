@@ -141,6 +141,15 @@ impl<R, W, G: Callers> Serving<'_, R, W, G> {
         text.push_str(lines.as_str())
     }
 
+    /// The label that says of which group a number is, in front of others: none where there is one group alone.
+    pub(crate) fn group_label(&self, group: u32) -> Result<String, AllocError> {
+        if self.settings.groups > 1 {
+            format!(in self.alloc; "group=\"{group}\",")
+        } else {
+            Ok(String::new(self.alloc))
+        }
+    }
+
     /// Whether clients are served.
     pub(crate) fn is_serving(&self) -> bool {
         self.client_port.is_open() && !self.is_stuck && !self.is_moved

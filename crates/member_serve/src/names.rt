@@ -1,3 +1,4 @@
+use crate::seats::member_of;
 use group_config::MemberSettings;
 use std::alloc::AllocError;
 
@@ -10,6 +11,11 @@ pub(crate) fn name_at(settings: &MemberSettings, x: u32) -> &str {
         Some(entry) => entry.name.as_str(),
         None => "",
     }
+}
+
+/// What the member is called that has the process at an index of a group.
+pub(crate) fn name_in(settings: &MemberSettings, group: u32, x: u32) -> &str {
+    name_at(settings, member_of(settings.shape, group, x))
 }
 
 /// The index of the member that is called so.

@@ -1,10 +1,11 @@
 ghost use Rattle.group_config.specs.MemberReading.{HasMembers};
-ghost use Rattle.group_types.specs.Names.{IsProcess};
 
-use crate::callers::Callers;
+use crate::callers::{Callers, Own};
 use crate::client_port::ClientPort;
 use crate::control::Control;
 use crate::deaths::ToldDeaths;
+use crate::machine_links::MachineLinks;
+use crate::members::{all_callers, links_in};
 use crate::ports::Ports;
 use crate::readiness::MemberReadiness;
 use crate::report::{Level, Report};
@@ -13,13 +14,10 @@ use crate::space::ToldSpace;
 use crate::tally::Tally;
 use crate::turn_clock::TurnClock;
 use group_config::{MemberKey, MemberSettings};
-use group_types::ProcessId;
-use link_frames::GroupId;
-use member_gateway::MemberGateway;
-use member_links::{Greeting, MemberLinks, Port, process_of};
+use group_gateways::GroupGateways;
+use member_links::{Door, LinkTokens, Port};
 use member_machine::{Machine, MemberEnd};
 use mio::Poll;
-use moving_gateway::MovingGateway;
 use ready_worker::{Crowd, Station, Watch, Worker};
 use std::alloc::{AllocError, Global};
 use std::net::Net;
@@ -43,15 +41,12 @@ impl<'a, R, W> NetMachine<'a, R, W> {
 }
 
 impl<R: Net + RandomSource, W: Report> NetMachine<'_, R, W> {
-    // The callers of the settings' own member.
-    fn callers(&self, settings: &MemberSettings) -> Result<MovingGateway<MemberGateway>, MemberEnd>
+    // The callers of the settings' own member, of each group.
+    fn callers(&self, settings: &MemberSettings) -> Result<GroupGateways<Own>, MemberEnd>
         requires { HasMembers settings.now }
     {
-        let Some(name) = process_of(settings.shape, settings.own) else {
-            return Err(MemberEnd::AddressFault);
-        };
-        match moving(self.alloc, settings, name) {
-            Ok(callers) => Ok(callers),
+        match all_callers(self.alloc, settings) {
+            Ok(callers) => Ok(GroupGateways::new(callers, settings.shape.k())),
             Err(_) => Err(MemberEnd::Want),
         }
     }
@@ -141,19 +136,15 @@ impl<R: Net + RandomSource, W: Report> NetMachine<'_, R, W> {
         Ok(Worker::new(station, callers, clock))
     }
 
-    // The links of a member before the first is there.
-    fn links(&self, settings: &MemberSettings, port: Port) -> Result<MemberLinks, AllocError> {
-        let greeting = Greeting {
-            group: group_of(settings.group),
-            shape: settings.shape,
-            own: settings.own,
-            drawn: self.drawn(),
-        };
-        let mut links = MemberLinks::new(self.alloc, greeting, port);
-        'members: for entry in settings.members.entries() {
-            links.add(entry.link.as_str())?;
+    // The links of a member before the first is there, and where others come in at this port.
+    fn links(&self, settings: &MemberSettings, port: Port) -> Result<MachineLinks, AllocError> {
+        let drawn = self.drawn();
+        let mut groups = Vec::new(self.alloc);
+        'groups: for group in 0..settings.groups {
+            groups.push(links_in(self.alloc, settings, group, drawn)?)?;
         }
-        Ok(links)
+        let door = Door::new(self.alloc, settings.shape, port, LinkTokens::of(0));
+        Ok(MachineLinks::new(groups, door))
     }
 
     // A number that this start draws: 0 where the system gives none.
@@ -161,29 +152,6 @@ impl<R: Net + RandomSource, W: Report> NetMachine<'_, R, W> {
         let mut bytes = [0u8; 8];
         let _ = self.rt.fill_bytes(&mut bytes);
         u64::from_be_bytes(bytes)
-    }
-}
-
-/// The callers of the member of this name, whose numbers go on from the bases of its settings.
-fn moving(
-    alloc: Global,
-    settings: &MemberSettings,
-    name: ProcessId,
-) -> Result<MovingGateway<MemberGateway>, AllocError>
-    requires { IsProcess settings.now.shape name }
-{
-    let shape = settings.shape;
-    let bases = Vec::from_slice(alloc, settings.base.as_slice())?;
-    let callers = MemberGateway::new(alloc, shape, name)?;
-    Ok(MovingGateway::new(callers, shape, bases))
-}
-
-/// The group that is called so.
-fn group_of(id: [u8; 16]) -> GroupId {
-    let [a, b, c, d, e, f, g, h, i, j, k, l, m, n, o, p] = id;
-    GroupId {
-        high: u64::from_be_bytes([a, b, c, d, e, f, g, h]),
-        low: u64::from_be_bytes([i, j, k, l, m, n, o, p]),
     }
 }
 

@@ -3,8 +3,10 @@ use crate::callers::Callers;
 use crate::names::{MOST_MEMBERS, count_of, has, with};
 use crate::report::Report;
 use crate::said::Said;
+use crate::seats::process_in;
 use crate::serving::Serving;
 use ready_worker::Watch;
+use std::alloc::AllocError;
 use std::net::Net;
 use std::time;
 
@@ -82,16 +84,30 @@ impl<R: Net + time::Clock, W: Report + Watch, G: Callers> Serving<'_, R, W, G> {
         "taken\n"
     }
 
-    // The member at an index is dead, which may have been said before. Says whether there was memory for it.
+    // The member at an index is dead, which may have been said before: groups that don't know it are told. Says whether there was
+    // memory for it.
     fn say(&mut self, x: u32) -> bool {
-        if has(self.condemned(), x) {
+        if has(self.said | self.cut_in_all(), x) {
             return true;
         }
-        if self.links.say(x).is_err() {
-            return false;
+        'groups: for group in 0..self.settings.groups {
+            if self.say_in(group, x).is_err() {
+                return false;
+            }
         }
         self.said = with(self.said, x);
         true
+    }
+
+    // The process of a group that the member at an index has is dead.
+    fn say_in(&mut self, group: u32, x: u32) -> Result<(), AllocError> {
+        if has(self.cut_in(group), x) {
+            return Ok(());
+        }
+        match process_in(self.settings.shape, group, x) {
+            Some(process) => self.links.say(group, process),
+            None => Ok(()),
+        }
     }
 
     fn answer_status(&mut self, at: usize) {

@@ -1,5 +1,6 @@
 use crate::callers::Callers;
-use crate::names::name_at;
+use crate::names::name_in;
+use crate::seats::own_in;
 use crate::serving::Serving;
 use group_types::Partition;
 use member_gateway::Usage;
@@ -56,9 +57,22 @@ impl<R, W, G: Callers> Serving<'_, R, W, G> {
         let (name, help) = (metric.name(), metric.help());
         let head = format!(in self.alloc; "# HELP {name} {help}\n# TYPE {name} gauge\n")?;
         text.push_str(head.as_str())?;
+        'groups: for group in 0..self.settings.groups {
+            self.put_metric_of(metric, group, text)?;
+        }
+        Ok(())
+    }
+
+    fn put_metric_of(
+        &self,
+        metric: PartitionMetric,
+        group: u32,
+        text: &mut String,
+    ) -> Result<(), AllocError> {
+        let own = own_in(self.settings, group);
         'partitions: for d in 0..self.settings.shape.k() {
-            if self.keeps(d) {
-                self.put_partition(metric, d, text)?;
+            if own == d || self.settings.shape.k() <= own {
+                self.put_partition(metric, group, d, text)?;
             }
         }
         Ok(())
@@ -67,21 +81,16 @@ impl<R, W, G: Callers> Serving<'_, R, W, G> {
     fn put_partition(
         &self,
         metric: PartitionMetric,
+        group: u32,
         d: u32,
         text: &mut String,
     ) -> Result<(), AllocError> {
-        let Some(usage) = self.worker.gateway().usage(Partition(d)) else {
+        let Some(usage) = self.worker.gateway().usage(group, Partition(d)) else {
             return Ok(());
         };
-        let (name, partition) = (metric.name(), name_at(self.settings, d));
-        let value = metric.value(usage);
-        let line = format!(in self.alloc; "{name}{{partition=\"{partition}\"}} {value}\n")?;
+        let (name, partition) = (metric.name(), name_in(self.settings, group, d));
+        let (label, value) = (self.group_label(group)?, metric.value(usage));
+        let line = format!(in self.alloc; "{name}{{{label}partition=\"{partition}\"}} {value}\n")?;
         text.push_str(line.as_str())
-    }
-
-    // Whether this member keeps a partition, which has the index of its data process.
-    fn keeps(&self, d: u32) -> bool {
-        let own = self.settings.own;
-        own == d || self.settings.shape.k() <= own
     }
 }

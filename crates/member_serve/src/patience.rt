@@ -22,7 +22,7 @@ impl<R, W: Report, G: Callers> Serving<'_, R, W, G> {
     // Since when fewer than k members are within reach of this one, which served clients before.
     fn few_from(&self) -> Option<u64> {
         if !self.client_port.is_open()
-            || self.links.up().saturating_add(1) >= self.settings.shape.k()
+            || self.links.fewest_up().saturating_add(1) >= self.settings.shape.k()
         {
             return None;
         }

@@ -1,5 +1,6 @@
 use crate::callers::Callers;
-use crate::names::{MOST_MEMBERS, has, name_at};
+use crate::names::{MOST_MEMBERS, has, name_in};
+use crate::seats::member_of;
 use crate::serving::Serving;
 use std::alloc::AllocError;
 
@@ -61,28 +62,47 @@ impl<R, W, G: Callers> Serving<'_, R, W, G> {
         let (name, help, kind) = (metric.name(), metric.help(), metric.kind());
         let head = format!(in self.alloc; "# HELP {name} {help}\n# TYPE {name} {kind}\n")?;
         text.push_str(head.as_str())?;
-        'members: for x in 0..MOST_MEMBERS {
-            if self.is_peer(x) {
-                self.put_peer(metric, x, text)?;
+        'groups: for group in 0..self.settings.groups {
+            self.put_peers_of(metric, group, text)?;
+        }
+        Ok(())
+    }
+
+    fn put_peers_of(
+        &self,
+        metric: PeerMetric,
+        group: u32,
+        text: &mut String,
+    ) -> Result<(), AllocError> {
+        'processes: for x in 0..MOST_MEMBERS {
+            if self.is_peer(group, x) {
+                self.put_peer(metric, group, x, text)?;
             }
         }
         Ok(())
     }
 
-    fn put_peer(&self, metric: PeerMetric, x: u32, text: &mut String) -> Result<(), AllocError> {
-        let (name, peer) = (metric.name(), name_at(self.settings, x));
-        let value = self.value_of(metric, x);
-        let line = format!(in self.alloc; "{name}{{peer=\"{peer}\"}} {value}\n")?;
+    fn put_peer(
+        &self,
+        metric: PeerMetric,
+        group: u32,
+        x: u32,
+        text: &mut String,
+    ) -> Result<(), AllocError> {
+        let (name, peer) = (metric.name(), name_in(self.settings, group, x));
+        let (label, value) = (self.group_label(group)?, self.value_of(metric, group, x));
+        let line = format!(in self.alloc; "{name}{{{label}peer=\"{peer}\"}} {value}\n")?;
         text.push_str(line.as_str())
     }
 
-    fn value_of(&self, metric: PeerMetric, x: u32) -> u64 {
+    fn value_of(&self, metric: PeerMetric, group: u32, x: u32) -> u64 {
+        let member = member_of(self.settings.shape, group, x);
         match metric {
-            PeerMetric::LinkUp => u64::from(self.links.is_up(x)),
-            PeerMetric::Condemned => u64::from(has(self.condemned(), x)),
-            PeerMetric::DeathTaken => u64::from(self.has_taken(x)),
-            PeerMetric::Sent => self.links.traffic(x).sent,
-            PeerMetric::Received => self.links.traffic(x).received,
+            PeerMetric::LinkUp => u64::from(self.links.is_up(group, x)),
+            PeerMetric::Condemned => u64::from(has(self.condemned(), member)),
+            PeerMetric::DeathTaken => u64::from(self.has_taken(group, x)),
+            PeerMetric::Sent => self.links.traffic(group, x).map_or(0, |t| t.sent),
+            PeerMetric::Received => self.links.traffic(group, x).map_or(0, |t| t.received),
         }
     }
 }

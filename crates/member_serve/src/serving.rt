@@ -3,12 +3,12 @@ use crate::client_port::ClientPort;
 use crate::control::Control;
 use crate::deaths::ToldDeaths;
 use crate::listing::Listing;
+use crate::machine_links::MachineLinks;
 use crate::readiness::MemberReadiness;
 use crate::space::ToldSpace;
 use crate::tally::Tally;
 use crate::turn_clock::TurnClock;
 use group_config::MemberSettings;
-use member_links::{LINK_PORT, MemberLinks};
 use ready_worker::{Crowd, Worker};
 use std::alloc::Global;
 use std::io;
@@ -22,7 +22,7 @@ pub(crate) struct Serving<'s, R, W, G: Callers> {
     pub(crate) settings: &'s MemberSettings,
     pub(crate) clock: &'s TurnClock,
     pub(crate) worker: Worker<'s, MemberReadiness, G, TurnClock>,
-    pub(crate) links: MemberLinks,
+    pub(crate) links: MachineLinks,
     pub(crate) control: Control,
     pub(crate) client_port: ClientPort,
     pub(crate) now: u64,
@@ -41,7 +41,7 @@ impl<R, W, G: Callers> Serving<'_, R, W, G> {
     /// Connections of other members and of operators are told of from now on.
     pub(crate) fn watch(&mut self) -> io::Result<()> {
         let registry = self.worker.readiness().registry();
-        self.links.watch(registry, LINK_PORT)?;
+        self.links.watch(registry)?;
         self.control.watch(registry)
     }
 }

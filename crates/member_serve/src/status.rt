@@ -1,15 +1,16 @@
 use crate::callers::Callers;
-use crate::names::{MOST_MEMBERS, name_at, put_names, with};
+use crate::names::{name_at, put_names};
+use crate::seats::number_of;
 use crate::serving::Serving;
 use group_types::Partition;
-use member_links::process_of;
 use std::alloc::AllocError;
 
 impl<R, W, G: Callers> Serving<'_, R, W, G> {
-    /// What this member knows, as lines of a name and a value, and a last line `end`.
+    /// What this member knows, as lines of a name and a value, and a last line `end`. Where there are several groups, a line that
+    /// is of one begins with it.
     pub(crate) fn status(&self) -> Result<String, AllocError> {
         let mut text = self.name_lines()?;
-        self.put_deaths(&mut text)?;
+        self.put_all_links(&mut text)?;
         let counts = self.count_lines()?;
         text.push_str(counts.as_str())?;
         self.put_moving(&mut text)?;
@@ -17,34 +18,72 @@ impl<R, W, G: Callers> Serving<'_, R, W, G> {
         Ok(text)
     }
 
-    // The member's name, and the group's shape.
+    // The member's name, the groups' shape, and how many groups there are, where they are several.
     fn name_lines(&self) -> Result<String, AllocError> {
         let name = name_at(self.settings, self.settings.own);
         let shape = self.settings.shape;
         let (k, m, blocks, block) = (shape.k(), shape.m(), shape.blocks(), shape.block());
+        let groups = self.settings.groups;
+        if groups > 1 {
+            return format!(in self.alloc;
+                "name {name}\nshape {k} {m} {blocks} {block}\ngroups {groups}\n"
+            );
+        }
         format!(in self.alloc; "name {name}\nshape {k} {m} {blocks} {block}\n")
     }
 
-    // Who was said here to be dead, who is cut, whose deaths are taken, and who isn't cut and has no link.
-    fn put_deaths(&self, text: &mut String) -> Result<(), AllocError> {
+    // Who was said here to be dead, and the links of each group.
+    fn put_all_links(&self, text: &mut String) -> Result<(), AllocError> {
         text.push_str("said ")?;
         put_names(self.settings, self.said, text)?;
-        text.push_str("\ncut ")?;
-        put_names(self.settings, self.cut(), text)?;
-        text.push_str("\ntaken ")?;
-        put_names(self.settings, self.taken(), text)?;
-        text.push_str("\nunlinked ")?;
-        put_names(self.settings, self.unlinked(), text)
+        text.push('\n')?;
+        'groups: for group in 0..self.settings.groups {
+            self.put_links(group, text)?;
+        }
+        Ok(())
     }
 
-    // How many links, clients, calls and answers there are.
+    // Who is cut in a group, whose deaths are taken, who isn't cut and has no link, and how many links there are.
+    fn put_links(&self, group: u32, text: &mut String) -> Result<(), AllocError> {
+        let prefix = self.group_prefix(group)?;
+        self.put_set(&prefix, "cut ", self.cut_in(group), text)?;
+        self.put_set(&prefix, "taken ", self.taken_in(group), text)?;
+        self.put_set(&prefix, "unlinked ", self.unlinked_in(group), text)?;
+        let up = self.links.up(group);
+        let line = format!(in self.alloc; "{prefix}links {up}\n")?;
+        text.push_str(line.as_str())
+    }
+
+    fn put_set(
+        &self,
+        prefix: &String,
+        name: &str,
+        set: u32,
+        text: &mut String,
+    ) -> Result<(), AllocError> {
+        text.push_str(prefix.as_str())?;
+        text.push_str(name)?;
+        put_names(self.settings, set, text)?;
+        text.push('\n')
+    }
+
+    // What stands in front of a line that is of a group: nothing where there is one alone.
+    fn group_prefix(&self, group: u32) -> Result<String, AllocError> {
+        if self.settings.groups > 1 {
+            format!(in self.alloc; "group {group} ")
+        } else {
+            Ok(String::new(self.alloc))
+        }
+    }
+
+    // How many clients, calls and answers there are.
     fn count_lines(&self) -> Result<String, AllocError> {
         let gateway = self.worker.gateway();
-        let (up, clients) = (self.links.up(), self.worker.len());
+        let clients = self.worker.len();
         let serves = if self.is_serving() { "yes" } else { "no" };
         let (calls, parked, unshown) = (gateway.open_calls(), gateway.parked(), gateway.unshown());
         format!(in self.alloc;
-            "\nlinks {up}\nserves {serves}\nclients {clients}\ncalls {calls}\nparked {parked}\nanswers {unshown}\n"
+            "serves {serves}\nclients {clients}\ncalls {calls}\nparked {parked}\nanswers {unshown}\n"
         )
     }
 
@@ -57,78 +96,35 @@ impl<R, W, G: Callers> Serving<'_, R, W, G> {
             "closed {closed}\nmoved {moved}\nchanging {changing}\n"
         )?;
         text.push_str(lines.as_str())?;
+        'groups: for group in 0..self.settings.groups {
+            self.put_all_headed(group, text)?;
+        }
+        Ok(())
+    }
+
+    // How far the partitions of a group are that it heads there.
+    fn put_all_headed(&self, group: u32, text: &mut String) -> Result<(), AllocError> {
         'partitions: for d in 0..self.settings.shape.k() {
-            if gateway.is_head(Partition(d)) {
-                self.put_headed(d, text)?;
+            if self.worker.gateway().is_head(group, Partition(d)) {
+                self.put_headed(group, d, text)?;
             }
         }
         Ok(())
     }
 
     // How many updates of a partition are unfinished, and the last number that was given in it, as it is told.
-    fn put_headed(&self, d: u32, text: &mut String) -> Result<(), AllocError> {
+    fn put_headed(&self, group: u32, d: u32, text: &mut String) -> Result<(), AllocError> {
         let gateway = self.worker.gateway();
-        let Some(usage) = gateway.usage(Partition(d)) else {
+        let Some(usage) = gateway.usage(group, Partition(d)) else {
             return Ok(());
         };
-        let unfinished = usage.unfinished;
-        let line = format!(in self.alloc; "unfinished {d} {unfinished}\n")?;
+        let (number, unfinished) = (number_of(self.settings.shape, group, d), usage.unfinished);
+        let line = format!(in self.alloc; "unfinished {number} {unfinished}\n")?;
         text.push_str(line.as_str())?;
-        if let Some(last) = gateway.told(Partition(d), usage.last) {
-            let line = format!(in self.alloc; "base {d} {last}\n")?;
+        if let Some(last) = gateway.told(group, Partition(d), usage.last) {
+            let line = format!(in self.alloc; "base {number} {last}\n")?;
             text.push_str(line.as_str())?;
         }
         Ok(())
-    }
-
-    /// Who is cut, or was said to be dead here.
-    pub(crate) fn condemned(&self) -> u32 {
-        self.said | self.cut()
-    }
-
-    /// Who is cut.
-    pub(crate) fn cut(&self) -> u32 {
-        let mut set = 0;
-        'members: for x in 0..MOST_MEMBERS {
-            if self.links.has_cut(x) {
-                set = with(set, x);
-            }
-        }
-        set
-    }
-
-    /// Whose deaths are taken.
-    pub(crate) fn taken(&self) -> u32 {
-        let mut set = 0;
-        'members: for x in 0..MOST_MEMBERS {
-            if self.has_taken(x) {
-                set = with(set, x);
-            }
-        }
-        set
-    }
-
-    // Who isn't cut and has no link to this member.
-    fn unlinked(&self) -> u32 {
-        let mut set = 0;
-        'members: for x in 0..MOST_MEMBERS {
-            if self.is_peer(x) && !self.links.is_up(x) && !self.links.has_cut(x) {
-                set = with(set, x);
-            }
-        }
-        set
-    }
-
-    /// Whether a member has this index, another than this one.
-    pub(crate) fn is_peer(&self, x: u32) -> bool {
-        x != self.settings.own && process_of(self.settings.shape, x).is_some()
-    }
-
-    /// Whether the death of the member at an index is taken.
-    pub(crate) fn has_taken(&self, x: u32) -> bool {
-        match process_of(self.settings.shape, x) {
-            Some(name) => self.worker.gateway().has_taken(name),
-            None => false,
-        }
     }
 }

@@ -1,5 +1,5 @@
 //! What a person is told of a member.
-use crate::names::name_at;
+use crate::names::{name_at, name_in};
 use crate::report::{Level, Report};
 use group_config::MemberSettings;
 use member_links::{LinkEnd, LinkEvent};
@@ -11,9 +11,10 @@ pub(crate) fn tell_event<W: Report>(
     alloc: Global,
     report: &W,
     settings: &MemberSettings,
+    group: u32,
     event: LinkEvent,
 ) {
-    let text = text_of_event(alloc, settings, event);
+    let text = text_of_event(alloc, settings, group, event);
     tell(report, level_of_event(event), text);
 }
 
@@ -22,9 +23,14 @@ pub(crate) fn tell_end<W: Report>(
     alloc: Global,
     report: &W,
     settings: &MemberSettings,
+    group: u32,
     end: LinkEnd,
 ) {
-    tell(report, Level::Warning, text_of_end(alloc, settings, end));
+    tell(
+        report,
+        Level::Warning,
+        text_of_end(alloc, settings, group, end),
+    );
 }
 
 /// Tells that nothing can be had at an address.
@@ -94,7 +100,11 @@ pub(crate) fn tell_condemned<W: Report>(
 /// Tells that the death of the member at an index is taken.
 pub(crate) fn tell_taken<W: Report>(alloc: Global, report: &W, settings: &MemberSettings, x: u32) {
     let name = name_at(settings, x);
-    let text = format!(in alloc; "the group goes on without {name}");
+    let text = if settings.groups > 1 {
+        format!(in alloc; "all groups go on without {name}")
+    } else {
+        format!(in alloc; "the group goes on without {name}")
+    };
     tell(report, Level::Notice, text);
 }
 
@@ -102,6 +112,21 @@ pub(crate) fn tell_taken<W: Report>(alloc: Global, report: &W, settings: &Member
 pub(crate) fn tell_no_space<W: Report>(alloc: Global, report: &W, more: u64) {
     let text = format!(in alloc; "no space: {more} more calls were refused for want of a free run");
     tell(report, Level::Warning, text);
+}
+
+/// What the member is called that has the process at an index of a group, with the group where there are several.
+fn called(
+    alloc: Global,
+    settings: &MemberSettings,
+    group: u32,
+    x: u32,
+) -> Result<String, AllocError> {
+    let name = name_in(settings, group, x);
+    if settings.groups > 1 {
+        format!(in alloc; "{name} of group {group}")
+    } else {
+        String::from_str(alloc, name)
+    }
 }
 
 fn tell<W: Report>(report: &W, level: Level, line: Result<String, AllocError>) {
@@ -120,19 +145,20 @@ fn level_of_event(event: LinkEvent) -> Level {
 fn text_of_event(
     alloc: Global,
     settings: &MemberSettings,
+    group: u32,
     event: LinkEvent,
 ) -> Result<String, AllocError> {
     match event {
         LinkEvent::Up(x) => {
-            let name = name_at(settings, x);
+            let name = called(alloc, settings, group, x)?;
             format!(in alloc; "linked to {name}")
         }
         LinkEvent::Broken(x) => {
-            let name = name_at(settings, x);
+            let name = called(alloc, settings, group, x)?;
             format!(in alloc; "the link to {name} broke")
         }
         LinkEvent::Again(x) => {
-            let name = name_at(settings, x);
+            let name = called(alloc, settings, group, x)?;
             format!(in alloc;
                 "a program came as {name}, which was linked before: it is no member any more, or this one isn't"
             )
@@ -144,23 +170,24 @@ fn text_of_event(
 fn text_of_end(
     alloc: Global,
     settings: &MemberSettings,
+    group: u32,
     end: LinkEnd,
 ) -> Result<String, AllocError> {
     match end {
         LinkEnd::Misfit(x) => {
-            let name = name_at(settings, x);
+            let name = called(alloc, settings, group, x)?;
             format!(in alloc; "{name} said what can't be: this member stops")
         }
         LinkEnd::BadFrame(x) => {
-            let name = name_at(settings, x);
+            let name = called(alloc, settings, group, x)?;
             format!(in alloc; "what came of {name} is no frame with its sum: this member stops")
         }
         LinkEnd::NoSpelling(x) => {
-            let name = name_at(settings, x);
+            let name = called(alloc, settings, group, x)?;
             format!(in alloc; "a frame for {name} can't be written: this member stops")
         }
         LinkEnd::Refused(x) => {
-            let name = name_at(settings, x);
+            let name = called(alloc, settings, group, x)?;
             format!(in alloc;
                 "{name} was linked to this member's name before: a program that is started anew is no member"
             )

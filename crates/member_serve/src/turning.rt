@@ -3,6 +3,7 @@ use crate::client_port::CLIENT_PORT;
 use crate::control::{CONTROL_PORT, FIRST_CONTROL};
 use crate::noting::Noted;
 use crate::report::Report;
+use crate::seats::member_of;
 use crate::serving::Serving;
 use crate::telling::{tell_end, tell_event};
 use member_links::{LinkEnd, LinkEvent};
@@ -87,9 +88,9 @@ impl<R: Net + time::Clock, W: Report + Watch, G: Callers> Serving<'_, R, W, G> {
 
     // Takes what came from the others, serves the clients that can go on, and sends what is to go to the others.
     fn exchange(&mut self, ready: usize) {
-        self.worker.receive(&mut self.links);
+        self.worker.receive(&mut self.links.groups);
         self.serve_clients(ready);
-        self.worker.send(&mut self.links);
+        self.worker.send(&mut self.links.groups);
         self.links.write_out();
     }
 
@@ -106,35 +107,47 @@ impl<R: Net + time::Clock, W: Report + Watch, G: Callers> Serving<'_, R, W, G> {
 
     // Tells what became of links.
     fn tell_events(&mut self) {
+        'groups: for group in 0..self.settings.groups {
+            self.tell_events_in(group);
+        }
+    }
+
+    fn tell_events_in(&mut self, group: u32) {
         'events: for _ in 0..MOST_EVENTS {
-            match self.links.next_event() {
-                Some(event) => self.tell(event),
+            match self.links.next_event(group) {
+                Some(event) => self.tell(group, event),
                 None => return,
             }
         }
     }
 
-    fn tell(&mut self, event: LinkEvent) {
+    fn tell(&mut self, group: u32, event: LinkEvent) {
         if let LinkEvent::Broken(_) = event {
             self.tally.lose_link();
         }
-        tell_event(self.alloc, self.report, self.settings, event);
+        tell_event(self.alloc, self.report, self.settings, group, event);
     }
 
-    // Why the member has to stop, if it has to: a person is told.
+    // Why the member has to stop, if one of its groups has it to: a person is told.
     fn end(&self) -> Option<MemberEnd> {
-        let end = self.links.end()?;
-        tell_end(self.alloc, self.report, self.settings, end);
-        Some(end_of(end))
+        'groups: for group in 0..self.settings.groups {
+            if let Some(end) = self.links.end(group) {
+                tell_end(self.alloc, self.report, self.settings, group, end);
+                return Some(self.end_of(group, end));
+            }
+        }
+        None
     }
-}
 
-/// How a run ends that has to stop for this reason.
-fn end_of(end: LinkEnd) -> MemberEnd {
-    match end {
-        LinkEnd::Misfit(peer) | LinkEnd::BadFrame(peer) => MemberEnd::Misfit { peer },
-        LinkEnd::NoSpelling(_) => MemberEnd::LinkFault,
-        LinkEnd::Refused(_) => MemberEnd::Refused,
+    // How a run ends that has to stop for this reason, of a group.
+    fn end_of(&self, group: u32, end: LinkEnd) -> MemberEnd {
+        match end {
+            LinkEnd::Misfit(x) | LinkEnd::BadFrame(x) => MemberEnd::Misfit {
+                peer: member_of(self.settings.shape, group, x),
+            },
+            LinkEnd::NoSpelling(_) => MemberEnd::LinkFault,
+            LinkEnd::Refused(_) => MemberEnd::Refused,
+        }
     }
 }
 

@@ -25,10 +25,20 @@ fn told_settings(alloc: Global, settings: &MemberSettings) -> Result<String, All
     let own = told_own(alloc, entries, settings.own)?;
     let CallOrder::Strict = settings.order;
     let (patience, one_word) = (settings.patience, settings.one_word);
+    let groups = groups_of(alloc, settings.groups)?;
     let bases = bases_of(alloc, settings.base.as_slice())?;
     format!(in alloc;
-        "{group} {k} {m} {blocks} {block},{names}, {own}, strict, {patience}, {one_word}{bases}"
+        "{group} {k} {m} {blocks} {block},{names}, {own}, strict, {patience}, {one_word}{groups}{bases}"
     )
+}
+
+// How many groups there are, where they are several.
+fn groups_of(alloc: Global, groups: u32) -> Result<String, AllocError> {
+    if groups > 1 {
+        format!(in alloc; ", {groups} groups")
+    } else {
+        Ok(String::new(alloc))
+    }
 }
 
 // The bases, where there are some, a space in front of each.
