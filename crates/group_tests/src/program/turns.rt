@@ -114,6 +114,6 @@ fn a_value_is_written_at_once(rt: HostRuntime) -> Result<(), Fail> {
     let texts = [(first, 0), (rest, 0)];
     let status = serve(&rt, rt.alloc(), &texts, &heard)?;
     assert_eq!(rt; status, Status::Done);
-    assert_eq!(rt; heard.piece.load(Ordering::SeqCst), 70_026);
+    assert_eq!(rt; heard.piece.load(Ordering::SeqCst), 70_021);
     Ok(())
 }
