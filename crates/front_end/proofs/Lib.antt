@@ -1,10 +1,13 @@
+pub mod Ahead
 pub mod Answering
 pub mod Asking
 pub mod Handing
 pub mod Leading
 pub mod Piecing
+pub mod Sequences
 pub mod Serving
 pub mod Settling
 pub mod Stepping
 pub mod Turning
+pub mod Walking
 pub mod Writing

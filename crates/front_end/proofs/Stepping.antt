@@ -123,7 +123,7 @@ fewer-wait k n given waiting is some = by_left (drop n given) refl
     by_left [] none = absurd (some (sym is ∙ ap (waiting_behind k) none))
     by_left (request ∷ left) e = let l : length (drop n given) ≡ suc (length left) = ap length e in omega (arith, l, length-drop n given)
 
-whole-behind : (waiting : List Request) → waiting_behind 0 waiting ≡ waiting
+pub whole-behind : (waiting : List Request) → waiting_behind 0 waiting ≡ waiting
 whole-behind [] = refl
 whole-behind (Get keys with_cas ∷ others) = refl
 whole-behind (Change act noreply ∷ others) = refl

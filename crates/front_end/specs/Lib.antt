@@ -1,3 +1,4 @@
+pub mod Ahead
 pub mod Answers
 pub mod AtOnce
 pub mod Calls
@@ -8,5 +9,6 @@ pub mod Going
 pub mod Order
 pub mod Piece
 pub mod Progress
+pub mod Sequences
 pub mod Settling
 pub mod Turns

@@ -11,9 +11,11 @@ use crate::caller::{Caller, make_call};
 use crate::close::{close_at, end_at, has_quit};
 use crate::due::Due;
 use crate::end::{ConnectionFault, End};
+use crate::overlap::Need;
 use crate::waiting::Waiting;
 use edge_io::{Clock, Sink};
 use memc_proto::{CallEnd, FailEnd, Reader};
+use memc_table::Op;
 use std::alloc::{AllocError, Global};
 use std::marker::Model;
 
@@ -49,9 +51,10 @@ impl Model for Connection {
 }
 
 impl Connection {
-    ghost use Rattle.std.specs.Prelude.{◌≡◌, ◌≢◌, ◌+◌, ◌≤◌, ◌↔◌, ◌^◌, IfOk, OnOk, IfErr, OnErr, IsTrue};
+    ghost use Rattle.std.specs.Prelude.{◌≡◌, ◌≢◌, ◌+◌, ◌≤◌, ◌↔◌, ◌^◌, Ok, None, IfOk, IfSome, OnOk, IfErr, OnErr, IsTrue};
     ghost use Rattle.edge_io.specs.Writing.{HasWritten};
     ghost use Rattle.memc_proto.specs.Text.{fail_text};
+    ghost use Rattle.front_end.specs.Ahead.{HasNeed, IsDueAhead, NoneIsDueAhead, unneeded_of};
     ghost use Rattle.front_end.specs.Answers.{stand};
     ghost use Rattle.front_end.specs.Progress.{HasStepped, BreaksAt};
     ghost use Rattle.front_end.specs.Settling.{CallIsDue, HasSettled, HasTold, IsDue, OrderIsDue, TextIsDue, first_text, own_text};
@@ -144,6 +147,31 @@ impl Connection {
         ensures due { IfOk result (IsDue (T.moment clock.now) self.now.waiting) }
     {
         self.waiting.due(clock)
+    }
+
+    /// What the first request that waits needs.
+    pub fn need(&self) -> Need
+        requires some { self.now.waiting ≢ [] }
+        ensures { HasNeed self.now.waiting result }
+    {
+        self.waiting.need()
+    }
+
+    /// The call that may begin behind so many that are under way: none where one of these asks its key, the requests need no
+    /// further call, or an order comes first.
+    pub fn ahead<T: Clock>(&self, begun: usize, clock: &T) -> Result<Option<Op>, AllocError>
+        ensures due { IfOk result (λ next. IfSome next (IsDueAhead (T.moment clock.now) self.now.waiting begun)) }
+        ensures none { result ≡ Ok None → NoneIsDueAhead self.now.waiting begun }
+    {
+        self.waiting.ahead(begun, clock)
+    }
+
+    /// How many calls of the first request needn't be made any more where its next one ended so.
+    pub fn unneeded(&self, end: &CallEnd) -> usize
+        requires due { CallIsDue self.now.waiting }
+        ensures { result ≡ unneeded_of end.now self.now.waiting }
+    {
+        self.waiting.unneeded(end)
     }
 
     /// Takes the end of the call that was due, and writes its text. After a fault the request still waits.

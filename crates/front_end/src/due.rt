@@ -59,13 +59,13 @@ fn call_at<T: Clock>(act: Act, clock: &T) -> Due
     Due::Call(Op::new(clock.now(), act))
 }
 
-fn copy_of(act: &Act) -> Result<Act, AllocError>
+pub(crate) fn copy_of(act: &Act) -> Result<Act, AllocError>
     ensures { IfOk result (λ copy. copy ≡ act.now) }
 {
     act.clone()
 }
 
-fn get_of(key: &Key) -> Result<Act, AllocError>
+pub(crate) fn get_of(key: &Key) -> Result<Act, AllocError>
     ensures { IfOk result (λ act. act ≡ Act.Get key.now) }
 {
     Ok(Act::Get { key: key.clone()? })

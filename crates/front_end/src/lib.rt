@@ -4,6 +4,7 @@
 //! gateway. What a call does is left to the caller or the gateway.
 #![tactic(auto)]
 
+mod acts;
 mod answers;
 mod at_once;
 mod caller;
@@ -13,6 +14,7 @@ mod due;
 mod end;
 mod gateway;
 mod keys;
+mod overlap;
 mod piece;
 mod serve;
 mod settle;
@@ -25,4 +27,5 @@ pub use connection::Connection;
 pub use due::Due;
 pub use end::{ConnectionFault, End};
 pub use gateway::Gateway;
+pub use overlap::{Need, Overlap};
 pub use serve::serve_connection;

@@ -1,11 +1,14 @@
 ghost use Rattle.std.specs.Prelude.{◌≡◌, [], false};
 
+use crate::acts::{act_ahead, asks_ahead, count_acts, key_ahead, need_at};
 use crate::due::{Due, due_at};
 use crate::end::ConnectionFault;
+use crate::overlap::Need;
 use crate::settle::{settle_at, write_own};
-use crate::text::write_text;
+use crate::text::{is_reply, write_text};
 use edge_io::{Clock, Sink};
 use memc_proto::{CallEnd, FailEnd, Requests, fail_text};
+use memc_table::Op;
 use std::alloc::{AllocError, Global};
 use std::marker::Model;
 
@@ -30,9 +33,10 @@ impl Model for Waiting {
 }
 
 impl Waiting {
-    ghost use Rattle.std.specs.Prelude.{◌≡◌, ◌≢◌, drop, true, IfOk, OnOk, OnErr};
+    ghost use Rattle.std.specs.Prelude.{◌≡◌, ◌≢◌, drop, true, Ok, None, IfOk, IfSome, OnOk, OnErr};
     ghost use Rattle.edge_io.specs.Writing.{HasWritten};
     ghost use Rattle.memc_proto.specs.Text.{fail_text};
+    ghost use Rattle.front_end.specs.Ahead.{HasNeed, IsDueAhead, NoneIsDueAhead, unneeded_of};
     ghost use Rattle.front_end.specs.Faults.{HasSinkCause};
     ghost use Rattle.front_end.specs.Settling.{CallIsDue, HasSettled, HasTold, IsDue, OrderIsDue, TextIsDue, first_text, own_text};
 
@@ -68,6 +72,43 @@ impl Waiting {
         ensures due { IfOk result (IsDue (T.moment clock.now) self.now) }
     {
         due_at(&self.given.requests()[self.answered], self.keys, clock)
+    }
+
+    /// What the first one needs.
+    pub(crate) fn need(&self) -> Need
+        requires some { self.now ≢ [] }
+        ensures { HasNeed self.now result }
+    {
+        need_at(&self.given.requests()[self.answered], self.keys)
+    }
+
+    /// The call that may begin behind so many that are under way.
+    pub(crate) fn ahead<T: Clock>(&self, begun: usize, clock: &T) -> Result<Option<Op>, AllocError>
+        ensures due { IfOk result (λ next. IfSome next (IsDueAhead (T.moment clock.now) self.now begun)) }
+        ensures none { result ≡ Ok None → NoneIsDueAhead self.now begun }
+    {
+        let requests = &self.given.requests()[self.answered..];
+        let Some(key) = key_ahead(requests, self.keys, begun) else {
+            return Ok(None);
+        };
+        if asks_ahead(requests, self.keys, begun, key) {
+            return Ok(None);
+        }
+        let Some(act) = act_ahead(requests, self.keys, begun)? else {
+            return Ok(None);
+        };
+        Ok(Some(Op::new(clock.now(), act)))
+    }
+
+    /// How many calls of the first one needn't be made any more where its next one ended so.
+    pub(crate) fn unneeded(&self, end: &CallEnd) -> usize
+        requires due { CallIsDue self.now }
+        ensures { result ≡ unneeded_of end.now self.now }
+    {
+        if is_reply(end) {
+            return 0;
+        }
+        count_acts(&self.given.requests()[self.answered], self.keys) - 1
     }
 
     /// Writes the text of the end of the call that was due. After a fault the request still waits.
