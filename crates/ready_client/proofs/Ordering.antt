@@ -1,4 +1,4 @@
--- The calls of one connection over a caller whose calls are made at once.
+-- The calls of one connection whose requests are all answered.
 use Rattle.std.proofs.Common.{◌≡◌, ℕ, List, [], ◌∷◌, Option, None, append-nil, sym, subst}
 use Rattle.edge_io.specs.Moving.{Appends, Input}
 use Rattle.memc_proto.specs.Reader.{HasRead}
@@ -6,13 +6,19 @@ use Rattle.memc_proto.specs.declared.request.Request.{Request}
 use Rattle.front_end.specs.Answers.{stand}
 use Rattle.front_end.specs.AtOnce.{at_once}
 use Rattle.front_end.specs.Calls.{Call, Made, Failed, Ways, Leads, LeadsBy}
+use Rattle.front_end.specs.Gateway.{Rules}
 use Rattle.front_end.specs.Going.{GoesOn}
 use Rattle.front_end.specs.Order.{IsOrder, among}
 use Rattle.front_end.specs.Progress.{Progress}
+use Rattle.front_end.specs.Sequences.{sequence_of}
 use Rattle.front_end.specs.Turns.{text_in}
 use Rattle.front_end.specs.declared.at_once.AtOnce.{AtOnce}
-use Rattle.ready_client.specs.Coming.{Comes}
-use Rattle.ready_client.specs.Ordered.{AnsweredInOrder, AreInOrder}
+use Rattle.front_end.specs.declared.overlap.Overlap.{Overlap}
+use Rattle.front_end.specs.declared.overlap.Overlap.TheVariants.{Never}
+use Rattle.front_end.proofs.Sequences.{never-goes_on}
+use Rattle.ready_client.specs.Coming.{ways_of, Comes}
+use Rattle.ready_client.specs.Ordered.{AnsweredInOrder, AnsweredInSequences, AreInOrder, AreInSequences}
+use Rattle.ready_client.specs.declared.open_call.OpenCall.{OpenCall}
 use Rattle.ready_client.proofs.Coming.{goes-of}
 
 module _ {C : Type 0} (ways : Ways C) (later : C → C → Type 0) (order : IsOrder later) where
@@ -39,18 +45,55 @@ module _ {C : Type 0} (ways : Ways C) (later : C → C → Type 0) (order : IsOr
       (made.before, made.after, order.on from last.caller made.before behind made.behind, made.leads, in-order made.after leads.0 calls now end made.follows onward leads.2)
 
   -- where all that was read is answered, the calls were made in their order
-  pub answered-in-order : (told : Option ℕ) (input input_now : Input) (first now : AtOnce C) (before held : List ℕ) (progress : Progress) → progress.waiting ≡ []
-      → Comes (at_once ways later) told input input_now first before now held progress None None
+  pub answered-in-order : (told : Option ℕ) (input input_now : Input) (first now : AtOnce C) (before held : List ℕ) (progress : Progress) (calls : List (OpenCall _)) (unwanted : ℕ) → progress.waiting ≡ []
+      → Comes (at_once ways later) Never told input input_now first before now held progress calls unwanted None
       → AnsweredInOrder ways later told input input_now progress.kept first.caller now.caller before held
-  answered-in-order told input input_now first now before held progress none come = record {
+  answered-in-order told input input_now first now before held progress calls unwanted none come = record {
     read = goes.read;
     consumed = goes.consumed;
     turns = goes.answered.turns;
     has_read = subst (λ (requests : List Request). HasRead progress.kept goes.read requests) (sym goes.answered.asked) goes.has_read;
     whole = goes.answered.whole;
-    order = in-order first.caller first _ come.last now.caller (order.same first.caller) come.later goes.answered.leads;
+    order = in-order first.caller first _ (come.ends []) now.caller (order.same first.caller) (come.later []) goes.answered.leads;
     bytes = subst (λ (text : List ℕ). Appends before held text) (append-nil (text_in goes.answered.turns)) goes.answered.bytes;
   }
     where
-      goes : GoesOn ways_among told input input_now (stand first before) (stand come.last held) progress.kept progress.count
-      goes = goes-of ways_among told input input_now (stand first before) (stand come.last held) progress none come.come
+      goes : GoesOn ways_among told input input_now (stand first before) (stand (come.ends []) held) progress.kept progress.count
+      goes = never-goes_on (at_once ways later).later (at_once ways later).ways told input input_now (λ _. first) come.ends before held progress.kept progress.count
+          (goes-of (ways_of (at_once ways later) Never) told input input_now (stand (λ _. first) before) (stand come.ends held) progress none come.come)
+
+module _ {G K : Type 0} (rules : Rules G K) (overlap : Overlap) where
+  in-sequences : (ends : List ℕ → G) (calls : List Call) (ends_now : List ℕ → G) (now : G) → ((s : List ℕ) → rules.later (ends_now s) now) → Leads (ways_of rules overlap) ends calls ends_now
+      → AreInSequences rules.ways rules.later (sequence_of overlap) ends calls now
+  in-sequences ends [] ends_now now onward leads = subst (λ (e : List ℕ → G). (s : List ℕ) → rules.later (e s) now) leads onward
+  in-sequences ends (Made op end ∷ calls) ends_now now onward (next, made, leads) = (
+    made.0,
+    made.1,
+    made.2,
+    made.3,
+    subst (λ (e : List ℕ → G). AreInSequences rules.ways rules.later (sequence_of overlap) e calls now) made.4 (in-sequences next calls ends_now now onward leads),
+  )
+  in-sequences ends (Failed at keep end ∷ calls) ends_now now onward (next, failed, leads) = (
+    failed.0,
+    failed.1,
+    failed.2,
+    failed.3,
+    subst (λ (e : List ℕ → G). AreInSequences rules.ways rules.later (sequence_of overlap) e calls now) failed.4 (in-sequences next calls ends_now now onward leads),
+  )
+
+  -- where all that was read is answered, the calls of each sequence were made in their order
+  pub answered-in-sequences : (told : Option ℕ) (input input_now : Input) (first now : G) (before held : List ℕ) (progress : Progress) (calls : List (OpenCall K)) (unwanted : ℕ) → progress.waiting ≡ []
+      → Comes rules overlap told input input_now first before now held progress calls unwanted None
+      → AnsweredInSequences rules.ways rules.later (sequence_of overlap) told input input_now progress.kept first now before held
+  answered-in-sequences told input input_now first now before held progress calls unwanted none come = record {
+    read = goes.read;
+    consumed = goes.consumed;
+    turns = goes.answered.turns;
+    has_read = subst (λ (requests : List Request). HasRead progress.kept goes.read requests) (sym goes.answered.asked) goes.has_read;
+    whole = goes.answered.whole;
+    order = in-sequences (λ _. first) _ come.ends now come.later goes.answered.leads;
+    bytes = subst (λ (text : List ℕ). Appends before held text) (append-nil (text_in goes.answered.turns)) goes.answered.bytes;
+  }
+    where
+      goes : GoesOn (ways_of rules overlap) told input input_now (stand (λ _. first) before) (stand come.ends held) progress.kept progress.count
+      goes = goes-of (ways_of rules overlap) told input input_now (stand (λ _. first) before) (stand come.ends held) progress none come.come

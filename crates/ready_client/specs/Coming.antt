@@ -1,23 +1,23 @@
 -- How far a connection has come that is served step by step.
-use Rattle.std.specs.Prelude.{ℕ, zero, suc, ◌≡◌, ◌≢◌, ◌+◌, ◌≤◌, ◌⊎◌, Bool, true, false, List, [], ◌∷◌, ◌++◌, length, IsSome, Option, Some, None, Result, Ok, Err, ⊤}
+use Rattle.std.specs.Prelude.{ℕ, zero, suc, ◌≡◌, ◌≢◌, ◌+◌, ◌<◌, ◌≤◌, ◌⊎◌, List, [], ◌++◌, drop, length, Option, Some, None, Result, Ok, Err}
 use Rattle.std.specs.List.{list_any}
 use Rattle.edge_io.specs.Moving.{Input, Takes}
 use Rattle.memc_proto.specs.Reader.{Kept, HasRead}
 use Rattle.memc_proto.specs.Reads.{is_quit}
 use Rattle.memc_proto.specs.declared.request.Request.{Request}
-use Rattle.memc_proto.specs.declared.request.Request.TheVariants.{Get, Change, Version, Quit, Fail, Refused}
-use Rattle.memc_table.specs.Asked.{Asked}
+use Rattle.front_end.specs.Ahead.{acts_ahead}
 use Rattle.front_end.specs.Answers.{Stand, stand}
 use Rattle.front_end.specs.Calls.{Ways}
 use Rattle.front_end.specs.Connection.{HasServed}
 use Rattle.front_end.specs.Gateway.{Rules}
 use Rattle.front_end.specs.Going.{GoesOn}
-use Rattle.front_end.specs.Order.{among}
 use Rattle.front_end.specs.Progress.{Progress, HasStepped}
-use Rattle.front_end.specs.Settling.{IsDue}
-use Rattle.front_end.specs.declared.due.Due.TheVariants.{Call}
+use Rattle.front_end.specs.Sequences.{in_sequence, sequence_of}
 use Rattle.front_end.specs.declared.end.ConnectionFault.{ConnectionFault}
 use Rattle.front_end.specs.declared.end.End.{End}
+use Rattle.front_end.specs.declared.overlap.Overlap.{Overlap}
+use Rattle.ready_client.specs.Calling.{AreCalls, StandOnce, AreOpen}
+use Rattle.ready_client.specs.declared.open_call.OpenCall.{OpenCall}
 use Rattle.ready_client.specs.declared.step.Step.{Step}
 use Rattle.ready_client.specs.declared.step.Step.TheVariants.{Goes, Waits, Ends}
 
@@ -51,6 +51,10 @@ HasComeTo ways told input input_now before now progress None =
     ⊎ (progress.waiting ≢ [] × IsUnderWay ways told input input_now before now progress)
 HasComeTo ways told input input_now before now progress (Some result) = HasServed ways told input input_now before now result
 
+-- a stream took less than the most that a turn sends
+abbrev pub HasTakenLess : List ℕ → List ℕ → Type 0
+HasTakenLess held held_now = length held_now < length held + 65536
+
 -- how a connection ended by what its close said
 abbrev pub by_close : Result (Option End) ConnectionFault → Option (Result End ConnectionFault)
 by_close (Ok None) = None
@@ -64,54 +68,17 @@ end_by (Ok Waits) = None
 end_by (Ok (Ends end)) = Some (Ok end)
 end_by (Err fault) = Some (Err fault)
 
--- a call that the first of the requests that wait needs is open at the gateway: it began where the last call of the
--- connection ended, or later
-pub record IsCalling {G K : Type 0} (rules : Rules G K) (told : Option ℕ) (last now : G) (waiting : List Request) (call : K) : Type 0 where
-  pub op : Asked
-  pub began : G
-  pub later : rules.later last began
-  pub opened : rules.opened now call op began
-  pub due : IsDue told waiting (Call op)
+-- what the calls of a connection may come to among those of others: those of one sequence are made one behind the other
+abbrev pub ways_of : {G K : Type 0} → Rules G K → Overlap → Ways (List ℕ → G)
+ways_of rules overlap = in_sequence (sequence_of overlap) rules.later rules.ways
 
--- the open call of a connection, if it has one: none where it ended
-abbrev pub HasCall : {G K : Type 0} → Rules G K → Option ℕ → G → G → List Request → Option K → Option (Result End ConnectionFault) → Type 0
-HasCall rules told last now waiting None end = ⊤
-HasCall rules told last now waiting (Some call) end = (end ≡ None) × IsCalling rules told last now waiting call
-
--- the same of a connection among others at one gateway, which began there with these bytes held and now has these
-pub record Comes {G K : Type 0} (rules : Rules G K) (told : Option ℕ) (input input_now : Input) (first : G) (before : List ℕ) (now : G) (held : List ℕ)
-    (progress : Progress) (calling : Option K) (end : Option (Result End ConnectionFault)) : Type 0 where
-  pub last : G
-  pub later : rules.later last now
-  pub come : HasComeTo (among rules.later rules.ways) told input input_now (stand first before) (stand last held) progress end
-  pub call : HasCall rules told last now progress.waiting calling end
-
--- the calls of other connections that were open are so, and none of them has become the one of this connection
-abbrev pub KeepsApart : {G K : Type 0} → Rules G K → Option K → Option K → G → G → Type 0
-KeepsApart {G} {K} rules calling calling_now before after =
-    (call : K) (op : Asked) (began : G) → calling ≢ Some call → rules.opened before call op began → rules.opened after call op began × (calling_now ≢ Some call)
-
--- a call that has a caller now and isn't this connection's had one before and wasn't
-abbrev pub LendsApart : {G K : Type 0} → Rules G K → Option K → Option K → G → G → Type 0
-LendsApart {G} {K} rules calling calling_now before after =
-    (call : K) → calling_now ≢ Some call → rules.lent after call → rules.lent before call × (calling ≢ Some call)
-
--- the open call of a connection, if it has one, stays so
-abbrev pub KeepsCall : {G K : Type 0} → Rules G K → Option K → G → G → Type 0
-KeepsCall rules None before after = ⊤
-KeepsCall {G} rules (Some call) before after = (op : Asked) (began : G) → rules.opened before call op began → rules.opened after call op began
-
--- whether the first of the requests that wait needs a call
-abbrev pub needs_call : List Request → Bool
-needs_call [] = false
-needs_call (Get [] _ ∷ _) = false
-needs_call (Get (_ ∷ _) _ ∷ _) = true
-needs_call (Change _ _ ∷ _) = true
-needs_call (Fail _ _ ∷ _) = false
-needs_call (Version ∷ _) = false
-needs_call (Quit ∷ _) = false
-needs_call (Refused _ ∷ _) = false
-
--- where a call is open, the first of the requests that wait needs one
-abbrev pub IsCalled : {K : Type 0} → Option K → List Request → Type 0
-IsCalled calling waiting = IsSome calling → needs_call waiting ≡ true
+-- the same of a connection among others at one gateway, which began there with these bytes held and now has these: its calls that
+-- are under way are of the acts that its requests ask, in their order, but for the first ones, whose ends aren't wanted any more
+pub record Comes {G K : Type 0} (rules : Rules G K) (overlap : Overlap) (told : Option ℕ) (input input_now : Input) (first : G) (before : List ℕ) (now : G)
+    (held : List ℕ) (progress : Progress) (calls : List (OpenCall K)) (unwanted : ℕ) (end : Option (Result End ConnectionFault)) : Type 0 where
+  pub ends : List ℕ → G
+  pub later : (sequence : List ℕ) → rules.later (ends sequence) now
+  pub come : HasComeTo (ways_of rules overlap) told input input_now (stand (λ _. first) before) (stand ends held) progress end
+  pub wanted : end ≡ None → AreCalls rules overlap told ends now (acts_ahead progress.waiting) (drop unwanted calls)
+  pub opened : AreOpen rules now calls
+  pub distinct : StandOnce calls

@@ -1,2 +1,4 @@
+pub mod Asking
+pub mod Calling
 pub mod Coming
 pub mod Ordered

@@ -1,13 +1,20 @@
-ghost use Rattle.std.specs.Prelude.{◌≡◌, ◌≢◌, ◌++◌, ℕ, List, Option, [], None};
+ghost use Rattle.std.specs.Prelude.{◌≡◌, ◌≢◌, ◌++◌, ℕ, List, Option, [], None, true, false};
 ghost use Rattle.edge_io.specs.Moving.{Input};
-ghost use Rattle.front_end.specs.Settling.{IsDue, OrderIsDue, TextIsDue};
+ghost use Rattle.front_end.specs.Settling.{CallIsDue, IsDue, OrderIsDue, TextIsDue};
+ghost use Rattle.front_end.specs.declared.overlap.Overlap.{Overlap};
+ghost use Rattle.front_end.specs.Gateway.{KeepsOpen, LendsNone};
+ghost use Rattle.ready_client.specs.declared.open_call.OpenCall.{OpenCall};
 ghost use Rattle.front_end.specs.declared.due.Due.TheVariants as due;
-ghost use Rattle.ready_client.specs.Coming.{end_by, Comes, IsCalled, KeepsApart, LendsApart};
+ghost use Rattle.ready_client.specs.Asking.{standing, AsksFrom};
+ghost use Rattle.ready_client.specs.Calling.{KeepsApart, LendsApart};
+ghost use Rattle.ready_client.specs.Coming.{end_by, Comes};
 
+use crate::call_list::CallList;
+use crate::calls::Calls;
 use crate::ending::finish;
 use crate::step::{Step, go_on};
 use edge_io::Clock;
-use front_end::{Connection, ConnectionFault, Due, Gateway};
+use front_end::{Connection, ConnectionFault, Due, Gateway, Need, Overlap};
 use group_types::ProcessId;
 use memc_table::Op;
 use outbox::Outbox;
@@ -16,60 +23,88 @@ use std::alloc::Global;
 /// Answers the first request that waits, or its first key, as far as that goes without waiting.
 pub(crate) fn answer<G: Gateway, T: Clock>(
     alloc: Global,
+    overlap: Overlap,
     gateway: &mut G,
     clock: &T,
     connection: &mut Connection,
-    calling: &mut Option<G::Call>,
+    calls: &mut Calls<G::Call>,
     outbox: &mut Outbox,
 ) -> Result<Step, ConnectionFault>
     requires some { connection.old.waiting ≢ [] }
-    requires none { calling.old ≡ None }
+    requires wanted { calls.old.unwanted ≡ 0 }
     ensures comes { (input input_now : Input) (first : G) (before sent : List ℕ)
-        → Comes G.rules (T.moment clock.now) input input_now first before
-        gateway.old (sent ++ outbox.old) connection.old calling.old None
-        → Comes G.rules (T.moment clock.now) input input_now first before
-        gateway.new (sent ++ outbox.new) connection.new calling.new (end_by result) }
-    ensures apart { KeepsApart G.rules calling.old calling.new gateway.old gateway.new }
-    ensures lends { LendsApart G.rules calling.old calling.new gateway.old gateway.new }
+        → Comes G.rules overlap (T.moment clock.now) input input_now first before
+        gateway.old (sent ++ outbox.old) connection.old calls.old.list 0 None
+        → Comes G.rules overlap (T.moment clock.now) input input_now first before
+        gateway.new (sent ++ outbox.new) connection.new calls.new.list calls.new.unwanted (end_by result) }
+    ensures asks { (input : Input) (sent : List ℕ) → AsksFrom G.rules (T.moment clock.now) overlap input
+        (standing gateway.old connection.old calls.old.list 0 None (sent ++ outbox.old))
+        (standing gateway.new connection.new calls.new.list calls.new.unwanted (end_by result) (sent ++ outbox.new)) }
+    ensures apart { KeepsApart G.rules calls.old.list calls.new.list gateway.old gateway.new }
+    ensures lends { LendsApart G.rules calls.old.list calls.new.list gateway.old gateway.new }
     ensures onward { G.rules.later gateway.old gateway.new }
-    ensures called { IsCalled calling.new connection.new.waiting }
     ensures count { connection.new.count ≡ connection.old.count }
 {
+    if awaits_end(connection, &calls.list) {
+        return finish(alloc, overlap, gateway, clock, connection, calls, outbox);
+    }
     match connection.due(clock) {
-        Ok(Due::Call(op)) => begin(alloc, gateway, connection, calling, outbox, op),
+        Ok(Due::Call(op)) => begin(
+            alloc, overlap, gateway, clock, connection, calls, outbox, op,
+        ),
         Ok(Due::Fail { at, keep }) => order(alloc, gateway, connection, outbox, at, keep),
         Ok(Due::Text) => tell::<G>(alloc, connection, outbox),
         Err(_) => Err(ConnectionFault::Want),
     }
 }
 
+/// Whether the first request that waits needs the end of a call that is under way.
+fn awaits_end<K: Drop>(connection: &Connection, calls: &CallList<K>) -> bool
+    requires some { connection.now.waiting ≢ [] }
+    ensures due { result ≡ true → (calls.now ≢ []) × CallIsDue connection.now.waiting }
+    ensures none { result ≡ false → CallIsDue connection.now.waiting → calls.now ≡ [] }
+{
+    if calls.is_empty() {
+        return false;
+    }
+    match connection.need() {
+        Need::Call => true,
+        Need::Order => false,
+        Need::Text => false,
+    }
+}
+
 /// Begins the call that is due, and takes its end at once if it has come.
-fn begin<G: Gateway>(
+fn begin<G: Gateway, T: Clock>(
     alloc: Global,
+    overlap: Overlap,
     gateway: &mut G,
+    clock: &T,
     connection: &mut Connection,
-    calling: &mut Option<G::Call>,
+    calls: &mut Calls<G::Call>,
     outbox: &mut Outbox,
     op: Op,
 ) -> Result<Step, ConnectionFault>
-    requires due { (told : Option ℕ) × IsDue told connection.old.waiting (due.Call op) }
-    requires none { calling.old ≡ None }
-    ensures comes { (told : Option ℕ) (input input_now : Input) (first : G) (before sent : List ℕ)
-        → IsDue told connection.old.waiting (due.Call op)
-        → Comes G.rules told input input_now first before
-        gateway.old (sent ++ outbox.old) connection.old calling.old None
-        → Comes G.rules told input input_now first before
-        gateway.new (sent ++ outbox.new) connection.new calling.new (end_by result) }
-    ensures apart { KeepsApart G.rules calling.old calling.new gateway.old gateway.new }
-    ensures lends { LendsApart G.rules calling.old calling.new gateway.old gateway.new }
+    requires due { IsDue (T.moment clock.now) connection.old.waiting (due.Call op) }
+    requires none { calls.old.list ≡ [] }
+    requires wanted { calls.old.unwanted ≡ 0 }
+    ensures comes { (input input_now : Input) (first : G) (before sent : List ℕ)
+        → Comes G.rules overlap (T.moment clock.now) input input_now first before
+        gateway.old (sent ++ outbox.old) connection.old calls.old.list 0 None
+        → Comes G.rules overlap (T.moment clock.now) input input_now first before
+        gateway.new (sent ++ outbox.new) connection.new calls.new.list calls.new.unwanted (end_by result) }
+    ensures asks { (input : Input) (sent : List ℕ) → AsksFrom G.rules (T.moment clock.now) overlap input
+        (standing gateway.old connection.old calls.old.list 0 None (sent ++ outbox.old))
+        (standing gateway.new connection.new calls.new.list calls.new.unwanted (end_by result) (sent ++ outbox.new)) }
+    ensures apart { KeepsApart G.rules calls.old.list calls.new.list gateway.old gateway.new }
+    ensures lends { LendsApart G.rules calls.old.list calls.new.list gateway.old gateway.new }
     ensures onward { G.rules.later gateway.old gateway.new }
-    ensures called { IsCalled calling.new connection.new.waiting }
     ensures count { connection.new.count ≡ connection.old.count }
 {
     match gateway.begin(op) {
         Ok(Some(call)) => {
-            *calling = Some(call);
-            finish(alloc, gateway, connection, calling, outbox)
+            calls.list.put_only(call);
+            finish(alloc, overlap, gateway, clock, connection, calls, outbox)
         }
         Ok(None) => Ok(Step::Waits),
         Err(_) => Err(ConnectionFault::Want),
@@ -86,14 +121,18 @@ fn order<G: Gateway>(
     keep: u32,
 ) -> Result<Step, ConnectionFault>
     requires due { OrderIsDue connection.old.waiting }
-    ensures comes { (told : Option ℕ) (input input_now : Input) (first : G) (before sent : List ℕ)
+    ensures comes { (overlap : Overlap) (told : Option ℕ) (input input_now : Input) (first : G) (before sent : List ℕ)
+        (calls : List (OpenCall G.Call)) → IsDue told connection.old.waiting (due.Fail at keep)
+        → Comes G.rules overlap told input input_now first before
+        gateway.old (sent ++ outbox.old) connection.old calls 0 None
+        → Comes G.rules overlap told input input_now first before
+        gateway.new (sent ++ outbox.new) connection.new calls 0 (end_by result) }
+    ensures asks { (overlap : Overlap) (told : Option ℕ) (input : Input) (sent : List ℕ) (calls : List (OpenCall G.Call))
         → IsDue told connection.old.waiting (due.Fail at keep)
-        → Comes G.rules told input input_now first before
-        gateway.old (sent ++ outbox.old) connection.old None None
-        → Comes G.rules told input input_now first before
-        gateway.new (sent ++ outbox.new) connection.new None (end_by result) }
-    ensures apart { KeepsApart G.rules None None gateway.old gateway.new }
-    ensures lends { LendsApart G.rules None None gateway.old gateway.new }
+        → AsksFrom G.rules told overlap input (standing gateway.old connection.old calls 0 None (sent ++ outbox.old))
+        (standing gateway.new connection.new calls 0 (end_by result) (sent ++ outbox.new)) }
+    ensures open { KeepsOpen G.rules gateway.old gateway.new }
+    ensures lends { LendsNone G.rules gateway.old gateway.new }
     ensures onward { G.rules.later gateway.old gateway.new }
     ensures count { connection.new.count ≡ connection.old.count }
 {
@@ -113,10 +152,14 @@ fn tell<G: Gateway>(
     outbox: &mut Outbox,
 ) -> Result<Step, ConnectionFault>
     requires due { TextIsDue connection.old.waiting }
-    ensures comes { (told : Option ℕ) (input input_now : Input) (first now : G) (before sent : List ℕ)
+    ensures comes { (overlap : Overlap) (told : Option ℕ) (input input_now : Input) (first now : G) (before sent : List ℕ)
+        (calls : List (OpenCall G.Call)) → IsDue told connection.old.waiting due.Text
+        → Comes G.rules overlap told input input_now first before now (sent ++ outbox.old) connection.old calls 0 None
+        → Comes G.rules overlap told input input_now first before now (sent ++ outbox.new) connection.new calls 0 (end_by result) }
+    ensures asks { (overlap : Overlap) (told : Option ℕ) (input : Input) (now : G) (sent : List ℕ) (calls : List (OpenCall G.Call))
         → IsDue told connection.old.waiting due.Text
-        → Comes G.rules told input input_now first before now (sent ++ outbox.old) connection.old None None
-        → Comes G.rules told input input_now first before now (sent ++ outbox.new) connection.new None (end_by result) }
+        → AsksFrom G.rules told overlap input (standing now connection.old calls 0 None (sent ++ outbox.old))
+        (standing now connection.new calls 0 (end_by result) (sent ++ outbox.new)) }
     ensures count { connection.new.count ≡ connection.old.count }
 {
     match connection.settle_text(alloc, outbox) {

@@ -2,11 +2,14 @@ ghost use Rattle.std.specs.Prelude.{◌≡◌, ◌≢◌, ◌≤◌, ◌^◌, �
 ghost use Rattle.edge_io.specs.Faults.{Rose};
 ghost use Rattle.edge_io.specs.Moving.{Input};
 ghost use Rattle.memc_proto.specs.Reader.{HasRead};
-ghost use Rattle.ready_client.specs.Coming.{end_by, Comes, IsCalled, KeepsApart, LendsApart};
+ghost use Rattle.ready_client.specs.Asking.{standing, AsksFrom};
+ghost use Rattle.ready_client.specs.Calling.{KeepsApart, LendsApart};
+ghost use Rattle.ready_client.specs.Coming.{end_by, Comes, HasTakenLess};
 
+use crate::calls::Calls;
 use crate::step::{Step, advance};
 use edge_io::{Clock, Failed};
-use front_end::{Connection, ConnectionFault, End, Gateway};
+use front_end::{Connection, ConnectionFault, End, Gateway, Overlap};
 use outbox::{Outbox, Sending, TryStream};
 use std::alloc::Global;
 
@@ -26,7 +29,7 @@ pub enum Turn {
     More,
     /// The stream is to be waited for.
     Waits,
-    /// The end of its call is to be waited for.
+    /// The end of a call of it is to be waited for.
     AwaitsCall,
     /// A free caller is to be waited for.
     AwaitsCaller,
@@ -34,17 +37,17 @@ pub enum Turn {
     Over,
 }
 
-/// A connection that is served when its stream is ready: what was read of it, its open call, what is not sent yet, and how
-/// it ended.
+/// A connection that is served when its stream is ready: what was read of it, its calls that are under way, what is not sent
+/// yet, how it ended, and what its last turn came to.
 #[derive(Drop)]
 pub struct Client<S, K> {
     stream: S,
     connection: Connection,
-    calling: Option<K>,
+    calls: Calls<K>,
     outbox: Outbox,
     end: Option<Result<End, ConnectionFault>>,
+    last: Turn,
     ghost within: { connection.count ≤ 2 ^ 62 },
-    ghost called: { IsCalled calling connection.waiting },
 }
 
 impl<S: TryStream, K: Drop> Client<S, K> {
@@ -54,42 +57,93 @@ impl<S: TryStream, K: Drop> Client<S, K> {
         ensures kept { HasRead result.connection.kept [] [] }
         ensures waiting { result.connection.waiting ≡ [] }
         ensures count { result.connection.count ≡ 0 }
-        ensures calling { result.calling ≡ None }
+        ensures calls { result.calls.list ≡ [] }
+        ensures unwanted { result.calls.unwanted ≡ 0 }
         ensures outbox { result.outbox ≡ [] }
         ensures end { result.end ≡ None }
+        ensures last { result.last ≡ Turn.Waits }
     {
         Client {
             stream,
             connection: Connection::new(alloc),
-            calling: None,
+            calls: Calls::new(alloc),
             outbox: Outbox::new(alloc),
             end: None,
+            last: Turn::Waits,
         }
     }
 
-    /// One turn: steps until the stream, its call or a free caller would have to be waited for, the connection is over, or
-    /// others are to be served. Nothing is read while its call is open. It is over once it ended and all of its text was
-    /// sent, or the stream counted a fault.
+    /// One turn: steps until the stream, a call of it or a free caller would have to be waited for, the connection is over, or
+    /// others are to be served. Nothing is read while a call is under way. It is over once it ended, all of its text was sent
+    /// and none of its calls is under way, or the stream counted a fault.
     pub fn turn<G: Gateway<Call = K>, T: Clock>(
         &mut self,
         alloc: Global,
+        overlap: Overlap,
         gateway: &mut G,
         clock: &T,
         room: &mut [u8],
     ) -> Turn
         requires room { length room.old ≡ 65536 }
         ensures comes { (input : Input) (first : G) (before : List ℕ)
-            → Comes G.rules (T.moment clock.now) input (S.input self.old.stream) first before gateway.old
-            (S.held self.old.stream ++ self.old.outbox) self.old.connection self.old.calling self.old.end
-            → Comes G.rules (T.moment clock.now) input (S.input self.new.stream) first before gateway.new
-            (S.held self.new.stream ++ self.new.outbox) self.new.connection self.new.calling self.new.end }
-        ensures apart { KeepsApart G.rules self.old.calling self.new.calling gateway.old gateway.new }
-        ensures lends { LendsApart G.rules self.old.calling self.new.calling gateway.old gateway.new }
+            → Comes G.rules overlap (T.moment clock.now) input (S.input self.old.stream) first before gateway.old
+            (S.held self.old.stream ++ self.old.outbox) self.old.connection self.old.calls.list self.old.calls.unwanted self.old.end
+            → Comes G.rules overlap (T.moment clock.now) input (S.input self.new.stream) first before gateway.new
+            (S.held self.new.stream ++ self.new.outbox) self.new.connection self.new.calls.list self.new.calls.unwanted self.new.end }
+        ensures asks { AsksFrom G.rules (T.moment clock.now) overlap (S.input self.old.stream)
+            (standing gateway.old self.old.connection self.old.calls.list self.old.calls.unwanted self.old.end
+            (S.held self.old.stream ++ self.old.outbox))
+            (standing gateway.new self.new.connection self.new.calls.list self.new.calls.unwanted self.new.end
+            (S.held self.new.stream ++ self.new.outbox)) }
+        ensures apart { KeepsApart G.rules self.old.calls.list self.new.calls.list gateway.old gateway.new }
+        ensures lends { LendsApart G.rules self.old.calls.list self.new.calls.list gateway.old gateway.new }
         ensures onward { G.rules.later gateway.old gateway.new }
-        ensures call { result ≡ Turn.AwaitsCall → self.new.calling ≢ None }
-        ensures caller { result ≡ Turn.AwaitsCaller → (self.new.calling ≡ None) × (self.new.connection.waiting ≢ []) }
-        ensures over { result ≡ Turn.Over
-            → ((self.new.end ≢ None) × (self.new.outbox ≡ [])) ⊎ Rose (S.faults self.old.stream) (S.faults self.new.stream) }
+        ensures call { result ≡ Turn.AwaitsCall → self.new.calls.list ≢ [] }
+        ensures caller { result ≡ Turn.AwaitsCaller → (self.new.calls.list ≡ []) × (self.new.connection.waiting ≢ []) }
+        ensures over { result ≡ Turn.Over → ((self.new.end ≢ None) × (self.new.outbox ≡ []) × (self.new.calls.list ≡ []))
+            ⊎ Rose (S.faults self.old.stream) (S.faults self.new.stream) }
+        ensures waits { result ≡ Turn.Waits
+            → (self.new.outbox ≡ []) ⊎ HasTakenLess (S.held self.old.stream) (S.held self.new.stream) }
+        ensures sent { (result ≡ Turn.AwaitsCall) ⊎ (result ≡ Turn.AwaitsCaller) → self.new.outbox ≡ [] }
+        ensures later { S.faults self.old.stream ≤ S.faults self.new.stream }
+        ensures room { length room.new ≡ 65536 }
+        ensures last { self.new.last ≡ result }
+    {
+        let came = self.run(alloc, overlap, gateway, clock, room);
+        self.last = came;
+        came
+    }
+
+    // A turn, of which it isn't noted what it came to.
+    fn run<G: Gateway<Call = K>, T: Clock>(
+        &mut self,
+        alloc: Global,
+        overlap: Overlap,
+        gateway: &mut G,
+        clock: &T,
+        room: &mut [u8],
+    ) -> Turn
+        requires room { length room.old ≡ 65536 }
+        ensures comes { (input : Input) (first : G) (before : List ℕ)
+            → Comes G.rules overlap (T.moment clock.now) input (S.input self.old.stream) first before gateway.old
+            (S.held self.old.stream ++ self.old.outbox) self.old.connection self.old.calls.list self.old.calls.unwanted self.old.end
+            → Comes G.rules overlap (T.moment clock.now) input (S.input self.new.stream) first before gateway.new
+            (S.held self.new.stream ++ self.new.outbox) self.new.connection self.new.calls.list self.new.calls.unwanted self.new.end }
+        ensures asks { AsksFrom G.rules (T.moment clock.now) overlap (S.input self.old.stream)
+            (standing gateway.old self.old.connection self.old.calls.list self.old.calls.unwanted self.old.end
+            (S.held self.old.stream ++ self.old.outbox))
+            (standing gateway.new self.new.connection self.new.calls.list self.new.calls.unwanted self.new.end
+            (S.held self.new.stream ++ self.new.outbox)) }
+        ensures apart { KeepsApart G.rules self.old.calls.list self.new.calls.list gateway.old gateway.new }
+        ensures lends { LendsApart G.rules self.old.calls.list self.new.calls.list gateway.old gateway.new }
+        ensures onward { G.rules.later gateway.old gateway.new }
+        ensures call { result ≡ Turn.AwaitsCall → self.new.calls.list ≢ [] }
+        ensures caller { result ≡ Turn.AwaitsCaller → (self.new.calls.list ≡ []) × (self.new.connection.waiting ≢ []) }
+        ensures over { result ≡ Turn.Over → ((self.new.end ≢ None) × (self.new.outbox ≡ []) × (self.new.calls.list ≡ []))
+            ⊎ Rose (S.faults self.old.stream) (S.faults self.new.stream) }
+        ensures waits { result ≡ Turn.Waits
+            → (self.new.outbox ≡ []) ⊎ HasTakenLess (S.held self.old.stream) (S.held self.new.stream) }
+        ensures sent { (result ≡ Turn.AwaitsCall) ⊎ (result ≡ Turn.AwaitsCaller) → self.new.outbox ≡ [] }
         ensures later { S.faults self.old.stream ≤ S.faults self.new.stream }
         ensures room { length room.new ≡ 65536 }
     {
@@ -97,10 +151,10 @@ impl<S: TryStream, K: Drop> Client<S, K> {
             return self.send(Turn::More);
         }
         'steps: for _ in 0..STEPS {
-            if self.end.is_some() {
+            if self.end.is_some() && self.calls.list.is_empty() {
                 return self.send(Turn::Over);
             }
-            if self.step(alloc, gateway, clock, room) {
+            if self.step(alloc, overlap, gateway, clock, room) {
                 return self.send(self.awaited());
             }
             if self.outbox.len() > MOST_WAITING {
@@ -115,12 +169,15 @@ impl<S: TryStream, K: Drop> Client<S, K> {
         ensures text { S.held self.new.stream ++ self.new.outbox ≡ S.held self.old.stream ++ self.old.outbox }
         ensures input { S.input self.new.stream ≡ S.input self.old.stream }
         ensures connection { self.new.connection ≡ self.old.connection }
-        ensures calling { self.new.calling ≡ self.old.calling }
+        ensures calls { self.new.calls ≡ self.old.calls }
         ensures end { self.new.end ≡ self.old.end }
         ensures call { result ≡ Turn.AwaitsCall → all ≡ Turn.AwaitsCall }
         ensures caller { result ≡ Turn.AwaitsCaller → all ≡ Turn.AwaitsCaller }
         ensures over { result ≡ Turn.Over
             → ((all ≡ Turn.Over) × (self.new.outbox ≡ [])) ⊎ Rose (S.faults self.old.stream) (S.faults self.new.stream) }
+        ensures waits { result ≡ Turn.Waits
+            → (self.new.outbox ≡ []) ⊎ HasTakenLess (S.held self.old.stream) (S.held self.new.stream) }
+        ensures sent { (result ≡ Turn.AwaitsCall) ⊎ (result ≡ Turn.AwaitsCaller) → self.new.outbox ≡ [] }
         ensures later { S.faults self.old.stream ≤ S.faults self.new.stream }
     {
         match self.outbox.write_out(&mut self.stream, MOST_SENT) {
@@ -131,13 +188,13 @@ impl<S: TryStream, K: Drop> Client<S, K> {
         }
     }
 
-    // What is to be waited for: the end of the open call, a free caller for the call that is due, or the stream.
+    // What is to be waited for: the end of a call, a free caller for the call that is due, or the stream.
     fn awaited(&self) -> Turn
-        ensures call { result ≡ Turn.AwaitsCall → self.now.calling ≢ None }
-        ensures caller { result ≡ Turn.AwaitsCaller → (self.now.calling ≡ None) × (self.now.connection.waiting ≢ []) }
+        ensures call { result ≡ Turn.AwaitsCall → self.now.calls.list ≢ [] }
+        ensures caller { result ≡ Turn.AwaitsCaller → (self.now.calls.list ≡ []) × (self.now.connection.waiting ≢ []) }
         ensures over { result ≢ Turn.Over }
     {
-        if self.calling.is_some() {
+        if !self.calls.list.is_empty() {
             Turn::AwaitsCall
         } else if self.connection.has_waiting() {
             Turn::AwaitsCaller
@@ -146,34 +203,45 @@ impl<S: TryStream, K: Drop> Client<S, K> {
         }
     }
 
-    // One step, which may be the last. Says whether something is to be waited for.
+    // One step, which may be the last, or of a connection that ended: it lets its calls go. Says whether something is to be
+    // waited for.
     fn step<G: Gateway<Call = K>, T: Clock>(
         &mut self,
         alloc: Global,
+        overlap: Overlap,
         gateway: &mut G,
         clock: &T,
         room: &mut [u8],
     ) -> bool
-        requires none { self.old.end ≡ None }
         requires room { length room.old ≡ 65536 }
         ensures comes { (input : Input) (first : G) (before : List ℕ)
-            → Comes G.rules (T.moment clock.now) input (S.input self.old.stream) first before gateway.old
-            (S.held self.old.stream ++ self.old.outbox) self.old.connection self.old.calling self.old.end
-            → Comes G.rules (T.moment clock.now) input (S.input self.new.stream) first before gateway.new
-            (S.held self.new.stream ++ self.new.outbox) self.new.connection self.new.calling self.new.end }
-        ensures apart { KeepsApart G.rules self.old.calling self.new.calling gateway.old gateway.new }
-        ensures lends { LendsApart G.rules self.old.calling self.new.calling gateway.old gateway.new }
+            → Comes G.rules overlap (T.moment clock.now) input (S.input self.old.stream) first before gateway.old
+            (S.held self.old.stream ++ self.old.outbox) self.old.connection self.old.calls.list self.old.calls.unwanted self.old.end
+            → Comes G.rules overlap (T.moment clock.now) input (S.input self.new.stream) first before gateway.new
+            (S.held self.new.stream ++ self.new.outbox) self.new.connection self.new.calls.list self.new.calls.unwanted self.new.end }
+        ensures asks { AsksFrom G.rules (T.moment clock.now) overlap (S.input self.old.stream)
+            (standing gateway.old self.old.connection self.old.calls.list self.old.calls.unwanted self.old.end
+            (S.held self.old.stream ++ self.old.outbox))
+            (standing gateway.new self.new.connection self.new.calls.list self.new.calls.unwanted self.new.end
+            (S.held self.new.stream ++ self.new.outbox)) }
+        ensures apart { KeepsApart G.rules self.old.calls.list self.new.calls.list gateway.old gateway.new }
+        ensures lends { LendsApart G.rules self.old.calls.list self.new.calls.list gateway.old gateway.new }
         ensures onward { G.rules.later gateway.old gateway.new }
+        ensures held { S.held self.new.stream ≡ S.held self.old.stream }
         ensures later { S.faults self.old.stream ≤ S.faults self.new.stream }
         ensures room { length room.new ≡ 65536 }
     {
+        if self.end.is_some() || self.calls.has_unwanted() {
+            return !self.calls.let_go(gateway);
+        }
         let result = advance(
             alloc,
+            overlap,
             gateway,
             clock,
             &mut self.stream,
             &mut self.connection,
-            &mut self.calling,
+            &mut self.calls,
             &mut self.outbox,
             room,
         );
@@ -183,27 +251,13 @@ impl<S: TryStream, K: Drop> Client<S, K> {
 }
 
 impl<S: Drop, K: Drop> Client<S, K> {
-    ghost use Rattle.std.specs.Prelude.{◌≡◌, is_some};
+    ghost use Rattle.std.specs.Prelude.{◌≡◌, ◌↔◌, ◌≢◌, [], IsTrue};
 
-    /// Whether a call of it is open.
-    pub fn is_calling(&self) -> bool
-        ensures { result ≡ is_some self.now.calling }
+    /// Whether a call of it is under way.
+    pub fn has_calls(&self) -> bool
+        ensures { IsTrue result ↔ (self.now.calls.list ≢ []) }
     {
-        self.calling.is_some()
-    }
-
-    /// The open call of a connection that is over, or is given up. Its caller is free only once the gateway gave its end.
-    pub fn into_call(self) -> Option<K>
-        ensures { result ≡ self.calling }
-    {
-        let Client {
-            stream: _,
-            connection: _,
-            calling,
-            outbox: _,
-            end: _,
-        } = self;
-        calling
+        !self.calls.list.is_empty()
     }
 }
 

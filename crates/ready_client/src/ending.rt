@@ -1,56 +1,77 @@
-ghost use Rattle.std.specs.Prelude.{◌≡◌, ◌++◌, ℕ, List, Option, None, IfSome, IsSome};
+ghost use Rattle.std.specs.Prelude.{◌≡◌, ◌≢◌, ◌++◌, ◌∷◌, ℕ, List, Option, [], None};
 ghost use Rattle.edge_io.specs.Moving.{Input};
-ghost use Rattle.front_end.specs.Gateway.{HasEnded};
-ghost use Rattle.ready_client.specs.Coming.{end_by, Comes, IsCalled, KeepsApart, LendsApart};
+ghost use Rattle.front_end.specs.Settling.{CallIsDue};
+ghost use Rattle.front_end.specs.declared.overlap.Overlap.{Overlap};
+ghost use Rattle.ready_client.specs.Asking.{standing, AsksFrom};
+ghost use Rattle.ready_client.specs.Calling.{StandOnce, HasEndOf, KeepsApart, KeepsCalls, LendsApart};
+ghost use Rattle.ready_client.specs.Coming.{end_by, Comes};
+ghost use Rattle.ready_client.specs.declared.open_call.OpenCall.{OpenCall};
 
+use crate::ahead::go_ahead;
+use crate::calls::Calls;
 use crate::step::{Step, go_on};
-use front_end::{Connection, ConnectionFault, Gateway};
+use edge_io::Clock;
+use front_end::{Connection, ConnectionFault, Gateway, Overlap};
 use memc_proto::CallEnd;
 use outbox::Outbox;
 use std::alloc::Global;
 
-/// Takes the end of the open call, if it has come, and writes its text.
-pub(crate) fn finish<G: Gateway>(
+/// Takes the end of the first call, if it has come, and writes its text. Else a further call is begun, if one may be.
+pub(crate) fn finish<G: Gateway, T: Clock>(
     alloc: Global,
+    overlap: Overlap,
     gateway: &mut G,
+    clock: &T,
     connection: &mut Connection,
-    calling: &mut Option<G::Call>,
+    calls: &mut Calls<G::Call>,
     outbox: &mut Outbox,
 ) -> Result<Step, ConnectionFault>
-    requires some { IsSome calling.old }
-    requires called { IsCalled calling.old connection.old.waiting }
-    ensures comes { (told : Option ℕ) (input input_now : Input) (first : G) (before sent : List ℕ)
-        → Comes G.rules told input input_now first before
-        gateway.old (sent ++ outbox.old) connection.old calling.old None
-        → Comes G.rules told input input_now first before
-        gateway.new (sent ++ outbox.new) connection.new calling.new (end_by result) }
-    ensures apart { KeepsApart G.rules calling.old calling.new gateway.old gateway.new }
-    ensures lends { LendsApart G.rules calling.old calling.new gateway.old gateway.new }
+    requires due { CallIsDue connection.old.waiting }
+    requires some { calls.old.list ≢ [] }
+    requires wanted { calls.old.unwanted ≡ 0 }
+    ensures comes { (input input_now : Input) (first : G) (before sent : List ℕ)
+        → Comes G.rules overlap (T.moment clock.now) input input_now first before
+        gateway.old (sent ++ outbox.old) connection.old calls.old.list 0 None
+        → Comes G.rules overlap (T.moment clock.now) input input_now first before
+        gateway.new (sent ++ outbox.new) connection.new calls.new.list calls.new.unwanted (end_by result) }
+    ensures asks { (input : Input) (sent : List ℕ) → AsksFrom G.rules (T.moment clock.now) overlap input
+        (standing gateway.old connection.old calls.old.list 0 None (sent ++ outbox.old))
+        (standing gateway.new connection.new calls.new.list calls.new.unwanted (end_by result) (sent ++ outbox.new)) }
+    ensures apart { KeepsApart G.rules calls.old.list calls.new.list gateway.old gateway.new }
+    ensures lends { LendsApart G.rules calls.old.list calls.new.list gateway.old gateway.new }
     ensures onward { G.rules.later gateway.old gateway.new }
-    ensures called { IsCalled calling.new connection.new.waiting }
     ensures count { connection.new.count ≡ connection.old.count }
 {
-    let Some(end) = end_of_call(gateway, calling) else {
-        return Ok(Step::Waits);
-    };
+    match calls.list.take_end(gateway) {
+        Some(end) => settle::<G>(alloc, connection, calls, outbox, end),
+        None => go_ahead(overlap, gateway, clock, connection, &mut calls.list),
+    }
+}
+
+/// Writes the text of the first call, which ended so. Those behind it that aren't needed any more are wanted no more.
+fn settle<G: Gateway>(
+    alloc: Global,
+    connection: &mut Connection,
+    calls: &mut Calls<G::Call>,
+    outbox: &mut Outbox,
+    end: CallEnd,
+) -> Result<Step, ConnectionFault>
+    requires due { CallIsDue connection.old.waiting }
+    ensures comes { (overlap : Overlap) (told : Option ℕ) (input input_now : Input) (first earlier now : G) (before sent : List ℕ)
+        (call : OpenCall G.Call) → HasEndOf G.rules earlier call end now → KeepsCalls G.rules calls.old.list earlier now → G.rules.later earlier now
+        → Comes G.rules overlap told input input_now first before earlier (sent ++ outbox.old) connection.old (call ∷ calls.old.list) 0 None
+        → Comes G.rules overlap told input input_now first before now (sent ++ outbox.new) connection.new calls.new.list
+        calls.new.unwanted (end_by result) }
+    ensures asks { (overlap : Overlap) (told : Option ℕ) (input : Input) (earlier now : G) (sent : List ℕ) (call : OpenCall G.Call)
+        → HasEndOf G.rules earlier call end now
+        → AsksFrom G.rules told overlap input (standing earlier connection.old (call ∷ calls.old.list) 0 None (sent ++ outbox.old))
+        (standing now connection.new calls.new.list calls.new.unwanted (end_by result) (sent ++ outbox.new)) }
+    ensures list { calls.new.list ≡ calls.old.list }
+    ensures count { connection.new.count ≡ connection.old.count }
+{
+    calls.leave(connection.unneeded(&end));
     match connection.settle(alloc, end, outbox) {
         Ok(()) => go_on::<G>(connection, outbox),
         Err(fault) => Err(fault),
     }
-}
-
-/// The end of the open call, if it has come: none is open then.
-fn end_of_call<G: Gateway>(gateway: &mut G, calling: &mut Option<G::Call>) -> Option<CallEnd>
-    requires some { IsSome calling.old }
-    ensures ended { IfSome result (λ end. IfSome calling.old (λ call. HasEnded G.rules gateway.old call end gateway.new)) }
-    ensures over { IsSome result → calling.new ≡ None }
-    ensures still { result ≡ None → (calling.new ≡ calling.old) × (gateway.new ≡ gateway.old) }
-    ensures apart { KeepsApart G.rules calling.old calling.new gateway.old gateway.new }
-    ensures lends { LendsApart G.rules calling.old calling.new gateway.old gateway.new }
-    ensures onward { G.rules.later gateway.old gateway.new }
-{
-    let call = calling.as_ref()?;
-    let end = gateway.take_end(call)?;
-    *calling = None;
-    Some(end)
 }

@@ -1,14 +1,16 @@
-ghost use Rattle.std.specs.Prelude.{◌≡◌, ◌≢◌, ◌+◌, ◌≤◌, ◌^◌, ◌++◌, ℕ, List, Option, [], None, length};
+ghost use Rattle.std.specs.Prelude.{◌≡◌, ◌≢◌, ◌+◌, ◌≤◌, ◌^◌, ◌++◌, ℕ, List, Option, [], None, false, length};
 ghost use Rattle.edge_io.specs.Moving.{Input, Takes};
 ghost use Rattle.front_end.specs.Answers.{stand};
 ghost use Rattle.front_end.specs.Going.{GoesOn};
-ghost use Rattle.front_end.specs.Order.{among};
-ghost use Rattle.ready_client.specs.Coming.{by_close, end_by, Comes, HasComeTo, IsCalled, IsUnderWay, KeepsApart, LendsApart};
+ghost use Rattle.front_end.specs.declared.overlap.Overlap.{Overlap};
+ghost use Rattle.ready_client.specs.Asking.{standing, AsksFrom, Closes, HasReadSo};
+ghost use Rattle.ready_client.specs.Calling.{KeepsApart, LendsApart};
+ghost use Rattle.ready_client.specs.Coming.{by_close, end_by, ways_of, Comes, HasComeTo, IsUnderWay};
 
 use crate::answer::answer;
-use crate::ending::finish;
+use crate::calls::Calls;
 use edge_io::{Clock, Failed};
-use front_end::{Connection, ConnectionFault, End, Gateway};
+use front_end::{Connection, ConnectionFault, End, Gateway, Overlap};
 use outbox::{Outbox, Reading, TryStream};
 use std::alloc::Global;
 
@@ -21,45 +23,47 @@ const PIECE: usize = 4_608;
 pub enum Step {
     /// A request was answered, or a piece was read.
     Goes,
-    /// The end of the open call hasn't come yet, or no caller is free for the call that is due, or where no request waits
-    /// there is nothing to read yet.
+    /// The end of the first call hasn't come yet and no further one may be begun, or no caller is free for the call that is
+    /// due, or where no request waits there is nothing to read yet.
     Waits,
     /// The connection ends so.
     Ends(End),
 }
 
-/// One step of a connection: the end of its open call is taken, or the next request that waits is answered into its outbox
-/// as far as that goes without waiting, or else a piece is read.
+/// One step of a connection: the end of its first call is taken, or a further one is begun, or the next request that waits is
+/// answered into its outbox as far as that goes without waiting, or else a piece is read.
 pub(crate) fn advance<G: Gateway, S: TryStream, T: Clock>(
     alloc: Global,
+    overlap: Overlap,
     gateway: &mut G,
     clock: &T,
     stream: &mut S,
     connection: &mut Connection,
-    calling: &mut Option<G::Call>,
+    calls: &mut Calls<G::Call>,
     outbox: &mut Outbox,
     room: &mut [u8],
 ) -> Result<Step, ConnectionFault>
     requires room { length room.old ≡ 65536 }
     requires within { connection.old.count ≤ 2 ^ 62 }
-    requires called { IsCalled calling.old connection.old.waiting }
+    requires wanted { calls.old.unwanted ≡ 0 }
     ensures comes { (input : Input) (first : G) (before : List ℕ)
-        → Comes G.rules (T.moment clock.now) input (S.input stream.old) first before
-        gateway.old (S.held stream.old ++ outbox.old) connection.old calling.old None
-        → Comes G.rules (T.moment clock.now) input (S.input stream.new) first before
-        gateway.new (S.held stream.new ++ outbox.new) connection.new calling.new (end_by result) }
-    ensures apart { KeepsApart G.rules calling.old calling.new gateway.old gateway.new }
-    ensures lends { LendsApart G.rules calling.old calling.new gateway.old gateway.new }
+        → Comes G.rules overlap (T.moment clock.now) input (S.input stream.old) first before gateway.old
+        (S.held stream.old ++ outbox.old) connection.old calls.old.list 0 None
+        → Comes G.rules overlap (T.moment clock.now) input (S.input stream.new) first before gateway.new
+        (S.held stream.new ++ outbox.new) connection.new calls.new.list calls.new.unwanted (end_by result) }
+    ensures asks { AsksFrom G.rules (T.moment clock.now) overlap (S.input stream.old)
+        (standing gateway.old connection.old calls.old.list 0 None (S.held stream.old ++ outbox.old))
+        (standing gateway.new connection.new calls.new.list calls.new.unwanted (end_by result) (S.held stream.new ++ outbox.new)) }
+    ensures apart { KeepsApart G.rules calls.old.list calls.new.list gateway.old gateway.new }
+    ensures lends { LendsApart G.rules calls.old.list calls.new.list gateway.old gateway.new }
     ensures onward { G.rules.later gateway.old gateway.new }
-    ensures called { IsCalled calling.new connection.new.waiting }
     ensures within { connection.new.count ≤ 2 ^ 62 }
+    ensures held { S.held stream.new ≡ S.held stream.old }
     ensures later { S.faults stream.old ≤ S.faults stream.new }
     ensures room { length room.new ≡ 65536 }
 {
-    if calling.is_some() {
-        finish(alloc, gateway, connection, calling, outbox)
-    } else if connection.has_waiting() {
-        answer(alloc, gateway, clock, connection, calling, outbox)
+    if connection.has_waiting() {
+        answer(alloc, overlap, gateway, clock, connection, calls, outbox)
     } else {
         read::<G, S>(stream, connection, outbox, room)
     }
@@ -75,12 +79,15 @@ fn read<G: Gateway, S: TryStream>(
     requires idle { connection.old.waiting ≡ [] }
     requires within { connection.old.count ≤ 2 ^ 62 }
     requires room { length room.old ≡ 65536 }
-    ensures comes { (told : Option ℕ) (input : Input) (first last : G) (before : List ℕ)
-        → GoesOn (among G.rules.later G.rules.ways) told input (S.input stream.old) (stand first before)
-        (stand last (S.held stream.old ++ outbox.old)) connection.old.kept connection.old.count
-        → HasComeTo (among G.rules.later G.rules.ways) told input (S.input stream.new) (stand first before)
-        (stand last (S.held stream.new ++ outbox.new)) connection.new (end_by result) }
+    ensures comes { (overlap : Overlap) (told : Option ℕ) (input : Input) (first : G) (ends : List ℕ → G) (before : List ℕ)
+        → GoesOn (ways_of G.rules overlap) told input (S.input stream.old) (stand (λ _. first) before)
+        (stand ends (S.held stream.old ++ outbox.old)) connection.old.kept connection.old.count
+        → HasComeTo (ways_of G.rules overlap) told input (S.input stream.new) (stand (λ _. first) before)
+        (stand ends (S.held stream.new ++ outbox.new)) connection.new (end_by result) }
+    ensures closes { HasReadSo connection.old.kept false
+        → Closes connection.new.waiting (S.held stream.old ++ outbox.old) (S.held stream.new ++ outbox.new) }
     ensures within { connection.new.count ≤ 2 ^ 62 }
+    ensures held { S.held stream.new ≡ S.held stream.old }
     ensures later { S.faults stream.old ≤ S.faults stream.new }
     ensures room { length room.new ≡ 65536 }
 {
@@ -106,12 +113,13 @@ fn take<G: Gateway>(
     requires idle { connection.old.waiting ≡ [] }
     requires room { connection.old.count + length piece.now ≤ 2 ^ 62 }
     requires short { length piece.now ≤ 65536 }
-    ensures comes { (told : Option ℕ) (input input_then input_now : Input) (first last : G) (before sent : List ℕ)
-        → GoesOn (among G.rules.later G.rules.ways) told input input_then (stand first before)
-        (stand last (sent ++ outbox.old)) connection.old.kept connection.old.count
+    ensures comes { (overlap : Overlap) (told : Option ℕ) (input input_then input_now : Input) (first : G) (ends : List ℕ → G) (before sent : List ℕ)
+        → GoesOn (ways_of G.rules overlap) told input input_then (stand (λ _. first) before)
+        (stand ends (sent ++ outbox.old)) connection.old.kept connection.old.count
         → Takes input_then input_now piece.now
-        → HasComeTo (among G.rules.later G.rules.ways) told input input_now (stand first before)
-        (stand last (sent ++ outbox.new)) connection.new (end_by result) }
+        → HasComeTo (ways_of G.rules overlap) told input input_now (stand (λ _. first) before)
+        (stand ends (sent ++ outbox.new)) connection.new (end_by result) }
+    ensures closes { HasReadSo connection.old.kept false → Closes connection.new.waiting outbox.old outbox.new }
     ensures within { connection.new.count ≤ 2 ^ 62 }
 {
     match connection.take(piece) {
@@ -125,11 +133,12 @@ pub(crate) fn go_on<G: Gateway>(
     connection: &Connection,
     outbox: &mut Outbox,
 ) -> Result<Step, ConnectionFault>
-    ensures comes { (told : Option ℕ) (input input_now : Input) (first last : G) (before sent : List ℕ)
-        → IsUnderWay (among G.rules.later G.rules.ways) told input input_now (stand first before)
-        (stand last (sent ++ outbox.old)) connection.now
-        → HasComeTo (among G.rules.later G.rules.ways) told input input_now (stand first before)
-        (stand last (sent ++ outbox.new)) connection.now (end_by result) }
+    ensures comes { (overlap : Overlap) (told : Option ℕ) (input input_now : Input) (first : G) (ends : List ℕ → G) (before sent : List ℕ)
+        → IsUnderWay (ways_of G.rules overlap) told input input_now (stand (λ _. first) before)
+        (stand ends (sent ++ outbox.old)) connection.now
+        → HasComeTo (ways_of G.rules overlap) told input input_now (stand (λ _. first) before)
+        (stand ends (sent ++ outbox.new)) connection.now (end_by result) }
+    ensures closes { HasReadSo connection.now.kept connection.now.quits → Closes connection.now.waiting outbox.old outbox.new }
 {
     if connection.has_waiting() {
         return Ok(Step::Goes);
