@@ -25,6 +25,7 @@ pub(crate) struct MemberReadiness {
     keys: Vec<usize>,
     others: Vec<Noted>,
     shutters: Vec<Shutter>,
+    limit: Option<Duration>,
     ghost keys_room: { events_capacity events ≤ vec_capacity keys },
     ghost others_room: { events_capacity events ≤ vec_capacity others },
 }
@@ -38,6 +39,7 @@ impl MemberReadiness {
             keys: Vec::with_capacity(alloc, EVENTS)?,
             others: Vec::with_capacity(alloc, EVENTS)?,
             shutters: Vec::new(alloc),
+            limit: None,
         })
     }
 
@@ -77,6 +79,11 @@ fn keep(shutters: &mut Vec<Shutter>, stream: &ClientStream, key: usize) -> Resul
 }
 
 impl Readiness for MemberReadiness {
+    ghost use Rattle.std.specs.Duration.{as_nanos};
+    ghost use Rattle.std.specs.Option.{option_map};
+
+    ghost waited = { λ r. option_map as_nanos r.limit };
+
     type Stream = ClientStream;
 
     type Waker = Waker;
@@ -98,6 +105,7 @@ impl Readiness for MemberReadiness {
     }
 
     fn wait(&mut self, limit: Option<Duration>) {
+        self.limit = limit;
         let _ = self.poll.poll(&mut self.events, limit);
         note_keys(&self.events, &mut self.keys);
         note_others(&self.events, &mut self.others);

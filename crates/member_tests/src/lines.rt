@@ -122,6 +122,7 @@ impl Write for LineStream<'_> {
 pub(crate) struct LineReadiness<'t> {
     lines: &'t Lines,
     keys: Vec<usize>,
+    limit: Option<Duration>,
 }
 
 impl<'t> LineReadiness<'t> {
@@ -129,11 +130,17 @@ impl<'t> LineReadiness<'t> {
         LineReadiness {
             lines,
             keys: Vec::new(lines.alloc),
+            limit: None,
         }
     }
 }
 
 impl<'t> Readiness for LineReadiness<'t> {
+    ghost use Rattle.std.specs.Duration.{as_nanos};
+    ghost use Rattle.std.specs.Option.{option_map};
+
+    ghost waited = { λ r. option_map as_nanos r.limit };
+
     type Stream = LineStream<'t>;
 
     type Waker = NoWaker;
@@ -147,7 +154,8 @@ impl<'t> Readiness for LineReadiness<'t> {
         true
     }
 
-    fn wait(&mut self, _limit: Option<Duration>) {
+    fn wait(&mut self, limit: Option<Duration>) {
+        self.limit = limit;
         self.keys.clear();
         self.lines.tell(&mut self.keys);
     }

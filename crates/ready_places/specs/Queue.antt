@@ -1,5 +1,5 @@
 -- Keys in the order in which they are to be taken, each once.
-use Rattle.std.specs.Prelude.{ℕ, ◌≡◌, ◌≤◌, nat_eq, List, ◌∷◌, [], ◌++◌, length, Bool, false, if◌then◌else◌, slice_index_or}
+use Rattle.std.specs.Prelude.{ℕ, ◌≡◌, ◌≤◌, nat_eq, List, ◌∷◌, [], ◌++◌, length, Bool, false, Option, Some, None, if◌then◌else◌, slice_index_or}
 use Rattle.std.specs.List.{IsDistinct, list_any}
 
 -- the keys in order, and how many keys fit: those below that number
@@ -10,6 +10,11 @@ pub record Queued : Type 0 where
 -- whether a key stands among these
 abbrev pub is_queued : List ℕ → ℕ → Bool
 is_queued keys key = list_any (nat_eq key) keys
+
+-- the key at the head
+abbrev pub first_of : List ℕ → Option ℕ
+first_of [] = None
+first_of (key ∷ _) = Some key
 
 -- the keys, with this one at their head unless it stands among them
 abbrev pub with_key_first : List ℕ → ℕ → List ℕ

@@ -23,7 +23,7 @@ impl Model for KeyQueue {
 
 impl KeyQueue {
     ghost use Rattle.std.specs.Prelude.{◌≡◌, ◌<◌, ◌≤◌, [], ◌∷◌, ◌==◌, length, not, false, IfNone, IfSome, OnOk};
-    ghost use Rattle.ready_places.specs.Queue.{is_queued, with_key_first, with_key_last};
+    ghost use Rattle.ready_places.specs.Queue.{first_of, is_queued, with_key_first, with_key_last};
 
     /// No key, and room for none.
     pub fn new(alloc: Global) -> KeyQueue
@@ -91,6 +91,13 @@ impl KeyQueue {
             Ok(()) => {}
             Err(_) => unreachable!(),
         }
+    }
+
+    /// The key at the head.
+    pub fn first(&self) -> Option<usize>
+        ensures { result ≡ first_of self.now.keys }
+    {
+        self.keys.front().copied()
     }
 
     /// Takes the key at the head. It stands in the queue no more.

@@ -32,7 +32,7 @@ impl<T: Drop> Places<T> {
     ghost use Rattle.slab.specs.Slab.{slab_len, Updates};
     ghost use Rattle.ready_places.specs.Lends.{LendsPlace, LendsValue};
     ghost use Rattle.ready_places.specs.Placed.{placed_at, HasPlace};
-    ghost use Rattle.ready_places.specs.Queue.{is_queued, with_key_first, with_key_last};
+    ghost use Rattle.ready_places.specs.Queue.{first_of, is_queued, with_key_first, with_key_last};
 
     /// No value.
     pub fn new(alloc: Global) -> Places<T>
@@ -141,6 +141,14 @@ impl<T: Drop> Places<T> {
         if self.slab.contains(key) {
             self.queue.put_last(key);
         }
+    }
+
+    /// The key at the head of the queue. It has a place.
+    pub fn first(&self) -> Option<usize>
+        ensures first { result ≡ first_of self.now.queue }
+        ensures placed { IfSome result (HasPlace self.now) }
+    {
+        self.queue.first()
     }
 
     /// Takes the key at the head of the queue. It has a place, and stands in the queue no more.

@@ -1,3 +1,4 @@
 mod Noting
 mod Coming
 mod Placing
+mod Queueing

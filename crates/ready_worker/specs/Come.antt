@@ -2,7 +2,9 @@
 use Rattle.std.specs.Prelude.{ℕ, ◌≡◌, ◌≢◌, ◌<◌, ◌⊎◌, ◌++◌, [], Option, Some, None, false}
 use Rattle.edge_io.specs.Moving.{Input}
 use Rattle.front_end.specs.Gateway.{Rules}
+use Rattle.front_end.specs.declared.overlap.Overlap.{Overlap}
 use Rattle.outbox.specs.declared.try_edge.TryEdge.{TryEdge}
+use Rattle.ready_client.specs.Calling.{HasOpen}
 use Rattle.ready_client.specs.Coming.{Comes}
 use Rattle.ready_client.specs.declared.client.Client.{Client}
 use Rattle.ready_places.specs.Placed.{Placed, EachPlaced, placed_at}
@@ -17,19 +19,20 @@ unread = record { taken = []; ended = false; left = None }
 
 -- what was written of a client, sent or not, is the text of its requests and of the ends of their calls: it began where
 -- nothing was read or written, at the gateway as it was then, and has come to the gateway as it is now
-abbrev pub ClientComes : {G K X : Type 0} → Rules G K → Option ℕ → G → Client (TryEdge X) K → Type 0
-ClientComes {G} rules told now client =
-    ∥ ((first : G) × Comes rules told unread (taken_of client.stream) first [] now (client.stream.outgoing.bytes ++ client.outbox) client.connection client.calling client.end) ∥₁
+abbrev pub ClientComes : {G K X : Type 0} → Rules G K → Overlap → Option ℕ → G → Client (TryEdge X) K → Type 0
+ClientComes {G} rules overlap told now client =
+    ∥ ((first : G) × Comes rules overlap told unread (taken_of client.stream) first [] now (client.stream.outgoing.bytes ++ client.outbox) client.connection
+    client.calls.list client.calls.unwanted client.end) ∥₁
 
 -- that holds of each client that has a place
-abbrev pub ClientsCome : {G K X : Type 0} → Rules G K → Option ℕ → G → Placed (Client (TryEdge X) K) → Type 0
-ClientsCome rules told now placed = EachPlaced (ClientComes rules told now) placed
+abbrev pub ClientsCome : {G K X : Type 0} → Rules G K → Overlap → Option ℕ → G → Placed (Client (TryEdge X) K) → Type 0
+ClientsCome rules overlap told now placed = EachPlaced (ClientComes rules overlap told now) placed
 
--- no call is the open one of two clients
+-- no call is open for two clients
 abbrev pub AreApart : {S K : Type 0} → Placed (Client S K) → Type 0
 AreApart {S} {K} placed = (key other : ℕ) (one two : Client S K) (call : K)
-    → key ≢ other → placed_at placed key ≡ Some one → placed_at placed other ≡ Some two → one.calling ≡ Some call → two.calling ≢ Some call
+    → key ≢ other → placed_at placed key ≡ Some one → placed_at placed other ≡ Some two → HasOpen one.calls.list call → ¬ HasOpen two.calls.list call
 
--- a client has no open call, and it ended and all of its text was sent, or its stream counted a fault
+-- no call of a client is under way, and it ended and all of its text was sent, or its stream counted a fault
 abbrev pub ClientIsOver : {X K : Type 0} → Client (TryEdge X) K → Type 0
-ClientIsOver client = (client.calling ≡ None) × (((client.end ≢ None) × (client.outbox ≡ [])) ⊎ (0 < client.stream.faults))
+ClientIsOver client = (client.calls.list ≡ []) × (((client.end ≢ None) × (client.outbox ≡ [])) ⊎ (0 < client.stream.faults))

@@ -24,6 +24,7 @@ impl<'t, Y: Readiness, G: Closing, T: Clock> Worker<'t, Y, G, T> {
     pub fn set_closed(&mut self, is_closed: bool)
         ensures closed { G.closed self.new.gateway ≡ is_closed }
         ensures clock { self.new.clock ≡ self.old.clock }
+        ensures overlap { self.new.overlap ≡ self.old.overlap }
         ensures places { self.new.places ≡ self.old.places }
     {
         self.gateway.set_closed(is_closed);

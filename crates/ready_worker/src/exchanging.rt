@@ -15,6 +15,7 @@ impl<'t, Y: Readiness, G: Gateway, T: Clock> Worker<'t, Y, G, T> {
     where
         G: Exchange<L>,
         ensures clock { self.new.clock ≡ self.old.clock }
+        ensures overlap { self.new.overlap ≡ self.old.overlap }
         ensures values { self.new.places.values ≡ self.old.places.values }
     {
         self.gateway.receive(links);
@@ -26,6 +27,7 @@ impl<'t, Y: Readiness, G: Gateway, T: Clock> Worker<'t, Y, G, T> {
     where
         G: Exchange<L>,
         ensures clock { self.new.clock ≡ self.old.clock }
+        ensures overlap { self.new.overlap ≡ self.old.overlap }
         ensures values { self.new.places.values ≡ self.old.places.values }
     {
         self.gateway.send(links);
@@ -37,6 +39,7 @@ impl<'t, Y: Readiness, G: Gateway, T: Clock> Worker<'t, Y, G, T> {
     where
         G: Exchange<L>,
         ensures clock { self.new.clock ≡ self.old.clock }
+        ensures overlap { self.new.overlap ≡ self.old.overlap }
         ensures values { self.new.places.values ≡ self.old.places.values }
     {
         'woken: for _ in 0..MOST_WOKEN {
@@ -52,6 +55,7 @@ impl<'t, Y: Readiness, G: Gateway, T: Clock> Worker<'t, Y, G, T> {
     where
         G: Exchange<L>,
         ensures clock { self.new.clock ≡ self.old.clock }
+        ensures overlap { self.new.overlap ≡ self.old.overlap }
         ensures places { self.new.places ≡ self.old.places }
     {
         Exchange::<L>::next_woken(&mut self.gateway)

@@ -1,4 +1,7 @@
+ghost use Rattle.std.specs.Prelude.{◌≡◌, ◌+◌, ◌-◌, OnSome, IfNone};
+
 use crate::readiness::Wake;
+use crate::share::Share;
 use std::alloc::Global;
 use std::collections::VecDeque;
 use std::sync::atomic::{AtomicBool, AtomicU64, Ordering};
@@ -48,17 +51,30 @@ impl<S: Drop, W: Wake> Lane<S, W> {
         if taken {
             self.waker.wake();
         } else {
-            self.leave(1);
+            self.close(1);
         }
     }
 
-    /// The next connection that was handed over.
-    pub(crate) fn next<R: Wait>(&self, rt: &R) -> Option<S> {
-        self.inbox.lock(rt).pop_front()
+    /// The next connection that was handed over, which is one more of the worker's share.
+    pub(crate) fn next<R: Wait>(&self, rt: &R, share: &mut Share) -> Option<S>
+        ensures some { OnSome result (share.new ≡ share.old + 1) }
+        ensures none { IfNone result (share.new ≡ share.old) }
+    {
+        let more = share.one_more()?;
+        let stream = self.inbox.lock(rt).pop_front()?;
+        *share = more;
+        Some(stream)
     }
 
-    /// So many of the connections are over.
-    pub(crate) fn leave(&self, count: usize) {
+    /// So many connections of the worker's share are over.
+    pub(crate) fn leave(&self, share: &mut Share, count: usize)
+        ensures { share.new ≡ share.old - count }
+    {
+        self.close(share.give_back(count));
+    }
+
+    // So many of the connections are over.
+    fn close(&self, count: usize) {
         if count != 0 {
             self.open.fetch_sub(count as u64, Ordering::SeqCst);
         }

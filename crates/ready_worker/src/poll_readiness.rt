@@ -21,6 +21,7 @@ pub(crate) struct PollReadiness {
     poll: Poll,
     events: Events,
     keys: Vec<usize>,
+    limit: Option<Duration>,
     ghost room: { events_capacity events ≤ vec_capacity keys },
 }
 
@@ -31,11 +32,17 @@ impl PollReadiness {
             poll,
             events: Events::with_capacity(alloc, EVENTS)?,
             keys: Vec::with_capacity(alloc, EVENTS)?,
+            limit: None,
         })
     }
 }
 
 impl Readiness for PollReadiness {
+    ghost use Rattle.std.specs.Duration.{as_nanos};
+    ghost use Rattle.std.specs.Option.{option_map};
+
+    ghost waited = { λ r. option_map as_nanos r.limit };
+
     type Stream = TcpStream;
 
     type Waker = Waker;
@@ -53,6 +60,7 @@ impl Readiness for PollReadiness {
     }
 
     fn wait(&mut self, limit: Option<Duration>) {
+        self.limit = limit;
         let _ = self.poll.poll(&mut self.events, limit);
         note(&self.events, &mut self.keys);
     }

@@ -1,3 +1,7 @@
+ghost use Rattle.std.specs.Prelude.{◌≡◌, ℕ, Option};
+ghost use Rattle.std.specs.Duration.{as_nanos};
+ghost use Rattle.std.specs.Option.{option_map};
+
 use std::io;
 use std::io::{Read, Write};
 use std::time::Duration;
@@ -11,6 +15,9 @@ pub trait Readiness: Drop {
     /// What ends a wait.
     type Waker: Wake;
 
+    // How many nanoseconds it waited last at the most. None: as long as nothing came.
+    ghost waited: { Self → Option ℕ };
+
     /// What ends the waits of this one.
     fn waker(&self) -> io::Result<Self::Waker>;
 
@@ -18,7 +25,8 @@ pub trait Readiness: Drop {
     fn register(&mut self, stream: &mut Self::Stream, key: usize) -> bool;
 
     /// Waits until a stream is ready, the waker ends it, or so much time went by.
-    fn wait(&mut self, limit: Option<Duration>);
+    fn wait(&mut self, limit: Option<Duration>)
+        ensures waited { Self.waited self.new ≡ option_map as_nanos limit };
 
     /// The keys of the streams that were ready when the last wait ended.
     fn ready(&self) -> &[usize];

@@ -10,7 +10,7 @@ use crate::ready_listener::ReadyListener;
 use crate::station::Station;
 use crate::worker::Worker;
 use edge_io::{Clock, Failed};
-use front_end::{AtOnce, Caller};
+use front_end::{AtOnce, Caller, Overlap};
 use mio::Waker;
 use mio::net::TcpStream;
 use node_worker::{Port, ServeFault};
@@ -175,7 +175,7 @@ fn start_all<
             return;
         };
         let gateway = AtOnce::new(borrow::<R, Q, P>(rt, port));
-        let worker = Worker::new(station, gateway, clock);
+        let worker = Worker::new(station, gateway, clock, Overlap::Never);
         let job = move || work::<R, Q, P, T>(rt, lane, worker, port);
         if scope.spawn(job).is_ok() {
             lane.start();

@@ -1,8 +1,8 @@
-ghost use Rattle.std.specs.Prelude.{◌≡◌, ◌≢◌, ◌+◌, ◌++◌, ◌∷◌, [], None, false, IsSome, OnSome};
+ghost use Rattle.std.specs.Prelude.{◌≡◌, ◌≢◌, ◌+◌, ◌++◌, ◌∷◌, [], Some, None, drop, false, IsSome, OnSome};
 ghost use Rattle.slab.specs.Slab.{slab_len, Updates};
 ghost use Rattle.ready_places.specs.Placed.{HasPlace, placed_at};
-ghost use Rattle.ready_places.specs.Queue.{is_queued};
-ghost use Rattle.ready_worker.specs.Queued.{AreQueued};
+ghost use Rattle.ready_places.specs.Queue.{first_of};
+ghost use Rattle.ready_worker.specs.Queued.{AreQueued, StayQueued};
 
 use ready_client::Turn;
 use ready_places::Places;
@@ -11,6 +11,7 @@ use ready_places::Places;
 pub(crate) fn queue_all<T: Drop>(places: &mut Places<T>, keys: &[usize]) -> usize
     ensures values { places.new.values ≡ places.old.values }
     ensures queued { AreQueued places.new keys.now }
+    ensures stay { StayQueued places.old.queue places.new.queue }
 {
     let mut count: usize = 0;
     'keys: for key in keys {
@@ -21,18 +22,21 @@ pub(crate) fn queue_all<T: Drop>(places: &mut Places<T>, keys: &[usize]) -> usiz
     count
 }
 
-/// Settles what becomes of a value after its turn: it is queued again, waits to be told of, or is let go.
+/// Settles what becomes of the value at the head of the queue after its turn: it is queued again, at the end, waits to be told
+/// of, or is let go.
 pub(crate) fn settle<T: Drop>(places: &mut Places<T>, key: usize, turn: Turn) -> Option<T>
     requires place { HasPlace places.old key }
-    requires out { is_queued places.old.queue key ≡ false }
-    ensures more { turn ≡ Turn.More → places.new ≡ record places.old { queue = places.old.queue ++ key ∷ [] } }
-    ensures waits { turn ≢ Turn.More → turn ≢ Turn.Over → places.new ≡ places.old }
+    requires first { first_of places.old.queue ≡ Some key }
+    ensures more { turn ≡ Turn.More → places.new ≡ record places.old { queue = drop 1 places.old.queue ++ key ∷ [] } }
+    ensures waits { turn ≢ Turn.More → turn ≢ Turn.Over
+        → places.new ≡ record places.old { queue = drop 1 places.old.queue } }
     ensures stays { turn ≢ Turn.Over → result ≡ None }
     ensures over { turn ≡ Turn.Over → Updates places.old.values places.new.values key None }
     ensures gone { turn ≡ Turn.Over → IsSome result × (result ≡ placed_at places.old key) }
-    ensures queue { turn ≡ Turn.Over → places.new.queue ≡ places.old.queue }
+    ensures queue { turn ≡ Turn.Over → places.new.queue ≡ drop 1 places.old.queue }
     ensures len { OnSome result (slab_len places.new.values + 1 ≡ slab_len places.old.values) }
 {
+    let _ = places.take_first();
     match turn {
         Turn::More => places.put_last(key),
         Turn::Waits | Turn::AwaitsCall | Turn::AwaitsCaller => {}
@@ -41,13 +45,14 @@ pub(crate) fn settle<T: Drop>(places: &mut Places<T>, key: usize, turn: Turn) ->
     None
 }
 
-/// What a turn comes to where a call may be open: a client is over only once its call has ended.
-pub(crate) fn with_call(turn: Turn, is_calling: bool) -> Turn
-    ensures over { result ≡ Turn.Over → (turn ≡ Turn.Over) × (is_calling ≡ false) }
-    ensures same { is_calling ≡ false → result ≡ turn }
+/// What a turn comes to where calls may be under way: a client is over only once these have ended.
+pub(crate) fn with_call(turn: Turn, has_calls: bool) -> Turn
+    ensures over { result ≡ Turn.Over → (turn ≡ Turn.Over) × (has_calls ≡ false) }
+    ensures other { turn ≢ Turn.Over → result ≡ turn }
+    ensures none { has_calls ≡ false → result ≡ turn }
 {
     match turn {
-        Turn::Over if is_calling => Turn::AwaitsCall,
+        Turn::Over if has_calls => Turn::AwaitsCall,
         _ => turn,
     }
 }

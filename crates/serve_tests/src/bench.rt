@@ -4,7 +4,7 @@ use crate::wires::{Change, Teller, Wires};
 use edge_io::Clock;
 use front_end::AtOnce;
 use memc_table::Table;
-use ready_worker::{Station, Worker};
+use ready_worker::{Overlap, Station, Worker};
 use std::alloc::Global;
 use std::process::Abort;
 use std::sync::{Mutex, Wait};
@@ -21,7 +21,12 @@ pub(crate) fn worker<'t, R: Wait + Abort + Copy, T: Clock>(
     clock: &'t T,
 ) -> MemoryWorker<'t, R, T> {
     let station = Station::new(alloc, Teller::new(alloc, wires)).expect(rt, "a station");
-    Worker::new(station, AtOnce::new(Till::new(*rt, table)), clock)
+    Worker::new(
+        station,
+        AtOnce::new(Till::new(*rt, table)),
+        clock,
+        Overlap::Never,
+    )
 }
 
 /// The worker gets this connection.

@@ -7,7 +7,7 @@ use crate::wires::{Change, Nobody, Teller, Wires};
 use edge_io::{Clock, FixedClock};
 use front_end::AtOnce;
 use memc_table::Table;
-use ready_worker::{Lane, Station, Worker};
+use ready_worker::{Lane, Overlap, Station, Worker};
 use std::alloc::{AllocError, Global};
 use std::process::Abort;
 use std::sync::atomic::{AtomicU64, Ordering};
@@ -134,7 +134,12 @@ fn a_thousand_are_served_until_all_are_over(rt: HostRuntime) {
     }
     lane.end();
     let station = Station::new(alloc, Teller::new(alloc, &wires)).expect(&rt, "a station");
-    let mut worker = Worker::new(station, AtOnce::new(Till::new(rt, &table)), &clock);
+    let mut worker = Worker::new(
+        station,
+        AtOnce::new(Till::new(rt, &table)),
+        &clock,
+        Overlap::Never,
+    );
     worker.run(&rt, &lane);
     assert_eq!(rt; lane.open(), 0);
     for number in 0..1_000 {

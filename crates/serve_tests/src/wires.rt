@@ -237,6 +237,7 @@ pub(crate) struct Teller<'t> {
     alloc: Global,
     wires: &'t Wires,
     keys: Vec<usize>,
+    limit: Option<Duration>,
 }
 
 impl<'t> Teller<'t> {
@@ -245,11 +246,17 @@ impl<'t> Teller<'t> {
             alloc,
             wires,
             keys: Vec::new(alloc),
+            limit: None,
         }
     }
 }
 
 impl<'t> Readiness for Teller<'t> {
+    ghost use Rattle.std.specs.Duration.{as_nanos};
+    ghost use Rattle.std.specs.Option.{option_map};
+
+    ghost waited = { λ r. option_map as_nanos r.limit };
+
     type Stream = Wire<'t>;
 
     type Waker = Nobody;
@@ -263,7 +270,8 @@ impl<'t> Readiness for Teller<'t> {
         self.wires.tell(stream.number).is_ok()
     }
 
-    fn wait(&mut self, _limit: Option<Duration>) {
+    fn wait(&mut self, limit: Option<Duration>) {
+        self.limit = limit;
         self.keys = self.wires.take_told(self.alloc);
     }
 
