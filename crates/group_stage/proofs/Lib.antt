@@ -16,3 +16,4 @@ pub mod Stacks
 pub mod Deaths
 pub mod Gathering
 pub mod Peeking
+pub mod Ordering

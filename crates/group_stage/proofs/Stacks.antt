@@ -31,6 +31,14 @@ hand-more ys y = let place : 0 + length ys ≡ length ys = omega arith in stacke
 pub slots-more : (ys : List NodeStanding) (y : NodeStanding) → slots_left (hand_of (ys ++ y ∷ [])) ≡ (slot_of (length ys), None) ∷ slots_left (hand_of ys)
 slots-more ys y = ap slots_left (hand-more ys y)
 
+-- the processes of a stack come before the next
+pub stacked-before : (n x : ℕ) (ys : List NodeStanding) (below : List (ℕ × NodeStanding)) → x + length ys ≤ n → Each (λ h. h.0 < n) below → Each (λ h. h.0 < n) (stacked x ys below)
+stacked-before n x [] below within each = each
+stacked-before n x (y ∷ ys) below within each = stacked-before n (suc x) ys ((x, y) ∷ below) (omega (arith, within)) (omega (arith, within), each)
+
+pub hand-before : (n : ℕ) (ys : List NodeStanding) → length ys ≡ n → Each (λ h. h.0 < n) (hand_of ys)
+hand-before n ys many = stacked-before n 0 ys [] (omega (arith, many)) tt
+
 -- what is under the stack stays in it, and each process of the stack is in it
 under-stack : (q x : ℕ) (ys : List NodeStanding) (below : List (ℕ × NodeStanding)) → times q (map (λ (h : ℕ × NodeStanding). h.0) below) ≤ times q (map (λ (h : ℕ × NodeStanding). h.0) (stacked x ys below))
 under-stack q x [] below = omega arith

@@ -4,6 +4,7 @@ use mathlib.Core.Option as maybe
 use lib.ListN.{get_elem?}
 use Rattle.atomic_table.specs.Table.{rest}
 use Rattle.group_types.specs.Dimensions.{callers, processes_of}
+use Rattle.group_types.specs.Each.{Each}
 use Rattle.group_types.specs.Lists.{at}
 use Rattle.group_types.specs.Shape.{IsShape}
 use Rattle.group_calls.specs.declared.event.Event.{Event}
@@ -34,12 +35,13 @@ pub record CanBegin (plan : Plan) (v : View) (e : Event) (p : ℕ) : Type 0 wher
   pub within : p < processes_of plan.shape
   pub named : 0 < times p (names plan.shape e)
 
--- a call may go on with a further process
+-- a call may go on with a further process, which comes behind all whose nodes it holds
 pub record CanTake (plan : Plan) (v : View) (p : ℕ) : Type 0 where
   pub part : v.parts ≡ 1
   pub due : v.due ≡ 1
   pub within : p < processes_of plan.shape
   pub named : 0 < times p (names plan.shape v.call)
+  pub order : Each (λ h. h.0 < p) v.held
 
 -- a call may become an event: all nodes that it names are held, and it may come
 pub record CanCommit (plan : Plan) (v : View) : Type 0 where

@@ -15,3 +15,4 @@ pub mod Gathered
 pub mod Emptied
 pub mod Pairing
 pub mod Looked
+pub mod Order

@@ -1,11 +1,13 @@
-ghost use Rattle.std.specs.Prelude.{◌≡◌, ◌≢◌, ℕ, [], List, false, IfOk, OnErr};
+ghost use Rattle.std.specs.Prelude.{◌≡◌, ◌≢◌, ◌<◌, ◌↔◌, ℕ, [], List, false, IfOk, IsTrue, OnErr};
 ghost use Rattle.group_calls.specs.declared.event.Event.{Event};
 ghost use Rattle.group_calls.specs.declared.event.Event.TheVariants as happens;
 ghost use Rattle.group_types.specs.Dimensions.{Dimensions};
+ghost use Rattle.group_types.specs.Names as names;
 ghost use Rattle.group_types.specs.Names.{IsProcess};
 ghost use Rattle.group_core.specs.Pairs.{Delivered};
 ghost use Rattle.group_stage.specs.Conditions.{CanFinishTwo, HasTwo, IsIdle};
 ghost use Rattle.group_stage.specs.Ended.{HasEnded, WasUp};
+ghost use Rattle.group_stage.specs.Order.{TookInOrder};
 ghost use Rattle.group_stage.specs.Pairing.{CanDeliver, one_of, other_of};
 ghost use Rattle.group_stage.specs.Seated.{IsOf, shape_of, view_of};
 ghost use Rattle.group_stage.specs.Steps.{Knows};
@@ -37,6 +39,7 @@ impl Stage {
         ensures seat { IsOf self.now seat.new }
         ensures caller { seat.new.caller ≡ seat.old.caller }
         ensures ended { HasEnded (happens.Deliver from to) (view_of seat.old) result (view_of seat.new) }
+        ensures order { TookInOrder (view_of seat.old) result (view_of seat.new) }
         ensures wanted { OnErr result (WasUp (view_of seat.old) to) }
     {
         if seat.is_worn() {
@@ -64,6 +67,7 @@ impl Stage {
         ensures table { seat.new.table_id ≡ seat.old.table_id }
         ensures slots { seat.new.me.1 ≡ [] }
         ensures ended { HasEnded (happens.Deliver from to) seat.old.me.0 result seat.new.me.0 }
+        ensures order { TookInOrder seat.old.me.0 result seat.new.me.0 }
         ensures wanted { OnErr result (WasUp seat.old.me.0 to) }
     {
         let up = is_before(self.plan.shape, from, to);
@@ -114,10 +118,11 @@ impl Stage {
     }
 }
 
-// Whether a process comes before another.
+// Whether a process comes before another: the data processes by their indices, and behind them the parity processes.
 fn is_before(shape: Shape, one: ProcessId, other: ProcessId) -> bool
     requires one { IsProcess shape one }
     requires other { IsProcess shape other }
+    ensures before { IsTrue result ↔ (names.index_of shape one < names.index_of shape other) }
 {
     index_of(shape, one) < index_of(shape, other)
 }

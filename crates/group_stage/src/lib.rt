@@ -1,7 +1,7 @@
 //! A group whose nodes are shared by threads, each call one event of the group's machine. The contract of a call says
 //! what it ended in: its event stands in one schedule, with the machine's answer there, or the word of a process that
-//! it names was held by another seat; and `close` gives the nodes after exactly the schedule of the seats. No call
-//! waits or tries again, which is left to the callers.
+//! it names was held by another seat; and `close` gives the nodes after exactly the schedule of the seats. A delivery
+//! takes its two nodes in the order of processes. No call waits or tries again, which is left to the callers.
 #![tactic(auto)]
 
 mod all_nodes;

@@ -1,3 +1,4 @@
 pub mod Stepping
 pub mod Coming
 pub mod Deaths
+pub mod Links

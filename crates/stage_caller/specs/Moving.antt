@@ -1,5 +1,5 @@
 -- One move of a call: one call of its seat.
-use Rattle.std.specs.Prelude.{ℕ, ◌≡◌, ◌≢◌, ◌+◌, ◌-◌, ◌/◌, ◌%◌, ◌<◌, ◌++◌, List}
+use Rattle.std.specs.Prelude.{ℕ, ◌≡◌, ◌≢◌, ◌+◌, ◌-◌, ◌*◌, ◌/◌, ◌%◌, ◌<◌, ◌++◌, List}
 use Rattle.group_types.specs.Dimensions.{Dimensions, processes_of}
 use Rattle.group_types.specs.Names.{IsProcess}
 use Rattle.group_types.specs.declared.process.ProcessId.{ProcessId}
@@ -34,6 +34,10 @@ sender s place = place / (processes_of s - 1)
 
 abbrev pub receiver : Dimensions → ℕ → ℕ
 receiver s place = (sender s place + 1 + place % (processes_of s - 1)) % processes_of s
+
+-- so many there are: from each process to each other one
+abbrev pub links_of : Dimensions → ℕ
+links_of s = processes_of s * (processes_of s - 1)
 
 -- a move that may be made at a phase
 abbrev pub CanMake : Dimensions → Phase → Move → Type 0

@@ -1,4 +1,4 @@
-ghost use Rattle.std.specs.Prelude.{◌≡◌, ◌%◌, ◌+◌, ◌<◌, replicate};
+ghost use Rattle.std.specs.Prelude.{◌≡◌, ◌%◌, ◌+◌, ◌<◌, replicate, set, slice_index_or};
 
 use crate::route::Route;
 use group_types::{Partition, Shape};
@@ -26,15 +26,17 @@ impl Heads {
         requires { partition.0 < shape.k }
         ensures shape { result.shape ≡ shape }
         ensures partition { result.partition ≡ partition }
+        ensures rank { result.rank ≡ slice_index_or self.now.ranks partition.0 0 % (shape.m + 1) }
     {
         let known = self.ranks.get(partition.0 as usize);
         Route::at(shape, partition, known.copied().unwrap_or(0))
     }
 
     /// A call ended at the process where its route had come to.
-    pub(crate) fn note(&mut self, route: &Route) {
-        if let Some(rank) = self.ranks.get_mut(route.partition.0 as usize) {
-            *rank = route.rank;
-        }
+    pub(crate) fn note(&mut self, route: &Route)
+        ensures { self.new.ranks ≡ set self.old.ranks route.now.partition.0 route.now.rank }
+    {
+        let _few = route.shape.k();
+        self.ranks[route.partition.0 as usize] = route.rank;
     }
 }

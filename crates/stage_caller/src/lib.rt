@@ -1,6 +1,7 @@
 //! The caller that makes a connection's calls over a group that threads share, from a seat of its own. The contract says
 //! which events a call makes and how it ends: by the answer of its own last event, or since the seat has made all its
-//! calls. In which order and how soon is not promised, and reading requests is left to the crates beside it.
+//! calls. In which order it goes on, rank by rank and link by link, the clauses of `Progress` say to this crate alone. How
+//! soon is not promised, and reading requests is left to the crates beside it.
 #![tactic(auto)]
 
 mod asking;

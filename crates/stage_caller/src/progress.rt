@@ -1,6 +1,11 @@
-ghost use Rattle.std.specs.Prelude.{◌≡◌, ◌≢◌, ◌+◌, ◌%◌, IfSome};
+ghost use Rattle.std.specs.Prelude.{◌≡◌, ◌≢◌, ℕ, false, IfNone, IfSome};
 ghost use Rattle.group_types.specs.Names.{IsProcess};
+ghost use Rattle.group_types.specs.declared.process.ProcessId.{ProcessId};
+ghost use Rattle.stage_caller.specs.Going.{BeginsRound, GoesTo, Helps, IsNextRank, PassesLink, Rests, Turns};
 ghost use Rattle.stage_caller.specs.Moving.{CanMake, IsLink};
+ghost use Rattle.stage_caller.specs.Rounds.{IsHelped, IsNextLink, IsNextMove, server_of};
+ghost use Rattle.stage_caller.specs.declared.phase.Phase.{Phase};
+ghost use Rattle.stage_caller.specs.declared.step.Move.TheVariants as makes;
 
 use crate::link::{Link, any_link, near_link};
 use crate::phase::Phase;
@@ -35,7 +40,11 @@ pub(crate) struct Progress {
 
 impl Progress {
     pub(crate) fn new(route: Route, caller: u32) -> Progress
-        ensures { result.route ≡ route }
+        ensures route { result.route ≡ route }
+        ensures caller { result.caller ≡ caller }
+        ensures round { result.round ≡ Round.Over }
+        ensures traces { result.traces ≡ false }
+        ensures idle { result.idle ≡ 0 }
     {
         Progress {
             route,
@@ -60,7 +69,8 @@ impl Progress {
 
     /// The next move: a look at a link of the round, a delivery where a message waits there, or else the call's own.
     pub(crate) fn next(&self, phase: Phase) -> Move
-        ensures { CanMake self.now.route.shape phase result }
+        ensures can { CanMake self.now.route.shape phase result }
+        ensures next { IsNextMove self.now result }
     {
         match self.link() {
             Some(link) if self.waits => Move::Deliver(link.from, link.to),
@@ -70,7 +80,9 @@ impl Progress {
     }
 
     fn link(&self) -> Option<Link>
-        ensures { IfSome result (λ link. IsLink self.now.route.shape link.from link.to) }
+        ensures link { IfSome result (λ link. IsLink self.now.route.shape link.from link.to) }
+        ensures at { IfSome result (λ link. IsNextLink self.now link.from link.to) }
+        ensures none { IfNone result (IsHelped self.now.route.shape self.now.round) }
     {
         match self.round {
             Round::Onward | Round::Over => None,
@@ -81,7 +93,9 @@ impl Progress {
 
     fn own(&self, phase: Phase, at: ProcessId) -> Move
         requires { IsProcess self.now.route.shape at }
-        ensures { CanMake self.now.route.shape phase result }
+        ensures can { CanMake self.now.route.shape phase result }
+        ensures next { IsHelped self.now.route.shape self.now.round → at ≡ server_of self.now.route
+            → IsNextMove self.now result }
     {
         match phase {
             Phase::Asks => Move::Ask(at),
@@ -94,6 +108,8 @@ impl Progress {
     pub(crate) fn after(&self, made: Move, phase: Phase, heard: Heard) -> Progress
         ensures shape { result.route.shape ≡ self.now.route.shape }
         ensures partition { result.route.partition ≡ self.now.route.partition }
+        ensures goes { GoesTo made phase heard self.now result }
+        ensures helps { Helps made phase heard self.now result }
     {
         match made {
             Move::Look(..) if heard == Heard::Moves => Progress {
@@ -108,7 +124,9 @@ impl Progress {
     }
 
     fn after_link(&self, heard: Heard) -> Progress
-        ensures { result.route ≡ self.now.route }
+        ensures route { result.route ≡ self.now.route }
+        ensures traces { result.traces ≡ self.now.traces }
+        ensures passes { PassesLink heard self.now result }
     {
         let round = match self.round {
             Round::Onward | Round::Over => self.round,
@@ -126,6 +144,8 @@ impl Progress {
     fn after_ask(&self, phase: Phase, heard: Heard) -> Progress
         ensures shape { result.route.shape ≡ self.now.route.shape }
         ensures partition { result.route.partition ≡ self.now.route.partition }
+        ensures goes { (at : ProcessId) → GoesTo (makes.Ask at) phase heard self.now result }
+        ensures helps { (at : ProcessId) → Helps (makes.Ask at) phase heard self.now result }
     {
         if phase != Phase::Asks {
             return self.helps(Round::Near(0));
@@ -141,6 +161,10 @@ impl Progress {
     fn after_collect(&self, heard: Heard) -> Progress
         ensures shape { result.route.shape ≡ self.now.route.shape }
         ensures partition { result.route.partition ≡ self.now.route.partition }
+        ensures goes { (call : ℕ) (at : ProcessId) (phase : Phase)
+            → GoesTo (makes.Collect call at) phase heard self.now result }
+        ensures helps { (call : ℕ) (at : ProcessId) (phase : Phase)
+            → Helps (makes.Collect call at) phase heard self.now result }
     {
         if heard != Heard::Elsewhere {
             return self.waits();
@@ -156,6 +180,8 @@ impl Progress {
     fn after_trace(&self, phase: Phase, heard: Heard) -> Progress
         ensures shape { result.route.shape ≡ self.now.route.shape }
         ensures partition { result.route.partition ≡ self.now.route.partition }
+        ensures goes { (call : ℕ) (at : ProcessId) → GoesTo (makes.Trace call at) phase heard self.now result }
+        ensures helps { (call : ℕ) (at : ProcessId) → Helps (makes.Trace call at) phase heard self.now result }
     {
         if phase == Phase::Asks {
             return Progress {
@@ -175,12 +201,9 @@ impl Progress {
     fn goes_on(&self) -> Progress
         ensures shape { result.route.shape ≡ self.now.route.shape }
         ensures partition { result.route.partition ≡ self.now.route.partition }
-        ensures next { result.route.rank ≡ (self.now.route.rank + 1 % (self.now.route.shape.m + 1))
-            % (self.now.route.shape.m + 1) }
-        ensures begun { result.route.begun ≡ self.now.route.begun }
-        ensures idle { result.route.rank ≢ result.route.begun → result.idle ≡ self.now.idle }
-        ensures moved { result.route.rank ≢ result.route.begun → result.moved ≡ self.now.moved }
-        ensures onward { result.route.rank ≢ result.route.begun → result.round ≡ Round.Onward }
+        ensures next { IsNextRank self.now.route result.route }
+        ensures traces { result.traces ≡ self.now.traces }
+        ensures turns { Turns self.now result }
     {
         let next = Progress {
             route: self.route.further(1),
@@ -196,7 +219,9 @@ impl Progress {
 
     // Round the links of the call's own update, and then round all.
     fn waits(&self) -> Progress
-        ensures { result.route ≡ self.now.route }
+        ensures route { result.route ≡ self.now.route }
+        ensures traces { result.traces ≡ self.now.traces }
+        ensures rests { Rests self.now result }
     {
         if self.idle < IDLE_ROUNDS {
             self.helps(Round::Near(0))
@@ -207,7 +232,9 @@ impl Progress {
 
     // A round begins.
     fn helps(&self, round: Round) -> Progress
-        ensures { result.route ≡ self.now.route }
+        ensures route { result.route ≡ self.now.route }
+        ensures traces { result.traces ≡ self.now.traces }
+        ensures begins { BeginsRound round self.now result }
     {
         let idle = if self.moved {
             0

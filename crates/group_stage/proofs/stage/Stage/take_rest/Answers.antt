@@ -7,6 +7,7 @@ use Rattle.group_stage.specs.Steps.{Knows, Sat}
 use Rattle.group_stage.specs.Views.{with_met}
 use Rattle.group_stage.proofs.Deaths.{one-more}
 use Rattle.group_stage.proofs.Hands.{none-took}
+use Rattle.group_stage.proofs.Stacks.{hand-before}
 use Rattle.group_stage.proofs.stage.Stage.take_rest.Goals as goal
 
 pub processes-init : goal.processes-init
@@ -28,7 +29,13 @@ pub take_next-requires-clause-take : goal.take_next-requires-clause-take
 take_next-requires-clause-take c =
     let low : c.processes.place < processes_of c.args.self.now.plan.shape = let test = c.processes-test.true in let end = c.processes_of-place-end.ensures.value in omega (arith, test, end) in
     subst (λ (x : Sat). CanTake c.args.self.now.plan x.0 c.processes.place) (sym c.processes.invariant.seat)
-    (record { part = c.requires.all.part; due = c.requires.all.due; within = low; named = c.requires.all.named c.processes.place low })
+    (record {
+      part = c.requires.all.part;
+      due = c.requires.all.due;
+      within = low;
+      named = c.requires.all.named c.processes.place low;
+      order = hand-before c.processes.place c.processes.nodes.nodes c.processes.invariant.many;
+    })
 
 pub returns-in_default-clause-table : goal.returns-in_default-clause-table
 returns-in_default-clause-table c = c.take_next.ensures.table ∙ c.processes.invariant.table
