@@ -5,7 +5,7 @@
 # stops, slows or cuts off members, by a plan drawn from its seed (machines/README.md); then every key is read at each member that lives, and the
 # clients' records are judged (machines/linear.py, which is tried first). A line for each run, then a summary; the status is 1 where a run was wrong.
 # SEED=17 begins with that seed, PLAN="cut a link" plays one plan, JOBS=4 has four runs at once (as many as there are processors where nothing is said),
-# KEEP=FOLDER has what is kept of wrong runs.
+# KEEP=FOLDER has what is kept of wrong runs; ORDER=keys has members whose settings have that order.
 set -eu
 top=$(cd "$(dirname "$0")/.." && pwd)
 here=$top/bench/machines

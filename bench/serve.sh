@@ -2,7 +2,7 @@
 # Requests a second and times of memcached -t 4, of `serve` 4 2 and of redis with two replicas (WAIT 2 behind each set), in turn over
 # loopback, with the checking client of bench/load: sh bench/serve.sh [SECONDS of a cell] [PROGRAM]. Then what an idle `serve` uses.
 # By hand, over the executable that `rt run` leaves. Debian's memcached and redis are installed where they are missing.
-# ONLY=members measures a group 4 2 of six programs, with all connections at one of them.
+# ONLY=members measures a group 4 2 of six programs, with all connections at one of them; ORDER=keys has that order in their settings.
 # ONLY=serve (or memcached, redis, several of them) measures these servers alone, CELLS="90 100 1 4" that cell alone: gets of 100, bytes, depth, connections.
 # IDLE=0 leaves out the idle minute.
 set -eu
@@ -47,7 +47,7 @@ start() {
         "$program" serve < "$work/settings.toml" > "$work/served" 2> "$work/notice" & pids=$!
         reach ;;
     members)
-        sed -e "s/127.0.0.1:21200/127.0.0.1:$port/" -e 's/^blocks = .*/blocks = 16384/' "$here/../examples/machines/member.toml" > "$work/members.toml"
+        sed -e "1i order = \"${ORDER:-strict}\"" -e "s/127.0.0.1:21200/127.0.0.1:$port/" -e 's/^blocks = .*/blocks = 16384/' "$here/../examples/machines/member.toml" > "$work/members.toml"
         for name in d0 d1 d2 d3 p0 p1; do "$program" member $name < "$work/members.toml" > /dev/null 2> "$work/notice.$name" & pids="$pids $!"; done
         reach ;;
     redis)

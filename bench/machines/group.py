@@ -62,6 +62,7 @@ class Group:
     def __init__(self, program, folder, k, m, block, blocks, patience=5, groups=1):
         self.program, self.folder, self.k, self.m, self.groups = program, folder, k, m, groups
         self.block, self.blocks, self.patience = block, blocks, patience
+        self.order = os.environ.get("ORDER", "strict")
         names = [f"d{n}" for n in range(k)] + [f"p{n}" for n in range(m)]
         self.host, self.key = own_host(), os.urandom(16).hex()
         ports = free_ports(self.host, 3 * len(names))
@@ -71,7 +72,8 @@ class Group:
     def settings(self, links):
         """The settings, with other ports for the links to some members."""
         lines = [f'group = "{self.key}"', f"k = {self.k}", f"m = {self.m}", f"block = {self.block}", f"blocks = {self.blocks}",
-                 f"patience = {self.patience}", f"one_word = {'true' if self.k <= self.m else 'false'}"]
+                 f"patience = {self.patience}", f'order = "{self.order}"',
+                 f"one_word = {'true' if self.k <= self.m else 'false'}"]
         lines += [f"groups = {self.groups}"] if self.groups > 1 else []
         for each in self.members:
             lines += ["[[members]]", f'name = "{each.name}"', f'link = "{self.host}:{links.get(each.index, each.link)}"',

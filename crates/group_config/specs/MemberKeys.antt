@@ -9,7 +9,7 @@ use Rattle.toml.specs.Data.{Data, Members, as_str, get_member}
 use Rattle.group_types.specs.Dimensions.{Dimensions}
 use Rattle.group_config.specs.Keys.{number, only, or_else, truth}
 use Rattle.group_config.specs.declared.member_settings.CallOrder.{CallOrder}
-use Rattle.group_config.specs.declared.member_settings.CallOrder.TheVariants.{Strict}
+use Rattle.group_config.specs.declared.member_settings.CallOrder.TheVariants.{Strict, Keys}
 
 -- a text
 abbrev pub text : Option Data → Option (List ℕ)
@@ -32,7 +32,7 @@ name found = only is_name (text found)
 
 -- the order in which calls are shown
 abbrev pub order : Option Data → Option CallOrder
-order found = option_and_then (λ s. if bytes_eq s (codes "strict") then Some Strict else None) (text found)
+order found = option_and_then (λ s. if bytes_eq s (codes "strict") then Some Strict else (if bytes_eq s (codes "keys") then Some Keys else None)) (text found)
 
 abbrev pub group_in : Members → Option (List ℕ)
 group_in ms = group_id (get_member (codes "group") ms)

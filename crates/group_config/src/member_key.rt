@@ -62,7 +62,8 @@ impl MemberKey {
             MemberKey::Name => {
                 "name is the name of one of the members, and a word behind the command stands in its place"
             }
-            MemberKey::Order => "order is \"strict\", which it is where it is left out",
+            MemberKey::Order =>
+                "order is \"strict\" or \"keys\", and \"strict\" where it is left out",
             MemberKey::Patience => "patience is 1 to 3600 seconds, and 10 where it is left out",
             MemberKey::OneWord => {
                 "one_word is true or false, and false where it is left out: where k is not above m it has to be true, \

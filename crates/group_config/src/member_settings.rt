@@ -7,6 +7,8 @@ use group_types::Shape;
 pub enum CallOrder {
     /// In one order of all calls on all keys.
     Strict,
+    /// In one order of all calls on each key.
+    Keys,
 }
 
 /// How a member of a group runs whose processes stand on machines of their own.

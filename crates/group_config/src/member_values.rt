@@ -72,8 +72,11 @@ pub(crate) fn order_or_strict(value: Option<&Value>) -> Option<CallOrder>
 fn order_of(value: Option<&Value>) -> Option<CallOrder>
     ensures { result ≡ order (data_of value.entry) }
 {
-    if text_of(value)? == "strict" {
+    let text = text_of(value)?;
+    if text == "strict" {
         Some(CallOrder::Strict)
+    } else if text == "keys" {
+        Some(CallOrder::Keys)
     } else {
         None
     }

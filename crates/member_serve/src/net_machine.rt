@@ -1,3 +1,4 @@
+ghost use Rattle.std.specs.Prelude.{◌≡◌};
 ghost use Rattle.group_config.specs.MemberReading.{HasMembers};
 
 use crate::callers::{Callers, Own};
@@ -13,12 +14,12 @@ use crate::serving::Serving;
 use crate::space::ToldSpace;
 use crate::tally::Tally;
 use crate::turn_clock::TurnClock;
-use group_config::{MemberKey, MemberSettings};
+use group_config::{CallOrder, MemberKey, MemberSettings};
 use group_gateways::GroupGateways;
 use member_links::{Door, LinkTokens, Port};
 use member_machine::{Machine, MemberEnd};
 use mio::Poll;
-use ready_worker::{Crowd, Station, Watch, Worker};
+use ready_worker::{Crowd, Overlap, Station, Watch, Worker};
 use std::alloc::{AllocError, Global};
 use std::net::Net;
 use std::random::RandomSource;
@@ -107,7 +108,7 @@ impl<R: Net + RandomSource, W: Report> NetMachine<'_, R, W> {
             report: self.report,
             settings,
             clock,
-            worker: self.worker(clock, callers, poll)?,
+            worker: self.worker(settings.order, clock, callers, poll)?,
             links: self.links(settings, link)?,
             control: Control::new(self.alloc, control),
             client_port: ClientPort::new(client),
@@ -127,13 +128,14 @@ impl<R: Net + RandomSource, W: Report> NetMachine<'_, R, W> {
     // The worker of a member, with no client.
     fn worker<'s, G: Callers + Drop>(
         &self,
+        order: CallOrder,
         clock: &'s TurnClock,
         callers: G,
         poll: Poll,
     ) -> Result<Worker<'s, MemberReadiness, G, TurnClock>, AllocError> {
         let readiness = MemberReadiness::new(self.alloc, poll)?;
         let station = Station::new(self.alloc, readiness)?;
-        Ok(Worker::new(station, callers, clock))
+        Ok(Worker::new(station, callers, clock, overlap_of(order)))
     }
 
     // The links of a member before the first is there, and where others come in at this port.
@@ -152,6 +154,17 @@ impl<R: Net + RandomSource, W: Report> NetMachine<'_, R, W> {
         let mut bytes = [0u8; 8];
         let _ = self.rt.fill_bytes(&mut bytes);
         u64::from_be_bytes(bytes)
+    }
+}
+
+/// Which calls of a client are under way together by this order.
+fn overlap_of(order: CallOrder) -> Overlap
+    ensures strict { order ≡ CallOrder.Strict → result ≡ Overlap.Never }
+    ensures keys { order ≡ CallOrder.Keys → result ≡ Overlap.OtherKeys }
+{
+    match order {
+        CallOrder::Strict => Overlap::Never,
+        CallOrder::Keys => Overlap::OtherKeys,
     }
 }
 

@@ -2,6 +2,9 @@ use crate::line::Presence;
 use std::alloc::Global;
 use std::collections::VecDeque;
 
+/// How many answers a client waits for at most.
+const DEPTH: usize = 17;
+
 /// What a client does.
 #[derive(Clone, Copy, PartialEq, Eq)]
 pub(crate) enum Kind {
@@ -13,6 +16,8 @@ pub(crate) enum Kind {
     Swaps,
     /// It gets the keys of others.
     Reads,
+    /// It does rows with a key of its own, raises the counter of all and gets the keys of others.
+    Mixes,
 }
 
 /// What a client waits to hear, and what was heard by anybody before it asked.
@@ -32,6 +37,8 @@ pub(crate) enum Wanted {
     Swapped(u64),
     /// The key of a client after at least so many of its rows.
     State { of: usize, least: u64 },
+    /// The keys of two clients, by one get.
+    States { of: [usize; 2], least: [u64; 2] },
 }
 
 /// A client at a member: what it said and heard.
@@ -75,7 +82,12 @@ impl TestClient {
 
     /// Whether it may say more: it is there, and not much is to be heard.
     pub(crate) fn may_speak(&self) -> bool {
-        self.presence == Presence::Stays && self.open.len() < 7
+        self.presence == Presence::Stays && self.open.len() < DEPTH
+    }
+
+    /// Whether it does rows with its key.
+    pub(crate) fn does_rows(&self) -> bool {
+        matches!(self.kind, Kind::Rows | Kind::Mixes)
     }
 
     /// An answer of so many bytes was judged.

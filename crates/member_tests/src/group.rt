@@ -9,6 +9,7 @@ use crate::seat::{Life, Seat};
 use edge_io::FixedClock;
 use group_node::process_at;
 use group_types::{ProcessId, Shape};
+use ready_worker::Overlap;
 use std::alloc::{AllocError, Global};
 
 /// How many processes a group has.
@@ -48,7 +49,7 @@ impl<'t, G: TestGateway> Group<'t, G> {
         let crowd = Crowd::new(alloc, lines, number)?;
         Ok(Group {
             shape,
-            seats: seats_of(alloc, shape, lines, clock)?,
+            seats: seats_of(alloc, shape, lines, clock, overlap_of(number))?,
             crowd,
             now: 0,
         })
@@ -149,18 +150,29 @@ impl<'t, G: TestGateway> Group<'t, G> {
     }
 }
 
+// Of a dozen numbers the second six have calls on different keys under way together.
+fn overlap_of(number: u64) -> Overlap {
+    if number % 12 < 6 {
+        Overlap::Never
+    } else {
+        Overlap::OtherKeys
+    }
+}
+
 fn seats_of<'t, G: TestGateway>(
     alloc: Global,
     shape: Shape,
     lines: &'t [Lines],
     clock: &'t FixedClock,
+    overlap: Overlap,
 ) -> Result<Vec<Seat<'t, G>>, AllocError> {
     let mut seats = Vec::new(alloc);
     'seats: for x in 0..count_of(shape) {
         let Some(lines) = lines.get(x as usize) else {
             break 'seats;
         };
-        seats.push(Seat::new(alloc, shape, process_at(shape, x), lines, clock)?)?;
+        let name = process_at(shape, x);
+        seats.push(Seat::new(alloc, shape, name, lines, clock, overlap)?)?;
     }
     Ok(seats)
 }

@@ -78,12 +78,24 @@ fn first_answer(wanted: Wanted, heard: &[u8]) -> Option<usize> {
             return Some(0);
         }
     }
-    let lines = if heard.starts_with(b"VALUE ") { 3 } else { 1 };
-    end_of_lines(heard, lines)
+    end_of_get(heard)
 }
 
-// Where so many lines end, if they are whole.
-fn end_of_lines(heard: &[u8], lines: u32) -> Option<usize> {
+// Where an answer ends that has the items of at most two keys, if it is whole.
+fn end_of_get(heard: &[u8]) -> Option<usize> {
+    let mut end: usize = 0;
+    'items: for _ in 0..2u32 {
+        let rest = heard.get(end..).unwrap_or_default();
+        if rest.starts_with(b"VALUE ") {
+            end = end.saturating_add(end_of_lines(rest, 2)?);
+        }
+    }
+    let rest = heard.get(end..).unwrap_or_default();
+    Some(end.saturating_add(end_of_lines(rest, 1)?))
+}
+
+/// Where so many lines end, if they are whole.
+pub(crate) fn end_of_lines(heard: &[u8], lines: u32) -> Option<usize> {
     let mut left = lines;
     for (place, byte) in heard.iter().enumerate() {
         if *byte == b'\n' {

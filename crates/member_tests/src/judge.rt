@@ -1,8 +1,9 @@
 // Whether what a client hears can be.
 use crate::client::Wanted;
 use crate::crowd::Crowd;
+use crate::hearing::end_of_lines;
 use crate::number::{first_line, last_word, number, second_line};
-use crate::rows::{is_state, is_text, row_at};
+use crate::rows::{is_item, is_state, is_text, row_at};
 
 impl Crowd<'_> {
     /// Whether a client can hear this where it waits for that.
@@ -15,6 +16,7 @@ impl Crowd<'_> {
             Wanted::Item(least) => self.judge_item(client, least, text),
             Wanted::Swapped(number) => self.judge_swap(number, text),
             Wanted::State { of, least } => self.judge_state(of, least, text),
+            Wanted::States { of, least } => self.judge_states(of, least, text),
         }
     }
 
@@ -60,6 +62,19 @@ impl Crowd<'_> {
         text == b"EXISTS\r\n".as_slice()
     }
 
+    // The item of the first key stands in front of that of the second, where there are both.
+    fn judge_states(&self, of: [usize; 2], least: [u64; 2], text: &[u8]) -> bool {
+        let (Some(first), Some(second)) = (self.clients.get(of[0]), self.clients.get(of[1])) else {
+            return false;
+        };
+        let item = first_item(text, first.key);
+        let behind = text.get(item.len()..).unwrap_or_default();
+        let other = first_item(behind, second.key);
+        behind.get(other.len()..) == Some(b"END\r\n".as_slice())
+            && is_item(item, first.key, least[0], first.said)
+            && is_item(other, second.key, least[1], second.said)
+    }
+
     fn judge_state(&self, of: usize, least: u64, text: &[u8]) -> bool {
         match self.clients.get(of) {
             Some(of) => is_state(text, of.key, least, of.said),
@@ -70,6 +85,15 @@ impl Crowd<'_> {
 
 fn is_stored(text: &[u8]) -> bool {
     text == b"STORED\r\n".as_slice()
+}
+
+// The item of a key, where a text begins with it.
+fn first_item(text: &[u8], key: u8) -> &[u8] {
+    if !text.starts_with(b"VALUE ") || text.get(6) != Some(&key) {
+        return b"".as_slice();
+    }
+    let len = end_of_lines(text, 2).unwrap_or_default();
+    text.get(..len).unwrap_or_default()
 }
 
 // A counter and its unique.

@@ -122,6 +122,18 @@ pub(crate) fn is_state(text: &[u8], key: u8, from: u64, to: u64) -> bool {
     false
 }
 
+/// Whether this is the item of a key, empty where it has none, once some number of rows was done from one number to another.
+pub(crate) fn is_item(text: &[u8], key: u8, from: u64, to: u64) -> bool {
+    for done in from..=to {
+        let state = state_at(done);
+        let len = state.len().saturating_sub(NONE.len());
+        if is_text(text, state.get(..len).unwrap_or_default(), key) {
+            return true;
+        }
+    }
+    false
+}
+
 // What is heard of a key of which so many rows were done.
 fn state_at(done: u64) -> &'static [u8] {
     match done.checked_sub(1) {

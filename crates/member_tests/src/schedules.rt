@@ -34,7 +34,7 @@ impl<G: TestGateway> Group<'_, G> {
             self.join(seat, 1, Kind::Counts);
             self.join(seat, 2, Kind::Swaps);
             self.join(seat, 3, Kind::Reads);
-            self.join(seat, 4, Kind::Counts);
+            self.join(seat, 4, Kind::Mixes);
         }
         self.crowd.set_counters(0);
         self.settle();

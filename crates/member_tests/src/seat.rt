@@ -5,7 +5,7 @@ use crate::lines::{LineReadiness, Lines};
 use crate::links::MemoryLinks;
 use edge_io::FixedClock;
 use group_types::{ProcessId, Shape};
-use ready_worker::{Station, Worker};
+use ready_worker::{Overlap, Station, Worker};
 use std::alloc::{AllocError, Global};
 
 /// How a member is.
@@ -36,6 +36,7 @@ impl<'t, G: TestGateway> Seat<'t, G> {
         name: ProcessId,
         lines: &'t Lines,
         clock: &'t FixedClock,
+        overlap: Overlap,
     ) -> Result<Seat<'t, G>, AllocError>
         requires { IsProcess shape name }
     {
@@ -43,7 +44,7 @@ impl<'t, G: TestGateway> Seat<'t, G> {
         let station = Station::new(alloc, LineReadiness::new(lines))?;
         let gateway = G::open(alloc, shape, name)?;
         Ok(Seat {
-            worker: Worker::new(station, gateway, clock),
+            worker: Worker::new(station, gateway, clock, overlap),
             lines,
             links,
             life: Life::Lives,

@@ -18,6 +18,15 @@ impl Crowd<'_> {
             Kind::Counts => self.say_count(client),
             Kind::Swaps => self.say_swap(client),
             Kind::Reads => self.say_read(client),
+            Kind::Mixes => self.say_any(client),
+        }
+    }
+
+    fn say_any(&mut self, client: usize) {
+        match self.pick(3) {
+            0 => self.say_row(client),
+            1 => self.say_count(client),
+            _ => self.say_read(client),
         }
     }
 
@@ -71,25 +80,42 @@ impl Crowd<'_> {
         }
     }
 
-    // A client gets the key of another.
+    // A client gets the key of another, or of two others at once.
     fn say_read(&mut self, client: usize) {
         'others: for _ in 0..4u32 {
-            let of = self.pick_client();
-            if self.says_get(client, of) {
+            let (of, other) = (self.pick_client(), self.pick_client());
+            if self.says_get_of(client, [of, other]) || self.says_get(client, of) {
                 return;
             }
         }
     }
 
-    /// A client gets the key of another that does the rows: whether that does them.
-    pub(crate) fn says_get(&mut self, client: usize, of: usize) -> bool {
-        let Some(at) = self.clients.get(of) else {
+    // A client gets the keys of two others that do the rows: whether both do them.
+    fn says_get_of(&mut self, client: usize, of: [usize; 2]) -> bool {
+        let (Some((first, a)), Some((second, b))) = (self.rows_of(of[0]), self.rows_of(of[1]))
+        else {
             return false;
         };
-        if at.kind != Kind::Rows {
-            return false;
+        let text = [b'g', b'e', b't', b' ', first, b' ', second, b'\r', b'\n'];
+        self.say(client, &text, Wanted::States { of, least: [a, b] });
+        true
+    }
+
+    // The key of a client, and how many rows it did on it as it heard.
+    fn rows_of(&self, of: usize) -> Option<(u8, u64)> {
+        let at = self.clients.get(of)?;
+        if at.does_rows() {
+            Some((at.key, at.done))
+        } else {
+            None
         }
-        let (key, least) = (at.key, at.done);
+    }
+
+    /// A client gets the key of another that does the rows: whether that does them.
+    pub(crate) fn says_get(&mut self, client: usize, of: usize) -> bool {
+        let Some((key, least)) = self.rows_of(of) else {
+            return false;
+        };
         let text = [b'g', b'e', b't', b' ', key, b'\r', b'\n'];
         self.say(client, &text, Wanted::State { of, least });
         true

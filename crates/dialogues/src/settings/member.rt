@@ -23,13 +23,20 @@ fn told_settings(alloc: Global, settings: &MemberSettings) -> Result<String, All
     let entries = settings.members.entries();
     let names = names_of(alloc, entries)?;
     let own = told_own(alloc, entries, settings.own)?;
-    let CallOrder::Strict = settings.order;
+    let order = told_order(settings.order);
     let (patience, one_word) = (settings.patience, settings.one_word);
     let groups = groups_of(alloc, settings.groups)?;
     let bases = bases_of(alloc, settings.base.as_slice())?;
     format!(in alloc;
-        "{group} {k} {m} {blocks} {block},{names}, {own}, strict, {patience}, {one_word}{groups}{bases}"
+        "{group} {k} {m} {blocks} {block},{names}, {own}, {order}, {patience}, {one_word}{groups}{bases}"
     )
+}
+
+fn told_order(order: CallOrder) -> &'static str {
+    match order {
+        CallOrder::Strict => "strict",
+        CallOrder::Keys => "keys",
+    }
 }
 
 // How many groups there are, where they are several.
