@@ -24,9 +24,9 @@ use Rattle.ready_client.specs.Calling.{IsBegunAs, HasEndOf}
 use Rattle.ready_client.specs.Coming.{Comes}
 use Rattle.ready_client.specs.declared.open_call.OpenCall.{OpenCall}
 
--- where a connection stands at its gateway: its calls that are under way, of which the ends of the first ones may be wanted no
--- more, how it ended, and the text that was written of it
-pub record Standing (G K : Type 0) : Type 0 where
+-- where a connection stands at its gateway: its calls that are under way, of which the ends of the first ones may be
+-- wanted no more, how it ended, and the text that was written of it
+pub record ConnectionAt (G K : Type 0) : Type 0 where
   pub gateway : G
   pub connection : Progress
   pub calls : List (OpenCall K)
@@ -34,12 +34,13 @@ pub record Standing (G K : Type 0) : Type 0 where
   pub end : Option (Result End ConnectionFault)
   pub text : List ℕ
 
-abbrev pub standing : {G K : Type 0} → G → Progress → List (OpenCall K) → ℕ → Option (Result End ConnectionFault) → List ℕ → Standing G K
-standing gateway connection calls unwanted end text =
+abbrev pub connection_at : {G K : Type 0} → G → Progress → List (OpenCall K) → ℕ
+    → Option (Result End ConnectionFault) → List ℕ → ConnectionAt G K
+connection_at gateway connection calls unwanted end text =
     record { gateway = gateway; connection = connection; calls = calls; unwanted = unwanted; end = end; text = text }
 
--- what a step does: it begins a call, takes the end of the first one, lets the first one go with its end, gives an order that a
--- process fail, tells a text that needs no call, reads, or finds no memory
+-- what a step does: it begins a call, takes the end of the first one, lets the first one go with its end, gives an order
+-- that a process fail, tells a text that needs no call, reads, or finds no memory
 pub data Asking (K : Type 0) : Type 0 where
   Begins : Asked → OpenCall K → Asking K
   Takes : OpenCall K → CallEnd → Asking K
@@ -62,47 +63,69 @@ Closes waiting before after = (after ≡ before) ⊎ ((waiting ≡ []) × HasWri
 
 module _ {G K : Type 0} (rules : Rules G K) (told : Option ℕ) where
   -- it hasn't ended, and the end of its first call is wanted
-  abbrev pub IsGoing : Standing G K → Type 0
+  abbrev pub IsGoing : ConnectionAt G K → Type 0
   IsGoing at = (at.end ≡ None) × (at.unwanted ≡ 0)
 
   -- the first request is answered so, or a fault came as this text of it was written
-  abbrev pub Answers : (List ℕ → List ℕ → List Request → List Request → Type 0) → List ℕ → Standing G K → Standing G K → Type 0
-  Answers settles text before after =
-      ((middle : List ℕ) × settles before.text middle before.connection.waiting after.connection.waiting × Closes after.connection.waiting middle after.text)
-      ⊎ ((fault : ConnectionFault) × (after.end ≡ Some (Err fault)) × (after.connection ≡ before.connection) × HasWritten before.text after.text text)
+  abbrev pub AnswersFirst : (List ℕ → List ℕ → List Request → List Request → Type 0) → List ℕ
+      → ConnectionAt G K → ConnectionAt G K → Type 0
+  AnswersFirst settles text before after =
+      ((middle : List ℕ) × settles before.text middle before.connection.waiting after.connection.waiting
+      × Closes after.connection.waiting middle after.text)
+      ⊎ ((fault : ConnectionFault) × (after.end ≡ Some (Err fault)) × (after.connection ≡ before.connection)
+      × HasWritten before.text after.text text)
 
   -- there was no memory for what is due: it wasn't asked, or what was asked left this
-  abbrev pub LeftUnasked : Standing G K → G → Type 0
+  abbrev pub LeftUnasked : ConnectionAt G K → G → Type 0
   LeftUnasked before after = (after ≡ before.gateway)
-      ⊎ ((op : Asked) × IsDueAhead told before.connection.waiting (length before.calls) op × rules.ways.kept before.gateway op after)
-      ⊎ ((at : ProcessId) × (keep : ℕ) × IsDue told before.connection.waiting (due.Fail at keep) × (before.calls ≡ []) × rules.ways.unmade before.gateway after)
+      ⊎ ((op : Asked) × IsDueAhead told before.connection.waiting (length before.calls) op
+      × rules.ways.kept before.gateway op after)
+      ⊎ ((at : ProcessId) × (keep : ℕ) × IsDue told before.connection.waiting (due.Fail at keep) × (before.calls ≡ [])
+      × rules.ways.unmade before.gateway after)
 
   -- what a step makes of where the connection stood
-  abbrev pub Does : Asking K → Standing G K → Standing G K → Type 0
-  Does (Begins op call) before after = IsGoing before × IsDueAhead told before.connection.waiting (length before.calls) op × IsBegunAs rules before.gateway op call after.gateway
-      × (after ≡ standing after.gateway before.connection (before.calls ++ call ∷ []) 0 None before.text)
-  Does (Takes call end) before after = IsGoing before × (before.calls ≡ call ∷ after.calls) × HasEndOf rules before.gateway call end after.gateway
-      × (after.unwanted ≤ unneeded_of end before.connection.waiting) × Answers (HasSettled end) (first_text end before.connection.waiting) before after
-  Does (LetsGo call end) before after = ((0 < before.unwanted) ⊎ (before.end ≢ None)) × (before.calls ≡ call ∷ after.calls) × HasEndOf rules before.gateway call end after.gateway
-      × (after ≡ standing after.gateway before.connection after.calls (before.unwanted - 1) before.end before.text)
-  Does (Orders at keep end) before after = IsGoing before × IsDue told before.connection.waiting (due.Fail at keep) × (before.calls ≡ []) × rules.ways.failed before.gateway at keep end after.gateway
-      × (after ≡ standing after.gateway after.connection [] 0 after.end after.text) × Answers (HasTold (fail_text end)) (fail_text end) before after
-  Does Tells before after = IsGoing before × IsDue told before.connection.waiting due.Text
-      × (after ≡ standing before.gateway after.connection before.calls 0 after.end after.text) × Answers (HasTold (own_text before.connection.waiting)) (own_text before.connection.waiting) before after
-  Does Reads before after = IsGoing before × (before.connection.waiting ≡ [])
-      × (after ≡ standing before.gateway after.connection before.calls 0 after.end after.text) × Closes after.connection.waiting before.text after.text
-  Does Wants before after = IsGoing before × LeftUnasked before after.gateway
-      × (after ≡ standing after.gateway before.connection before.calls 0 (Some (Err Want)) before.text)
+  abbrev pub Does : Asking K → ConnectionAt G K → ConnectionAt G K → Type 0
+  Does (Begins op call) before after = IsGoing before
+      × IsDueAhead told before.connection.waiting (length before.calls) op
+      × IsBegunAs rules before.gateway op call after.gateway
+      × (after ≡ connection_at after.gateway before.connection (before.calls ++ call ∷ []) 0 None before.text)
+  Does (Takes call end) before after = IsGoing before
+      × (before.calls ≡ call ∷ after.calls)
+      × HasEndOf rules before.gateway call end after.gateway
+      × (after.unwanted ≤ unneeded_of end before.connection.waiting)
+      × AnswersFirst (HasSettled end) (first_text end before.connection.waiting) before after
+  Does (LetsGo call end) before after = ((0 < before.unwanted) ⊎ (before.end ≢ None))
+      × (before.calls ≡ call ∷ after.calls)
+      × HasEndOf rules before.gateway call end after.gateway
+      × (after ≡ connection_at after.gateway before.connection after.calls (before.unwanted - 1) before.end before.text)
+  Does (Orders at keep end) before after = IsGoing before
+      × IsDue told before.connection.waiting (due.Fail at keep)
+      × (before.calls ≡ [])
+      × rules.ways.failed before.gateway at keep end after.gateway
+      × (after ≡ connection_at after.gateway after.connection [] 0 after.end after.text)
+      × AnswersFirst (HasTold (fail_text end)) (fail_text end) before after
+  Does Tells before after = IsGoing before
+      × IsDue told before.connection.waiting due.Text
+      × (after ≡ connection_at before.gateway after.connection before.calls 0 after.end after.text)
+      × AnswersFirst (HasTold (own_text before.connection.waiting)) (own_text before.connection.waiting) before after
+  Does Reads before after = IsGoing before
+      × (before.connection.waiting ≡ [])
+      × (after ≡ connection_at before.gateway after.connection before.calls 0 after.end after.text)
+      × Closes after.connection.waiting before.text after.text
+  Does Wants before after = IsGoing before
+      × LeftUnasked before after.gateway
+      × (after ≡ connection_at after.gateway before.connection before.calls 0 (Some (Err Want)) before.text)
 
   -- such steps were made, one behind the other and nothing between them
-  abbrev pub Did : List (Asking K) → Standing G K → Standing G K → Type 0
+  abbrev pub Did : List (Asking K) → ConnectionAt G K → ConnectionAt G K → Type 0
   Did [] before after = after ≡ before
-  Did (step ∷ steps) before after = (then : Standing G K) × Does step before then × Did steps then after
+  Did (step ∷ steps) before after = (then : ConnectionAt G K) × Does step before then × Did steps then after
 
-  abbrev pub Asks : Standing G K → Standing G K → Type 0
+  abbrev pub Asks : ConnectionAt G K → ConnectionAt G K → Type 0
   Asks before after = (steps : List (Asking K)) × Did steps before after
 
   -- the same where the connection had come to where it stood
-  abbrev pub AsksFrom : Overlap → Input → Standing G K → Standing G K → Type 0
+  abbrev pub AsksFrom : Overlap → Input → ConnectionAt G K → ConnectionAt G K → Type 0
   AsksFrom overlap input_now before after = (input : Input) (first : G) (held : List ℕ)
-      → Comes rules overlap told input input_now first held before.gateway before.text before.connection before.calls before.unwanted before.end → Asks before after
+      → Comes rules overlap told input input_now first held before.gateway before.text before.connection before.calls
+      before.unwanted before.end → Asks before after

@@ -5,7 +5,7 @@ ghost use Rattle.front_end.specs.declared.overlap.Overlap.{Overlap};
 ghost use Rattle.front_end.specs.Gateway.{KeepsOpen, LendsNone};
 ghost use Rattle.ready_client.specs.declared.open_call.OpenCall.{OpenCall};
 ghost use Rattle.front_end.specs.declared.due.Due.TheVariants as due;
-ghost use Rattle.ready_client.specs.Asking.{standing, AsksFrom};
+ghost use Rattle.ready_client.specs.Asking.{connection_at, AsksFrom};
 ghost use Rattle.ready_client.specs.Calling.{KeepsApart, LendsApart};
 ghost use Rattle.ready_client.specs.Coming.{end_by, Comes};
 
@@ -38,8 +38,8 @@ pub(crate) fn answer<G: Gateway, T: Clock>(
         → Comes G.rules overlap (T.moment clock.now) input input_now first before
         gateway.new (sent ++ outbox.new) connection.new calls.new.list calls.new.unwanted (end_by result) }
     ensures asks { (input : Input) (sent : List ℕ) → AsksFrom G.rules (T.moment clock.now) overlap input
-        (standing gateway.old connection.old calls.old.list 0 None (sent ++ outbox.old))
-        (standing gateway.new connection.new calls.new.list calls.new.unwanted (end_by result) (sent ++ outbox.new)) }
+        (connection_at gateway.old connection.old calls.old.list 0 None (sent ++ outbox.old))
+        (connection_at gateway.new connection.new calls.new.list calls.new.unwanted (end_by result) (sent ++ outbox.new)) }
     ensures apart { KeepsApart G.rules calls.old.list calls.new.list gateway.old gateway.new }
     ensures lends { LendsApart G.rules calls.old.list calls.new.list gateway.old gateway.new }
     ensures onward { G.rules.later gateway.old gateway.new }
@@ -59,7 +59,7 @@ pub(crate) fn answer<G: Gateway, T: Clock>(
 }
 
 /// Whether the first request that waits needs the end of a call that is under way.
-fn awaits_end<K: Drop>(connection: &Connection, calls: &CallList<K>) -> bool
+pub(crate) fn awaits_end<K: Drop>(connection: &Connection, calls: &CallList<K>) -> bool
     requires some { connection.now.waiting ≢ [] }
     ensures due { result ≡ true → (calls.now ≢ []) × CallIsDue connection.now.waiting }
     ensures none { result ≡ false → CallIsDue connection.now.waiting → calls.now ≡ [] }
@@ -94,8 +94,8 @@ fn begin<G: Gateway, T: Clock>(
         → Comes G.rules overlap (T.moment clock.now) input input_now first before
         gateway.new (sent ++ outbox.new) connection.new calls.new.list calls.new.unwanted (end_by result) }
     ensures asks { (input : Input) (sent : List ℕ) → AsksFrom G.rules (T.moment clock.now) overlap input
-        (standing gateway.old connection.old calls.old.list 0 None (sent ++ outbox.old))
-        (standing gateway.new connection.new calls.new.list calls.new.unwanted (end_by result) (sent ++ outbox.new)) }
+        (connection_at gateway.old connection.old calls.old.list 0 None (sent ++ outbox.old))
+        (connection_at gateway.new connection.new calls.new.list calls.new.unwanted (end_by result) (sent ++ outbox.new)) }
     ensures apart { KeepsApart G.rules calls.old.list calls.new.list gateway.old gateway.new }
     ensures lends { LendsApart G.rules calls.old.list calls.new.list gateway.old gateway.new }
     ensures onward { G.rules.later gateway.old gateway.new }
@@ -129,8 +129,8 @@ fn order<G: Gateway>(
         gateway.new (sent ++ outbox.new) connection.new calls 0 (end_by result) }
     ensures asks { (overlap : Overlap) (told : Option ℕ) (input : Input) (sent : List ℕ) (calls : List (OpenCall G.Call))
         → IsDue told connection.old.waiting (due.Fail at keep)
-        → AsksFrom G.rules told overlap input (standing gateway.old connection.old calls 0 None (sent ++ outbox.old))
-        (standing gateway.new connection.new calls 0 (end_by result) (sent ++ outbox.new)) }
+        → AsksFrom G.rules told overlap input (connection_at gateway.old connection.old calls 0 None (sent ++ outbox.old))
+        (connection_at gateway.new connection.new calls 0 (end_by result) (sent ++ outbox.new)) }
     ensures open { KeepsOpen G.rules gateway.old gateway.new }
     ensures lends { LendsNone G.rules gateway.old gateway.new }
     ensures onward { G.rules.later gateway.old gateway.new }
@@ -158,8 +158,8 @@ fn tell<G: Gateway>(
         → Comes G.rules overlap told input input_now first before now (sent ++ outbox.new) connection.new calls 0 (end_by result) }
     ensures asks { (overlap : Overlap) (told : Option ℕ) (input : Input) (now : G) (sent : List ℕ) (calls : List (OpenCall G.Call))
         → IsDue told connection.old.waiting due.Text
-        → AsksFrom G.rules told overlap input (standing now connection.old calls 0 None (sent ++ outbox.old))
-        (standing now connection.new calls 0 (end_by result) (sent ++ outbox.new)) }
+        → AsksFrom G.rules told overlap input (connection_at now connection.old calls 0 None (sent ++ outbox.old))
+        (connection_at now connection.new calls 0 (end_by result) (sent ++ outbox.new)) }
     ensures count { connection.new.count ≡ connection.old.count }
 {
     match connection.settle_text(alloc, outbox) {

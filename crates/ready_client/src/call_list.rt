@@ -26,7 +26,7 @@ impl<K> Model for CallList<K> {
 }
 
 impl<K: Drop> CallList<K> {
-    ghost use Rattle.std.specs.Prelude.{◌≡◌, ◌≢◌, ◌++◌, ◌⊎◌, ◌↔◌, [], ◌∷◌, length, Ok, None, true, false, IfNone, IfOk, IfSome, IsTrue, OnErr};
+    ghost use Rattle.std.specs.Prelude.{◌≡◌, ◌≢◌, ◌++◌, ◌⊎◌, ◌↔◌, ◌≤◌, ◌+◌, [], ◌∷◌, length, Ok, None, true, false, IfNone, IfOk, IfSome, IsTrue, OnErr};
     ghost use Rattle.front_end.specs.Gateway.{KeepsOpen};
     ghost use Rattle.ready_client.specs.Calling.{StandOnce, IsBegunAs, HasEndOf, KeepsApart, KeepsCalls, LendsApart};
     ghost use Rattle.ready_client.specs.declared.open_call.OpenCall.{OpenCall};
@@ -77,6 +77,7 @@ impl<K: Drop> CallList<K> {
             × IsBegunAs G.rules gateway.old op call gateway.new × (self.new ≡ self.old ++ call ∷ []) }
         ensures full { result ≡ Ok false → (self.new ≡ self.old) × (gateway.new ≡ gateway.old) }
         ensures want { OnErr result (self.new ≡ self.old) }
+        ensures more { length self.new ≤ length self.old + 1 }
         ensures unasked { OnErr result ((gateway.new ≡ gateway.old) ⊎ G.rules.ways.kept gateway.old op gateway.new) }
         ensures open { KeepsOpen G.rules gateway.old gateway.new }
         ensures apart { KeepsApart G.rules self.old self.new gateway.old gateway.new }
@@ -98,6 +99,7 @@ impl<K: Drop> CallList<K> {
         ensures ended { IfSome result (λ end. (call : OpenCall K)
             × HasEndOf G.rules gateway.old call end gateway.new × (self.old ≡ call ∷ self.new)) }
         ensures still { result ≡ None → (self.new ≡ self.old) × (gateway.new ≡ gateway.old) }
+        ensures fewer { length self.new ≤ length self.old }
         ensures others { StandOnce self.old → KeepsCalls G.rules self.new gateway.old gateway.new }
         ensures apart { KeepsApart G.rules self.old self.new gateway.old gateway.new }
         ensures lends { LendsApart G.rules self.old self.new gateway.old gateway.new }

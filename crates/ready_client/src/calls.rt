@@ -1,4 +1,4 @@
-ghost use Rattle.std.specs.Prelude.{◌≡◌, ◌<◌, ◌≤◌, ◌-◌, ◌∷◌, [], drop, true, false};
+ghost use Rattle.std.specs.Prelude.{◌≡◌, ◌<◌, ◌≤◌, ◌-◌, ◌∷◌, [], drop, length, true, false};
 ghost use Rattle.ready_client.specs.Calling.{StandOnce, HasEndOf, HasOpen, KeepsApart, KeepsCalls, LendsApart};
 ghost use Rattle.memc_proto.specs.declared.end.CallEnd.{CallEnd};
 ghost use Rattle.ready_client.specs.declared.open_call.OpenCall.{OpenCall};
@@ -7,12 +7,13 @@ use crate::call_list::CallList;
 use front_end::Gateway;
 use std::alloc::Global;
 
-/// The calls of a connection that are under way, in the order of its requests. The ends of the first ones may be wanted no
-/// more.
+/// The calls of a connection that are under way, in the order of its requests, at most 16. The ends of the first ones may be
+/// wanted no more.
 #[derive(Drop)]
 pub(crate) struct Calls<K> {
     pub(crate) list: CallList<K>,
     unwanted: usize,
+    ghost few: { length list ≤ 16 },
 }
 
 impl<K: Drop> Calls<K> {

@@ -2,12 +2,12 @@ ghost use Rattle.std.specs.Prelude.{◌≡◌, ◌≢◌, ◌≤◌, ◌^◌, �
 ghost use Rattle.edge_io.specs.Faults.{Rose};
 ghost use Rattle.edge_io.specs.Moving.{Input};
 ghost use Rattle.memc_proto.specs.Reader.{HasRead};
-ghost use Rattle.ready_client.specs.Asking.{standing, AsksFrom};
+ghost use Rattle.ready_client.specs.Asking.{connection_at, AsksFrom};
 ghost use Rattle.ready_client.specs.Calling.{KeepsApart, LendsApart};
 ghost use Rattle.ready_client.specs.Coming.{end_by, Comes, HasTakenLess};
 
 use crate::calls::Calls;
-use crate::step::{Step, advance};
+use crate::step::{MOST_WAITING, Step, advance};
 use edge_io::{Clock, Failed};
 use front_end::{Connection, ConnectionFault, End, Gateway, Overlap};
 use outbox::{Outbox, Sending, TryStream};
@@ -15,9 +15,6 @@ use std::alloc::Global;
 
 /// How many steps a turn has: so many requests are answered or pieces read before others are served.
 const STEPS: u32 = 32;
-
-/// The most bytes that may wait to be sent while more is answered: where more wait a turn ends, and the next sends them.
-const MOST_WAITING: usize = 262_144;
 
 /// The most bytes that a turn sends, so that a large item holds up no other connection for long.
 const MOST_SENT: usize = 65_536;
@@ -91,9 +88,9 @@ impl<S: TryStream, K: Drop> Client<S, K> {
             → Comes G.rules overlap (T.moment clock.now) input (S.input self.new.stream) first before gateway.new
             (S.held self.new.stream ++ self.new.outbox) self.new.connection self.new.calls.list self.new.calls.unwanted self.new.end }
         ensures asks { AsksFrom G.rules (T.moment clock.now) overlap (S.input self.old.stream)
-            (standing gateway.old self.old.connection self.old.calls.list self.old.calls.unwanted self.old.end
+            (connection_at gateway.old self.old.connection self.old.calls.list self.old.calls.unwanted self.old.end
             (S.held self.old.stream ++ self.old.outbox))
-            (standing gateway.new self.new.connection self.new.calls.list self.new.calls.unwanted self.new.end
+            (connection_at gateway.new self.new.connection self.new.calls.list self.new.calls.unwanted self.new.end
             (S.held self.new.stream ++ self.new.outbox)) }
         ensures apart { KeepsApart G.rules self.old.calls.list self.new.calls.list gateway.old gateway.new }
         ensures lends { LendsApart G.rules self.old.calls.list self.new.calls.list gateway.old gateway.new }
@@ -130,9 +127,9 @@ impl<S: TryStream, K: Drop> Client<S, K> {
             → Comes G.rules overlap (T.moment clock.now) input (S.input self.new.stream) first before gateway.new
             (S.held self.new.stream ++ self.new.outbox) self.new.connection self.new.calls.list self.new.calls.unwanted self.new.end }
         ensures asks { AsksFrom G.rules (T.moment clock.now) overlap (S.input self.old.stream)
-            (standing gateway.old self.old.connection self.old.calls.list self.old.calls.unwanted self.old.end
+            (connection_at gateway.old self.old.connection self.old.calls.list self.old.calls.unwanted self.old.end
             (S.held self.old.stream ++ self.old.outbox))
-            (standing gateway.new self.new.connection self.new.calls.list self.new.calls.unwanted self.new.end
+            (connection_at gateway.new self.new.connection self.new.calls.list self.new.calls.unwanted self.new.end
             (S.held self.new.stream ++ self.new.outbox)) }
         ensures apart { KeepsApart G.rules self.old.calls.list self.new.calls.list gateway.old gateway.new }
         ensures lends { LendsApart G.rules self.old.calls.list self.new.calls.list gateway.old gateway.new }
@@ -147,18 +144,12 @@ impl<S: TryStream, K: Drop> Client<S, K> {
         ensures later { S.faults self.old.stream ≤ S.faults self.new.stream }
         ensures room { length room.new ≡ 65536 }
     {
-        if self.outbox.len() > MOST_WAITING {
-            return self.send(Turn::More);
-        }
         'steps: for _ in 0..STEPS {
             if self.end.is_some() && self.calls.list.is_empty() {
                 return self.send(Turn::Over);
             }
             if self.step(alloc, overlap, gateway, clock, room) {
                 return self.send(self.awaited());
-            }
-            if self.outbox.len() > MOST_WAITING {
-                return Turn::More;
             }
         }
         self.send(Turn::More)
@@ -188,13 +179,15 @@ impl<S: TryStream, K: Drop> Client<S, K> {
         }
     }
 
-    // What is to be waited for: the end of a call, a free caller for the call that is due, or the stream.
+    // What is to be waited for: that what waits is sent, the end of a call, a free caller for the call that is due, or the stream.
     fn awaited(&self) -> Turn
         ensures call { result ≡ Turn.AwaitsCall → self.now.calls.list ≢ [] }
         ensures caller { result ≡ Turn.AwaitsCaller → (self.now.calls.list ≡ []) × (self.now.connection.waiting ≢ []) }
         ensures over { result ≢ Turn.Over }
     {
-        if !self.calls.list.is_empty() {
+        if self.outbox.len() > MOST_WAITING {
+            Turn::More
+        } else if !self.calls.list.is_empty() {
             Turn::AwaitsCall
         } else if self.connection.has_waiting() {
             Turn::AwaitsCaller
@@ -220,9 +213,9 @@ impl<S: TryStream, K: Drop> Client<S, K> {
             → Comes G.rules overlap (T.moment clock.now) input (S.input self.new.stream) first before gateway.new
             (S.held self.new.stream ++ self.new.outbox) self.new.connection self.new.calls.list self.new.calls.unwanted self.new.end }
         ensures asks { AsksFrom G.rules (T.moment clock.now) overlap (S.input self.old.stream)
-            (standing gateway.old self.old.connection self.old.calls.list self.old.calls.unwanted self.old.end
+            (connection_at gateway.old self.old.connection self.old.calls.list self.old.calls.unwanted self.old.end
             (S.held self.old.stream ++ self.old.outbox))
-            (standing gateway.new self.new.connection self.new.calls.list self.new.calls.unwanted self.new.end
+            (connection_at gateway.new self.new.connection self.new.calls.list self.new.calls.unwanted self.new.end
             (S.held self.new.stream ++ self.new.outbox)) }
         ensures apart { KeepsApart G.rules self.old.calls.list self.new.calls.list gateway.old gateway.new }
         ensures lends { LendsApart G.rules self.old.calls.list self.new.calls.list gateway.old gateway.new }

@@ -2,12 +2,13 @@ ghost use Rattle.std.specs.Prelude.{◌≡◌, ◌≢◌, ◌++◌, ◌∷◌, �
 ghost use Rattle.edge_io.specs.Moving.{Input};
 ghost use Rattle.front_end.specs.Settling.{CallIsDue};
 ghost use Rattle.front_end.specs.declared.overlap.Overlap.{Overlap};
-ghost use Rattle.ready_client.specs.Asking.{standing, AsksFrom};
+ghost use Rattle.ready_client.specs.Asking.{connection_at, AsksFrom};
 ghost use Rattle.ready_client.specs.Calling.{StandOnce, HasEndOf, KeepsApart, KeepsCalls, LendsApart};
 ghost use Rattle.ready_client.specs.Coming.{end_by, Comes};
 ghost use Rattle.ready_client.specs.declared.open_call.OpenCall.{OpenCall};
 
 use crate::ahead::go_ahead;
+use crate::answer::awaits_end;
 use crate::calls::Calls;
 use crate::step::{Step, go_on};
 use edge_io::Clock;
@@ -35,8 +36,8 @@ pub(crate) fn finish<G: Gateway, T: Clock>(
         → Comes G.rules overlap (T.moment clock.now) input input_now first before
         gateway.new (sent ++ outbox.new) connection.new calls.new.list calls.new.unwanted (end_by result) }
     ensures asks { (input : Input) (sent : List ℕ) → AsksFrom G.rules (T.moment clock.now) overlap input
-        (standing gateway.old connection.old calls.old.list 0 None (sent ++ outbox.old))
-        (standing gateway.new connection.new calls.new.list calls.new.unwanted (end_by result) (sent ++ outbox.new)) }
+        (connection_at gateway.old connection.old calls.old.list 0 None (sent ++ outbox.old))
+        (connection_at gateway.new connection.new calls.new.list calls.new.unwanted (end_by result) (sent ++ outbox.new)) }
     ensures apart { KeepsApart G.rules calls.old.list calls.new.list gateway.old gateway.new }
     ensures lends { LendsApart G.rules calls.old.list calls.new.list gateway.old gateway.new }
     ensures onward { G.rules.later gateway.old gateway.new }
@@ -45,6 +46,37 @@ pub(crate) fn finish<G: Gateway, T: Clock>(
     match calls.list.take_end(gateway) {
         Some(end) => settle::<G>(alloc, connection, calls, outbox, end),
         None => go_ahead(overlap, gateway, clock, connection, &mut calls.list),
+    }
+}
+
+/// Takes the end of the first call, if it has come, and writes its text. Nothing is begun.
+pub(crate) fn take_begun<G: Gateway>(
+    alloc: Global,
+    gateway: &mut G,
+    connection: &mut Connection,
+    calls: &mut Calls<G::Call>,
+    outbox: &mut Outbox,
+) -> Result<Step, ConnectionFault>
+    requires wanted { calls.old.unwanted ≡ 0 }
+    ensures comes { (overlap : Overlap) (told : Option ℕ) (input input_now : Input) (first : G) (before sent : List ℕ)
+        → Comes G.rules overlap told input input_now first before
+        gateway.old (sent ++ outbox.old) connection.old calls.old.list 0 None
+        → Comes G.rules overlap told input input_now first before
+        gateway.new (sent ++ outbox.new) connection.new calls.new.list calls.new.unwanted (end_by result) }
+    ensures asks { (overlap : Overlap) (told : Option ℕ) (input : Input) (sent : List ℕ) → AsksFrom G.rules told overlap input
+        (connection_at gateway.old connection.old calls.old.list 0 None (sent ++ outbox.old))
+        (connection_at gateway.new connection.new calls.new.list calls.new.unwanted (end_by result) (sent ++ outbox.new)) }
+    ensures apart { KeepsApart G.rules calls.old.list calls.new.list gateway.old gateway.new }
+    ensures lends { LendsApart G.rules calls.old.list calls.new.list gateway.old gateway.new }
+    ensures onward { G.rules.later gateway.old gateway.new }
+    ensures count { connection.new.count ≡ connection.old.count }
+{
+    if !connection.has_waiting() || !awaits_end(connection, &calls.list) {
+        return Ok(Step::Waits);
+    }
+    match calls.list.take_end(gateway) {
+        Some(end) => settle::<G>(alloc, connection, calls, outbox, end),
+        None => Ok(Step::Waits),
     }
 }
 
@@ -64,8 +96,8 @@ fn settle<G: Gateway>(
         calls.new.unwanted (end_by result) }
     ensures asks { (overlap : Overlap) (told : Option ℕ) (input : Input) (earlier now : G) (sent : List ℕ) (call : OpenCall G.Call)
         → HasEndOf G.rules earlier call end now
-        → AsksFrom G.rules told overlap input (standing earlier connection.old (call ∷ calls.old.list) 0 None (sent ++ outbox.old))
-        (standing now connection.new calls.new.list calls.new.unwanted (end_by result) (sent ++ outbox.new)) }
+        → AsksFrom G.rules told overlap input (connection_at earlier connection.old (call ∷ calls.old.list) 0 None (sent ++ outbox.old))
+        (connection_at now connection.new calls.new.list calls.new.unwanted (end_by result) (sent ++ outbox.new)) }
     ensures list { calls.new.list ≡ calls.old.list }
     ensures count { connection.new.count ≡ connection.old.count }
 {

@@ -3,12 +3,13 @@ ghost use Rattle.edge_io.specs.Moving.{Input, Takes};
 ghost use Rattle.front_end.specs.Answers.{stand};
 ghost use Rattle.front_end.specs.Going.{GoesOn};
 ghost use Rattle.front_end.specs.declared.overlap.Overlap.{Overlap};
-ghost use Rattle.ready_client.specs.Asking.{standing, AsksFrom, Closes, HasReadSo};
+ghost use Rattle.ready_client.specs.Asking.{connection_at, AsksFrom, Closes, HasReadSo};
 ghost use Rattle.ready_client.specs.Calling.{KeepsApart, LendsApart};
 ghost use Rattle.ready_client.specs.Coming.{by_close, end_by, ways_of, Comes, HasComeTo, IsUnderWay};
 
 use crate::answer::answer;
 use crate::calls::Calls;
+use crate::ending::take_begun;
 use edge_io::{Clock, Failed};
 use front_end::{Connection, ConnectionFault, End, Gateway, Overlap};
 use outbox::{Outbox, Reading, TryStream};
@@ -18,20 +19,25 @@ use std::alloc::Global;
 /// connection shortly.
 const PIECE: usize = 4_608;
 
+/// The most bytes that may wait to be sent while calls are begun and pieces read: where more wait the ends of those that are
+/// under way are taken, and nothing else, so that no client holds callers by reading slowly, or by going away.
+pub(crate) const MOST_WAITING: usize = 262_144;
+
 /// What one step of a connection came to.
 #[derive(Clone, Copy, Debug, PartialEq, Eq)]
 pub enum Step {
     /// A request was answered, or a piece was read.
     Goes,
     /// The end of the first call hasn't come yet and no further one may be begun, or no caller is free for the call that is
-    /// due, or where no request waits there is nothing to read yet.
+    /// due, or where no request waits there is nothing to read yet, or much waits to be sent.
     Waits,
     /// The connection ends so.
     Ends(End),
 }
 
 /// One step of a connection: the end of its first call is taken, or a further one is begun, or the next request that waits is
-/// answered into its outbox as far as that goes without waiting, or else a piece is read.
+/// answered into its outbox as far as that goes without waiting, or else a piece is read. Where much waits to be sent the end of
+/// its first call is taken, and else nothing.
 pub(crate) fn advance<G: Gateway, S: TryStream, T: Clock>(
     alloc: Global,
     overlap: Overlap,
@@ -52,8 +58,8 @@ pub(crate) fn advance<G: Gateway, S: TryStream, T: Clock>(
         → Comes G.rules overlap (T.moment clock.now) input (S.input stream.new) first before gateway.new
         (S.held stream.new ++ outbox.new) connection.new calls.new.list calls.new.unwanted (end_by result) }
     ensures asks { AsksFrom G.rules (T.moment clock.now) overlap (S.input stream.old)
-        (standing gateway.old connection.old calls.old.list 0 None (S.held stream.old ++ outbox.old))
-        (standing gateway.new connection.new calls.new.list calls.new.unwanted (end_by result) (S.held stream.new ++ outbox.new)) }
+        (connection_at gateway.old connection.old calls.old.list 0 None (S.held stream.old ++ outbox.old))
+        (connection_at gateway.new connection.new calls.new.list calls.new.unwanted (end_by result) (S.held stream.new ++ outbox.new)) }
     ensures apart { KeepsApart G.rules calls.old.list calls.new.list gateway.old gateway.new }
     ensures lends { LendsApart G.rules calls.old.list calls.new.list gateway.old gateway.new }
     ensures onward { G.rules.later gateway.old gateway.new }
@@ -62,6 +68,9 @@ pub(crate) fn advance<G: Gateway, S: TryStream, T: Clock>(
     ensures later { S.faults stream.old ≤ S.faults stream.new }
     ensures room { length room.new ≡ 65536 }
 {
+    if outbox.len() > MOST_WAITING {
+        return take_begun(alloc, gateway, connection, calls, outbox);
+    }
     if connection.has_waiting() {
         answer(alloc, overlap, gateway, clock, connection, calls, outbox)
     } else {

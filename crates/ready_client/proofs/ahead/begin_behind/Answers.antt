@@ -5,7 +5,7 @@ use Rattle.ready_client.specs.Coming.{Comes}
 use Rattle.ready_client.proofs.Calling.{called-behind, wants-first}
 use Rattle.ready_client.proofs.Listing.{kept-all, still-open}
 use Rattle.ready_client.proofs.ahead.begin_behind.Goals as goal
-use Rattle.ready_client.specs.Asking.{standing}
+use Rattle.ready_client.specs.Asking.{connection_at}
 use Rattle.ready_client.proofs.Asking.{asks-none, begins-one, wants-begin}
 
 pub returns-in-Ok-true-clause-comes : goal.returns-in-Ok-true-clause-comes
@@ -26,7 +26,7 @@ returns-in-Ok-true-clause-asks g c = λ told progress held is. let begun = c.beg
     begins-one g.G.Gateway.rules told c.args.gateway.now c.begin.new.gateway progress c.args.calls.now c.begin.new.self held c.args.op begun.0 is begun.1 begun.2
 
 pub returns-in-Ok-false-clause-asks : goal.returns-in-Ok-false-clause-asks
-returns-in-Ok-false-clause-asks g c = λ told progress held is. let same = c.begin.ensures.full (cc) in rw same.0 (rw same.1 (asks-none g.G.Gateway.rules told (standing c.args.gateway.now progress c.args.calls.now 0 None held)))
+returns-in-Ok-false-clause-asks g c = λ told progress held is. let same = c.begin.ensures.full (cc) in rw same.0 (rw same.1 (asks-none g.G.Gateway.rules told (connection_at c.args.gateway.now progress c.args.calls.now 0 None held)))
 
 pub returns-in-Err-clause-asks : goal.returns-in-Err-clause-asks
 returns-in-Err-clause-asks g c = λ told progress held is. wants-begin g.G.Gateway.rules told c.args.gateway.now c.begin.new.gateway progress c.args.calls.now c.begin.new.self held c.args.op is c.in-Err.ensures.unasked c.in-Err.ensures.want

@@ -3,7 +3,7 @@ use Rattle.front_end.specs.declared.overlap.Overlap.TheVariants.{OtherKeys}
 use Rattle.ready_client.proofs.Calling.{some-of, wants-first}
 use Rattle.ready_client.proofs.ahead.begin_further.Goals as goal
 use Rattle.std.proofs.Common.{None}
-use Rattle.ready_client.specs.Asking.{standing}
+use Rattle.ready_client.specs.Asking.{connection_at}
 use Rattle.ready_client.proofs.Asking.{asks-none, wants-none}
 
 pub returns-in-Ok-Some-clause-comes : goal.returns-in-Ok-Some-clause-comes
@@ -19,7 +19,7 @@ returns-in-Ok-Some-clause-asks g c = λ held. c.begin_behind.ensures.asks _ c.ar
     (rw (← c.len-begun.ensures) (some-of (IsDueAhead (g.T.Clock.moment c.args.clock.now) c.args.connection.now.waiting c.len-begun.result) c.in-Ok-Some.field-0 c.in-Ok-Some.op c.in-Ok-Some.field-0-is c.in-Ok-Some.ensures.due))
 
 pub returns-in-Ok-None-clause-asks : goal.returns-in-Ok-None-clause-asks
-returns-in-Ok-None-clause-asks g c = λ held. asks-none g.G.Gateway.rules _ (standing c.args.gateway.now c.args.connection.now c.args.calls.now 0 None held)
+returns-in-Ok-None-clause-asks g c = λ held. asks-none g.G.Gateway.rules _ (connection_at c.args.gateway.now c.args.connection.now c.args.calls.now 0 None held)
 
 pub returns-in-Err-clause-asks : goal.returns-in-Err-clause-asks
 returns-in-Err-clause-asks g c = λ held. wants-none g.G.Gateway.rules _ c.args.gateway.now c.args.connection.now c.args.calls.now held

@@ -6,7 +6,7 @@ use Rattle.ready_client.proofs.Listing.{kept-all, still-open}
 use Rattle.ready_client.proofs.answer.begin.Goals as goal
 use Rattle.front_end.specs.Ahead.{IsDueAhead}
 use Rattle.front_end.specs.Gateway.{IsFree}
-use Rattle.ready_client.specs.Asking.{standing}
+use Rattle.ready_client.specs.Asking.{connection_at}
 use Rattle.ready_client.specs.declared.open_call.OpenCall.TheVariants.{Open}
 use Rattle.ready_client.proofs.Asking.{asks-none, asks-then, begins-one, due-first, wants-begin}
 
@@ -26,8 +26,8 @@ returns-in-Err-clause-comes g c = λ input input_now first before sent come. rw 
 
 pub returns-in-Ok-Some-clause-asks : goal.returns-in-Ok-Some-clause-asks
 returns-in-Ok-Some-clause-asks g c = λ input_now sent input first before come. asks-then g.G.Gateway.rules (g.T.Clock.moment c.args.clock.now)
-    (standing c.args.gateway.now c.args.connection.now c.args.calls.now.list 0 None (sent ++ c.args.outbox.now))
-    (standing c.begin.new.self c.args.connection.now c.put_only.new.self 0 None (sent ++ c.args.outbox.now)) _
+    (connection_at c.args.gateway.now c.args.connection.now c.args.calls.now.list 0 None (sent ++ c.args.outbox.now))
+    (connection_at c.begin.new.self c.args.connection.now c.put_only.new.self 0 None (sent ++ c.args.outbox.now)) _
     (begins-one g.G.Gateway.rules (g.T.Clock.moment c.args.clock.now) c.args.gateway.now c.begin.new.self c.args.connection.now c.args.calls.now.list c.put_only.new.self (sent ++ c.args.outbox.now) c.args.op (Open c.in-Ok-Some.call)
     (subst (λ (cs : List (OpenCall _)). IsDueAhead (g.T.Clock.moment c.args.clock.now) c.args.connection.now.waiting (length cs) c.args.op) (sym c.requires.none) (due-first (g.T.Clock.moment c.args.clock.now) c.args.connection.now.waiting c.args.op c.requires.due)) (
       some-of (λ call. IsFree g.G.Gateway.rules c.args.gateway.now call) _ _ c.in-Ok-Some.field-0-is c.in-Ok-Some.ensures.fresh,
@@ -41,7 +41,7 @@ returns-in-Ok-Some-clause-asks g c = λ input_now sent input first before come. 
 
 pub returns-in-Ok-None-clause-asks : goal.returns-in-Ok-None-clause-asks
 returns-in-Ok-None-clause-asks g c = λ input_now sent input first before come. rw (c.begin.ensures.full (cc)) (rw c.requires.wanted
-    (asks-none g.G.Gateway.rules (g.T.Clock.moment c.args.clock.now) (standing c.args.gateway.now c.args.connection.now c.args.calls.now.list 0 None (sent ++ c.args.outbox.now))))
+    (asks-none g.G.Gateway.rules (g.T.Clock.moment c.args.clock.now) (connection_at c.args.gateway.now c.args.connection.now c.args.calls.now.list 0 None (sent ++ c.args.outbox.now))))
 
 pub returns-in-Err-clause-asks : goal.returns-in-Err-clause-asks
 returns-in-Err-clause-asks g c = λ input_now sent input first before come. rw c.requires.wanted

@@ -19,3 +19,9 @@ returns-else-has_waiting-clause-asks g c = λ input first before come. let none 
     (reads-one g.G.Gateway.rules (g.T.Clock.moment c.args.clock.now) c.args.gateway.now c.args.connection.now c.read.new.connection c.args.calls.now.list _
     (g.S.TryStream.held c.args.stream.now ++ c.args.outbox.now) (g.S.TryStream.held c.read.new.stream ++ c.read.new.outbox) none
     (c.read.ensures.closes (read-idle g.G.Gateway.rules g.G.Gateway.order c.args.overlap (g.T.Clock.moment c.args.clock.now) input (g.S.TryStream.input c.args.stream.now) first c.args.gateway.now before (g.S.TryStream.held c.args.stream.now ++ c.args.outbox.now) c.args.connection.now c.args.calls.now.list none come)))
+
+pub returns-then-len-gt-MOST_WAITING-clause-comes : goal.returns-then-len-gt-MOST_WAITING-clause-comes
+returns-then-len-gt-MOST_WAITING-clause-comes g c = λ input first before come. c.take_begun.ensures.comes c.args.overlap (g.T.Clock.moment c.args.clock.now) input (g.S.TryStream.input c.args.stream.now) first before (g.S.TryStream.held c.args.stream.now) come
+
+pub returns-then-len-gt-MOST_WAITING-clause-asks : goal.returns-then-len-gt-MOST_WAITING-clause-asks
+returns-then-len-gt-MOST_WAITING-clause-asks g c = λ input first before come. c.take_begun.ensures.asks c.args.overlap (g.T.Clock.moment c.args.clock.now) (g.S.TryStream.input c.args.stream.now) (g.S.TryStream.held c.args.stream.now) input first before come
