@@ -20,6 +20,8 @@ pub(crate) enum Course {
     Haunt,
     /// Clients leave while their calls are open.
     Leave,
+    /// A client takes nothing of what it asked for, and then leaves.
+    Stall,
     /// A member's program stands still.
     Hang,
 }
@@ -50,6 +52,7 @@ impl<G: TestGateway> Group<'_, G> {
             Course::Succeed(seat) => self.succeed(seat),
             Course::Haunt => self.haunt(),
             Course::Leave => self.leave(),
+            Course::Stall => self.stall(),
             Course::Hang => self.hang(),
         }
     }

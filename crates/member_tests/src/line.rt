@@ -10,6 +10,8 @@ pub(crate) enum Presence {
     Stays,
     /// It says nothing more, and hears.
     Ends,
+    /// It takes nothing, and may say more.
+    Stalls,
     /// It neither says nor hears anything more.
     Breaks,
 }
@@ -76,7 +78,7 @@ impl Line {
         let most = rest.len().min(into.len());
         if most == 0 || self.presence == Presence::Breaks {
             return match self.presence {
-                Presence::Stays => Err(ErrorKind::WouldBlock.into()),
+                Presence::Stays | Presence::Stalls => Err(ErrorKind::WouldBlock.into()),
                 Presence::Ends => Ok(0),
                 Presence::Breaks => Err(ErrorKind::ConnectionReset.into()),
             };
@@ -89,8 +91,10 @@ impl Line {
     pub(crate) fn write(&mut self, piece: &[u8]) -> io::Result<usize>
         ensures bound { IfOk result (λ n. n ≤ length piece.now) }
     {
-        if self.presence == Presence::Breaks {
-            return Err(ErrorKind::BrokenPipe.into());
+        match self.presence {
+            Presence::Stays | Presence::Ends => {}
+            Presence::Stalls => return Err(ErrorKind::WouldBlock.into()),
+            Presence::Breaks => return Err(ErrorKind::BrokenPipe.into()),
         }
         match self.heard.extend_from_slice(piece) {
             Ok(()) => Ok(piece.len()),

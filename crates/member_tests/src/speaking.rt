@@ -4,6 +4,9 @@ use crate::crowd::Crowd;
 use crate::rows::{append_text, row_at};
 use std::alloc::{AllocError, Global};
 
+/// The keys of items that no other client changes.
+const ITEMS: &[u8] = b"ABCDEFGH";
+
 impl Crowd<'_> {
     /// A client says the next that it has to say, unless much is to be heard.
     pub(crate) fn speak(&mut self, client: usize) {
@@ -127,6 +130,23 @@ impl Crowd<'_> {
         self.say(client, b"set 1 0 0 1\r\n0\r\n", Wanted::Stored);
     }
 
+    /// A client sets each of the items.
+    pub(crate) fn set_items(&mut self, client: usize) {
+        for key in ITEMS {
+            match set_of(self.alloc, *key) {
+                Ok(text) => self.say(client, &text, Wanted::Stored),
+                Err(AllocError) => self.note(false),
+            }
+        }
+    }
+
+    /// A client gets all of the items, so often.
+    pub(crate) fn get_items(&mut self, client: usize, times: u32) {
+        'times: for _ in 0..times {
+            self.say(client, b"get A B C D E F G H\r\n", Wanted::Stored);
+        }
+    }
+
     /// A client gets both counters.
     pub(crate) fn say_counters(&mut self, client: usize) {
         let before = self.raises.highest;
@@ -144,6 +164,17 @@ impl Crowd<'_> {
 fn text_of(alloc: Global, says: &[u8], key: u8) -> Result<Vec<u8>, AllocError> {
     let mut text = Vec::new(alloc);
     append_text(&mut text, says, key)?;
+    Ok(text)
+}
+
+// A set of an item, of 4,000 bytes.
+fn set_of(alloc: Global, key: u8) -> Result<Vec<u8>, AllocError> {
+    let mut text = Vec::new(alloc);
+    append_text(&mut text, b"set @ 0 0 4000\r\n", key)?;
+    for _ in 0..4000u32 {
+        text.push(b'x')?;
+    }
+    text.extend_from_slice(b"\r\n")?;
     Ok(text)
 }
 

@@ -58,6 +58,13 @@ fn leave_their_callers_to_others(rt: HostRuntime) {
 }
 
 #[test]
+fn hold_no_caller_where_nothing_is_taken(rt: HostRuntime) {
+    for number in [2u64, 8] {
+        plays(&rt, rt.alloc(), (16, 4), number, Course::Stall);
+    }
+}
+
+#[test]
 fn get_while_changes_wait_for_one_that_hangs(rt: HostRuntime) {
     plays(&rt, rt.alloc(), (16, 4), 2, Course::Hang);
 }

@@ -12,6 +12,9 @@ const CHANGES: usize = 9;
 /// How many clients the first member has.
 const CLIENTS: usize = 60;
 
+/// How often a client gets all items, so that more than 256 KiB wait to be sent to it.
+const MANY: u32 = 10;
+
 impl<G: TestGateway> Group<'_, G> {
     /// Clients go away with calls open: all callers can be used by others.
     pub(crate) fn leave(&mut self) {
@@ -29,6 +32,25 @@ impl<G: TestGateway> Group<'_, G> {
         self.crowd.get_by(40, 50);
         self.turns_of_first();
         self.first_has_open(CALLERS, 3);
+        self.settle();
+        self.read_back(62);
+    }
+
+    /// A client takes nothing of what it asked for, which is more than may wait, and then goes away: it holds no caller.
+    pub(crate) fn stall(&mut self) {
+        self.begin_first();
+        self.crowd.set_items(0);
+        self.settle();
+        self.crowd.leave(1, Presence::Stalls);
+        self.crowd.get_items(1, MANY);
+        self.rounds(600);
+        self.first_has_open(0, 7);
+        self.crowd.leave(1, Presence::Breaks);
+        self.settle();
+        self.first_has_open(0, 8);
+        self.crowd.raise_by(20, 40);
+        self.turns_of_first();
+        self.first_has_open(CHANGES, 9);
         self.settle();
         self.read_back(62);
     }
